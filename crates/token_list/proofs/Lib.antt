@@ -1,0 +1,6 @@
+-- Laws on the definitions, which the proofs of the functions cite.
+pub mod Table
+pub mod Texts
+pub mod Lines
+pub mod Forms
+pub mod Walks

@@ -1,0 +1,152 @@
+-- Laws on tests of a part of a list, one byte at a time.
+use mathlib.Core.Path.{_≡_, refl, ap, _∙_, sym, subst}
+use mathlib.Core.Bool.{Bool, true, false, _&&_, _||_, not, cond, true≢false}
+use mathlib.Core.List.{List, [], _∷_}
+use Prim.Native.Nat.{ℕ, zero, suc, _+_, _-_, _≤_, _<_}
+use native.Mathlib.Numerals.{add-one}
+use native.Mathlib.Omega.{arith}
+use lib.Dec.{T, eqb, leb}
+use borrow.Author.Tests.{eq-eqb, ne-eqb, leb-true, leb-false}
+use lib.ListN.{length, getD, take, drop, length-take, drop-of-length-le}
+use lib.Seq.{slice, slice-cons, drop-cons}
+use Rattle.token_list.specs.Text.{all, member, same, rawName, plainName, neverRaw, single, literal, literalStart, printable}
+use Rattle.token_list.specs.Row.{first}
+use Rattle.token_list.specs.Contract.{only}
+
+-- a part that ends where it starts, or before, is empty
+pub slice-none : (s : List ℕ) (i e : ℕ) → e ≤ i → slice i e s ≡ []
+slice-none s i e h = drop-of-length-le (take e s) {i = i} (simp length-take (omega arith))
+
+-- a part is its first byte and the part after it
+pub slice-next : (s : List ℕ) (i e : ℕ) → i < e → e ≤ length s → slice i e s ≡ getD s i 0 ∷ slice (i + 1) e s
+slice-next s i e h k = rw add-one (slice-cons i e s 0 h k)
+
+pub drop-next : (s : List ℕ) (i : ℕ) → i < length s → drop i s ≡ getD s i 0 ∷ drop (i + 1) s
+drop-next s i h = rw add-one (drop-cons s i 0 h)
+
+pub and-last : (a b : Bool) → a ≡ true → (a && b) ≡ b
+and-last a b e = rw e
+
+pub and-fails : (a b : Bool) → a ≡ false → (a && b) ≡ false
+and-fails a b e = rw e
+
+pub and-both : (a b : Bool) → a ≡ true → b ≡ true → (a && b) ≡ true
+and-both a b e f = rw (e, f)
+
+-- a choice by a test whose value is known
+pub chosen : {A : Type 0} (b : Bool) (x y : A) → b ≡ true → cond b x y ≡ x
+chosen b x y e = rw e
+
+pub passed-over : {A : Type 0} (b : Bool) (x y : A) → b ≡ false → cond b x y ≡ y
+passed-over b x y e = rw e
+
+pub or-last : (a b : Bool) → a ≡ false → (a || b) ≡ b
+or-last a b e = rw e
+
+pub or-holds : (a b : Bool) → a ≡ true → (a || b) ≡ true
+or-holds a b e = rw e
+
+module _ (p : ℕ → Bool) (s : List ℕ) (e : ℕ) (fits : e ≤ length s) where
+  pub all-next : (i : ℕ) → i < e → p (getD s i 0) ≡ true → all p (slice i e s) ≡ all p (slice (i + 1) e s)
+  all-next i h q = ap (all p) (slice-next s i e h fits) ∙ and-last _ _ q
+
+  pub all-fails : (i : ℕ) → i < e → p (getD s i 0) ≡ false → all p (slice i e s) ≡ false
+  all-fails i h q = ap (all p) (slice-next s i e h fits) ∙ and-fails _ _ q
+
+pub all-none : (p : ℕ → Bool) (s : List ℕ) (i e : ℕ) → e ≤ i → all p (slice i e s) ≡ true
+all-none p s i e h = ap (all p) (slice-none s i e h)
+
+module _ (s n : List ℕ) (e : ℕ) (fits : e ≤ length s) where
+  same-step : (i j : ℕ) → i < e → j < length n
+    → same (slice i e s) (drop j n) ≡ (eqb (getD s i 0) (getD n j 0) && same (slice (i + 1) e s) (drop (j + 1) n))
+  same-step i j h k = rw (slice-next s i e h fits, drop-next n j k)
+
+  pub same-next : (i j : ℕ) → i < e → j < length n → getD s i 0 ≡ getD n j 0
+    → same (slice i e s) (drop j n) ≡ same (slice (i + 1) e s) (drop (j + 1) n)
+  same-next i j h k q = same-step i j h k ∙ and-last _ _ (eq-eqb _ _ q)
+
+  pub same-fails : (i j : ℕ) → i < e → j < length n → (getD s i 0 ≡ getD n j 0 → ⊥) → same (slice i e s) (drop j n) ≡ false
+  same-fails i j h k q = same-step i j h k ∙ and-fails _ _ (ne-eqb _ _ q)
+
+  -- nothing is left of the part, and something of the name
+  pub same-short : (i j : ℕ) → e ≤ i → j < length n → same (slice i e s) (drop j n) ≡ false
+  same-short i j h k = rw (slice-none s i e h, drop-next n j k)
+
+  -- nothing is left of the name
+  pub same-end : (i j : ℕ) → length n ≤ j → same (slice i e s) (drop j n) ≡ leb e i
+  same-end i j h = rw (drop-of-length-le n {i = j} h) (go (leb e i) refl)
+    where
+      go : (b : Bool) → leb e i ≡ b → same (slice i e s) [] ≡ b
+      go true q = rw (slice-none s i e (leb-true e i q))
+      go false q = rw (slice-next s i e (leb-false e i q) fits)
+
+-- the test for a raw name, where two bytes at least are there
+pub raw-parts : (s : List ℕ) (i e : ℕ) → i + 1 < e → e ≤ length s
+  → rawName (slice i e s)
+  ≡ ((eqb (getD s i 0) 114 && eqb (getD s (i + 1) 0) 35) && (plainName (slice (i + 1 + 1) e s) && not (neverRaw (slice (i + 1 + 1) e s))))
+raw-parts s i e h k = rw (slice-next s i e (omega arith) k, slice-next s (i + 1) e h k)
+
+pub raw-short : (s : List ℕ) (i e : ℕ) → e ≤ i + 1 → e ≤ length s → rawName (slice i e s) ≡ false
+raw-short s i e h k = go (leb e i) refl
+  where
+    go : (b : Bool) → leb e i ≡ b → rawName (slice i e s) ≡ false
+    go true q = rw (slice-none s i e (leb-true e i q))
+    go false q = rw (slice-next s i e (leb-false e i q) k, slice-none s (i + 1) e h)
+
+module _ (b : ℕ) (s : List ℕ) where
+  pub member-found : (i : ℕ) → i < length s → b ≡ getD s i 0 → member b (drop i s) ≡ true
+  member-found i h q = ap (member b) (drop-next s i h) ∙ or-holds _ _ (eq-eqb _ _ q)
+
+  pub member-next : (i : ℕ) → i < length s → (b ≡ getD s i 0 → ⊥) → member b (drop i s) ≡ member b (drop (i + 1) s)
+  member-next i h q = ap (member b) (drop-next s i h) ∙ or-last _ _ (ne-eqb _ _ q)
+
+  pub member-none : (i : ℕ) → length s ≤ i → member b (drop i s) ≡ false
+  member-none i h = ap (member b) (drop-of-length-le s {i = i} h)
+
+-- ## A text of one byte
+
+pub single-only : (p : ℕ → Bool) (t : List ℕ) → p 0 ≡ false → single p t ≡ p (only t)
+single-only p [] e = sym e
+single-only p (b ∷ []) e = refl
+single-only p (b ∷ c ∷ t) e = sym e
+
+pub first-only : (p : ℕ → Bool) (t : List ℕ) → p 0 ≡ false → p (only t) ≡ true → first t ≡ only t
+first-only p [] e q = refl
+first-only p (b ∷ []) e q = refl
+first-only p (b ∷ c ∷ t) e q = let z : _≡_ {A = Bool} false true = sym e ∙ q in absurd (subst (λ (x : Bool). T (not x)) z tt)
+
+module _ (s : List ℕ) (i e : ℕ) (fits : e ≤ length s) where
+  pub only-one : i < e → i + 1 ≡ e → getD s i 0 ≡ only (slice i e s)
+  only-one h q = rw (slice-next s i e h fits, slice-none s (i + 1) e (omega arith))
+
+  pub only-more : i < e → (i + 1 ≡ e → ⊥) → 0 ≡ only (slice i e s)
+  only-more h q = rw (slice-next s i e h fits, slice-next s (i + 1) e (omega arith) fits)
+
+  pub only-none : e ≤ i → 0 ≡ only (slice i e s)
+  only-none h = rw (slice-none s i e h)
+
+-- the test for a literal, where a byte is there
+pub literal-parts : (s : List ℕ) (i e : ℕ) → i < e → e ≤ length s → literal (slice i e s) ≡ (literalStart (getD s i 0) && all printable (slice i e s))
+literal-parts s i e h k =
+    let n = slice-next s i e h k in
+    ap literal n ∙ ap (λ (t : List ℕ). literalStart (getD s i 0) && all printable t) (sym n)
+
+-- a list shorter than the name is not the name
+same-short-of : (s n : List ℕ) → length s < length n → same s n ≡ false
+same-short-of s [] h = absurd (omega arith)
+same-short-of [] (b ∷ n) h = refl
+same-short-of (x ∷ s) (b ∷ n) h = go (eqb x b) (same-short-of s n (omega arith))
+  where
+    go : (t : Bool) → same s n ≡ false → (t && same s n) ≡ false
+    go true e = e
+    go false e = refl
+
+pub same-longer : (s n : List ℕ) (k : ℕ) → length s < length n → same (take k s) n ≡ false
+same-longer s n k h = same-short-of (take k s) n (omega (arith, length-take k s))
+
+pub same-fits : (s n : List ℕ) (k : ℕ) → same (take k s) n ≡ true → length n ≤ length s
+same-fits s n k e = go (leb (length n) (length s)) refl
+  where
+    go : (b : Bool) → leb (length n) (length s) ≡ b → length n ≤ length s
+    go true q = leb-true _ _ q
+    go false q = absurd (true≢false (sym e ∙ same-longer s n k (leb-false _ _ q)))

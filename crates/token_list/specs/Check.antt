@@ -1,0 +1,55 @@
+-- The answer of the list check (document 01, "What the reader hands back": refusals 1 to 7 in the order "1, 2; row by row 4, 3, then 5 or 6; 7").
+use mathlib.Core.Bool.{Bool, true, false, cond}
+use mathlib.Core.List.{List, [], _∷_}
+use Prim.Native.Nat.{ℕ, _+_}
+use lib.Dec.{leb, ltb, eqb}
+use lib.ListN.{length, take, drop}
+use Rattle.token_list.specs.Text.{same, closer}
+use Rattle.token_list.specs.Row.{Lines, tail, line, lines, Form, plain, opens, closed, wrong, form}
+
+pub data Answer : Type 0 where
+  -- the number of rows
+  passed : ℕ → Answer
+  -- the refusal's number and place
+  refused : ℕ → ℕ → Answer
+
+-- the end mark
+abbrev pub END : ℕ
+END = 65535
+
+-- a group that is open: its delimiter and its opening row
+pub record Open : Type 0 where
+  pub delimiter : ℕ
+  pub row : ℕ
+
+-- the list ends after r rows
+abbrev pub ended : ℕ → List Open → Answer
+ended r [] = passed r
+ended r (g ∷ gs) = refused 7 (g .row)
+
+-- a closing row r with delimiter d
+abbrev pub close : ℕ → ℕ → List Open → (List Open → Answer) → Answer
+close r d [] go = refused 5 r
+close r d (g ∷ gs) go = cond (eqb (closer (g .delimiter)) d) (go gs) (refused 5 r)
+
+-- row r of the given form under the open groups gs (innermost first); go answers for the rows after it
+abbrev pub step : ℕ → List Open → Form → (List Open → Answer) → Answer
+step r gs wrong go = refused 3 r
+step r gs plain go = go gs
+step r gs (opens d) go = cond (leb 32 (length gs)) (refused 6 r) (go (record { delimiter = d; row = r } ∷ gs))
+step r gs (closed d) go = close r d gs go
+
+-- the lines from row r on
+abbrev pub walk : ℕ → List Open → Lines → Answer
+walk r gs (tail []) = ended r gs
+walk r gs (tail (b ∷ bs)) = cond (leb 4096 r) (refused 4 4096) (refused 3 r)
+walk r gs (line l ls) = cond (leb 4096 r) (refused 4 4096) (step r gs (form l) (λ hs. walk (r + 1) hs ls))
+
+-- `kind text` and LF
+abbrev pub NAMES : List ℕ
+NAMES = 107 ∷ 105 ∷ 110 ∷ 100 ∷ 32 ∷ 116 ∷ 101 ∷ 120 ∷ 116 ∷ 10 ∷ []
+
+unfoldable pub check : List ℕ → Answer
+check s =
+    cond (ltb 65536 (length s)) (refused 1 END)
+    (cond (same (take 10 s) NAMES) (walk 0 [] (lines (drop 10 s))) (refused 2 END))

@@ -1,0 +1,6 @@
+-- What the token_list crate's contracts say. Text, Row, Check and Stream state the meaning, from document 01; Contract ties the code's answers to it.
+pub mod Text
+pub mod Row
+pub mod Check
+pub mod Stream
+pub mod Contract

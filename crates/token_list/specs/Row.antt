@@ -1,0 +1,64 @@
+-- The lines of a text and the rows that they are (document 01, "The token list").
+use mathlib.Core.Bool.{Bool, true, false, cond, _&&_}
+use mathlib.Core.List.{List, [], _∷_}
+use Prim.Native.Nat.{ℕ}
+use lib.Dec.{leb, eqb}
+use lib.ListN.{length}
+use Rattle.token_list.specs.Text.{LF, name, literal, single, punctuation, opening, closing}
+
+-- Lines, each without the LF that ends it, and then what stands after the last LF, which is no line.
+pub data Lines : Type 0 where
+  tail : List ℕ → Lines
+  line : List ℕ → Lines → Lines
+
+abbrev pub front : ℕ → Lines → Lines
+front b (tail t) = tail (b ∷ t)
+front b (line l ls) = line (b ∷ l) ls
+
+abbrev pub byte : Bool → ℕ → Lines → Lines
+byte true b ls = line [] ls
+byte false b ls = front b ls
+
+abbrev pub lines : List ℕ → Lines
+lines [] = tail []
+lines (b ∷ bs) = byte (eqb b LF) b (lines bs)
+
+-- What a line is as a row: a token of kind i, p or l, a group's opening or closing row with its delimiter, or no row.
+pub data Form : Type 0 where
+  plain : Form
+  opens : ℕ → Form
+  closed : ℕ → Form
+  wrong : Form
+
+abbrev pub first : List ℕ → ℕ
+first [] = 0
+first (b ∷ bs) = b
+
+-- kinds i, l, p, o and c
+unfoldable pub formOf : ℕ → List ℕ → Form
+formOf k t =
+    cond (eqb k 105) (cond (name t) plain wrong)
+    (cond (eqb k 108) (cond (literal t) plain wrong)
+    (cond (eqb k 112) (cond (single punctuation t) plain wrong)
+    (cond (eqb k 111) (cond (single opening t) (opens (first t)) wrong)
+    (cond (eqb k 99) (cond (single closing t) (closed (first t)) wrong) wrong))))
+
+-- kind, one space, text of at most 255 bytes
+abbrev pub form : List ℕ → Form
+form [] = wrong
+form (k ∷ []) = wrong
+form (k ∷ s ∷ t) = cond (eqb s 32 && leb (length t) 255) (formOf k t) wrong
+
+pub record Row : Type 0 where
+  pub kind : ℕ
+  pub text : List ℕ
+
+-- the rows that lines hold; of lines that are no rows nothing is said, but that reading ends at one too short for kind and space
+abbrev pub rowOf : List ℕ → List Row → List Row
+rowOf [] rs = []
+rowOf (k ∷ []) rs = []
+rowOf (k ∷ s ∷ t) rs = record { kind = k; text = t } ∷ rs
+
+abbrev pub rows : Lines → List Row
+rows (tail t) = []
+rows (line l ls) = rowOf l (rows ls)

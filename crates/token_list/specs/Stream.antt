@@ -1,0 +1,41 @@
+-- The streams of rows (document 01, "The token list": a group inside a group is followed down one level at a time).
+-- Every list of rows has its streams: one that is never closed ends with the list, and a closing row too many ends its stream.
+use mathlib.Core.Bool.{Bool, true, false, cond}
+use mathlib.Core.List.{List, [], _∷_}
+use Prim.Native.Nat.{ℕ}
+use lib.Dec.{eqb}
+use lib.ListN.{drop}
+use Rattle.token_list.specs.Row.{Row, rows, lines, first}
+
+-- What is left of a stream: nothing; a token and the rest; a group with its delimiter, its inside and the rest after its close.
+pub data Trees : Type 0 where
+  end : Trees
+  leaf : Row → Trees → Trees
+  group : ℕ → Trees → Trees → Trees
+
+-- The stream that a row stands in, from that row on, and the streams around it, each from past the group's close, innermost first.
+pub record Streams : Type 0 where
+  pub here : Trees
+  pub outer : List Trees
+
+abbrev pub head : List Trees → Trees
+head [] = end
+head (t ∷ ts) = t
+
+abbrev pub others : List Trees → List Trees
+others [] = []
+others (t ∷ ts) = ts
+
+unfoldable pub before : Row → Streams → Streams
+before r s =
+    cond (eqb (r .kind) 111) (record { here = group (first (r .text)) (s .here) (head (s .outer)); outer = others (s .outer) })
+    (cond (eqb (r .kind) 99) (record { here = end; outer = s .here ∷ s .outer })
+    (record { here = leaf r (s .here); outer = s .outer }))
+
+abbrev pub streams : List Row → Streams
+streams [] = record { here = end; outer = [] }
+streams (r ∷ rs) = before r (streams rs)
+
+-- the streams at an offset of a list
+unfoldable pub at : List ℕ → ℕ → Streams
+at s i = streams (rows (lines (drop i s)))

@@ -1,0 +1,118 @@
+// The list check: refusals 1 to 7, in document 01's order.
+use crate::row::Shape;
+use crate::row::closer;
+use crate::row::line_shape;
+use crate::text::text_is;
+ghost use mathlib.Core.Path.{_≡_};
+ghost use lib.ListN.{take};
+ghost use Rattle.token_list.specs.Check.{check, NAMES};
+ghost use Rattle.token_list.specs.Text.{same};
+ghost use Rattle.token_list.specs.Contract.{InList, Walked, checked};
+
+// The end mark: the place of a refusal that has no row.
+pub const END: usize = 65535;
+
+// Where a row of a list starts, and its number.
+pub struct Cursor {
+    pub at: usize,
+    pub row: usize,
+}
+
+// A refusal's number and place.
+pub struct Refusal {
+    pub number: u8,
+    pub place: usize,
+}
+
+// The answer: the number of rows, or a refusal.
+pub enum Checked {
+    Passed(usize),
+    Refused(Refusal),
+}
+
+// What the rows at one level end with: the list's end after so many rows, a closing row with its
+// delimiter and what comes after it, or a refusal.
+pub enum LevelEnd {
+    End(usize),
+    Close(u8, usize, usize),
+    Refused(Refusal),
+}
+
+// Follows the rows from `from` to the end of their level; `levels` more may open.
+fn walk(s: &[u8], from: Cursor, levels: usize) -> LevelEnd
+    requires { ⌜ InList (now s) from ⌝ }
+    ensures { λ r. ⌜ Walked (now (s .entry)) from levels r ⌝ }
+{
+    let mut at = from.at;
+    let mut row = from.row;
+    while at < s.len() {
+        if 4096 <= row {
+            return LevelEnd::Refused(Refusal { number: 4, place: 4096 });
+        }
+        let line = line_shape(s, at);
+        let next = line.next;
+        let below = row + 1;
+        let shape = line.shape;
+        match shape {
+            Shape::Wrong => {
+                return LevelEnd::Refused(Refusal { number: 3, place: row });
+            }
+            Shape::Plain => {
+                at = next;
+                row = below;
+            }
+            Shape::Closed(d) => {
+                return LevelEnd::Close(d, row, next);
+            }
+            Shape::Opens(d) => {
+                if levels == 0 {
+                    return LevelEnd::Refused(Refusal { number: 6, place: row });
+                }
+                let inside = walk(s, Cursor { at: next, row: below }, levels - 1);
+                match inside {
+                    LevelEnd::End(_) => {
+                        return LevelEnd::Refused(Refusal { number: 7, place: row });
+                    }
+                    LevelEnd::Refused(r) => {
+                        return LevelEnd::Refused(r);
+                    }
+                    LevelEnd::Close(e, close, past) => {
+                        if closer(d) != e {
+                            return LevelEnd::Refused(Refusal { number: 5, place: close });
+                        }
+                        at = past;
+                        row = close + 1;
+                    }
+                }
+            }
+        }
+    }
+    LevelEnd::End(row)
+}
+
+// Whether the list begins with `kind text` and LF.
+fn has_names(s: &[u8]) -> bool
+    ensures { λ r. ⌜ r ≡ same (take 10 (now (s .entry))) NAMES ⌝ }
+{
+    if s.len() < 10 {
+        return false;
+    }
+    text_is(s, 0, 10, b"kind text\n")
+}
+
+// Checks a list: the number of its rows, or the first refusal.
+pub fn check(s: &[u8]) -> Checked
+    ensures { λ r. ⌜ checked r ≡ check (now (s .entry)) ⌝ }
+{
+    if 65536 < s.len() {
+        return Checked::Refused(Refusal { number: 1, place: END });
+    }
+    if !has_names(s) {
+        return Checked::Refused(Refusal { number: 2, place: END });
+    }
+    match walk(s, Cursor { at: 10, row: 0 }, 32) {
+        LevelEnd::End(rows) => Checked::Passed(rows),
+        LevelEnd::Close(_, row, _) => Checked::Refused(Refusal { number: 5, place: row }),
+        LevelEnd::Refused(r) => Checked::Refused(r),
+    }
+}

@@ -1,0 +1,4 @@
+// Token lists: rows, the list check, and the cursor that later parts read with.
+pub mod check;
+pub mod row;
+pub mod text;
