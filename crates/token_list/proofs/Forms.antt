@@ -23,7 +23,7 @@ literal-form k t e = rw e
 
 -- a test on a text of one byte, where the choice shows the byte itself
 mark-choice : (p : ℕ → Bool) (f : ℕ → Form) (t : List ℕ) → p 0 ≡ false
-  → cond (single p t) (f (first t)) wrong ≡ cond (p (only t)) (f (only t)) wrong
+    → cond (single p t) (f (first t)) wrong ≡ cond (p (only t)) (f (only t)) wrong
 mark-choice p f t e = rw (single-only p t e) (go (p (only t)) refl)
   where
     go : (b : Bool) → p (only t) ≡ b → cond b (f (first t)) wrong ≡ cond b (f (only t)) wrong
@@ -51,8 +51,8 @@ module _ (s : List ℕ) (i e : ℕ) (fits : e ≤ length s) where
       go false false p q = absurd (omega (arith, leb-false e (i + 1) q))
 
   pub form-parts : i + 1 < e
-    → form (slice i e s)
-    ≡ cond (eqb (getD s (i + 1) 0) 32 && leb (length (slice (i + 2) e s)) 255) (formOf (getD s i 0) (slice (i + 2) e s)) wrong
+      → form (slice i e s)
+      ≡ cond (eqb (getD s (i + 1) 0) 32 && leb (length (slice (i + 2) e s)) 255) (formOf (getD s i 0) (slice (i + 2) e s)) wrong
   form-parts h =
       let two : i + 1 + 1 ≡ i + 2 = omega arith in
       rw (slice-next s i e (omega arith) fits, slice-next s (i + 1) e h fits, two)

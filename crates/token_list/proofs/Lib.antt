@@ -4,3 +4,4 @@ pub mod Texts
 pub mod Lines
 pub mod Forms
 pub mod Walks
+pub mod Streams

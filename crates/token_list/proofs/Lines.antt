@@ -49,13 +49,13 @@ module _ (s : List ℕ) (from : ℕ) where
 
   pub scan-more : (i : ℕ) → i < length s → (getD s i 0 ≡ LF → ⊥) → Scanned i → Scanned (i + 1)
   scan-more i h q sc =
-      record
-        { start = omega arith
-        ; same = sc .same ∙ rw (lines-byte s i h q, prepend-front, slice-more s from i (sc .start) h)
-        }
+      record {
+        start = omega arith;
+        same = sc .same ∙ rw (lines-byte s i h q, prepend-front, slice-more s from i (sc .start) h);
+      }
 
   pub scan-found : (i : ℕ) → i < length s → getD s i 0 ≡ LF → Scanned i
-    → lines (drop from s) ≡ line (slice from i s) (lines (drop (i + 1) s))
+      → lines (drop from s) ≡ line (slice from i s) (lines (drop (i + 1) s))
   scan-found i h q sc = sc .same ∙ rw (lines-end s i h q, append-nil)
 
   pub scan-none : (i : ℕ) → length s ≤ i → Scanned i → lines (drop from s) ≡ tail (drop from s)

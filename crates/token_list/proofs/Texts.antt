@@ -58,11 +58,11 @@ all-none p s i e h = ap (all p) (slice-none s i e h)
 
 module _ (s n : List ℕ) (e : ℕ) (fits : e ≤ length s) where
   same-step : (i j : ℕ) → i < e → j < length n
-    → same (slice i e s) (drop j n) ≡ (eqb (getD s i 0) (getD n j 0) && same (slice (i + 1) e s) (drop (j + 1) n))
+      → same (slice i e s) (drop j n) ≡ (eqb (getD s i 0) (getD n j 0) && same (slice (i + 1) e s) (drop (j + 1) n))
   same-step i j h k = rw (slice-next s i e h fits, drop-next n j k)
 
   pub same-next : (i j : ℕ) → i < e → j < length n → getD s i 0 ≡ getD n j 0
-    → same (slice i e s) (drop j n) ≡ same (slice (i + 1) e s) (drop (j + 1) n)
+      → same (slice i e s) (drop j n) ≡ same (slice (i + 1) e s) (drop (j + 1) n)
   same-next i j h k q = same-step i j h k ∙ and-last _ _ (eq-eqb _ _ q)
 
   pub same-fails : (i j : ℕ) → i < e → j < length n → (getD s i 0 ≡ getD n j 0 → ⊥) → same (slice i e s) (drop j n) ≡ false
@@ -82,8 +82,8 @@ module _ (s n : List ℕ) (e : ℕ) (fits : e ≤ length s) where
 
 -- the test for a raw name, where two bytes at least are there
 pub raw-parts : (s : List ℕ) (i e : ℕ) → i + 1 < e → e ≤ length s
-  → rawName (slice i e s)
-  ≡ ((eqb (getD s i 0) 114 && eqb (getD s (i + 1) 0) 35) && (plainName (slice (i + 1 + 1) e s) && not (neverRaw (slice (i + 1 + 1) e s))))
+    → rawName (slice i e s)
+    ≡ ((eqb (getD s i 0) 114 && eqb (getD s (i + 1) 0) 35) && (plainName (slice (i + 1 + 1) e s) && not (neverRaw (slice (i + 1 + 1) e s))))
 raw-parts s i e h k = rw (slice-next s i e (omega arith) k, slice-next s (i + 1) e h k)
 
 pub raw-short : (s : List ℕ) (i e : ℕ) → e ≤ i + 1 → e ≤ length s → rawName (slice i e s) ≡ false

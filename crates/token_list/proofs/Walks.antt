@@ -42,7 +42,7 @@ no-row r gs (tail (b ∷ bs)) n h e = passed-over _ _ _ (lt-leb _ _ h)
 no-row r gs (line l ls) n h e = passed-over _ _ _ (lt-leb _ _ h) ∙ ap (λ (f : Form). step r gs f (λ hs. walk (r + 1) hs ls)) e
 
 row : (r : ℕ) (gs : List Open) (f : Form) {l : List ℕ} {ls ms : Lines} → ms ≡ line l ls → formed ms ≡ f → r < 4096
-  → walk r gs ms ≡ step r gs f (λ hs. walk (r + 1) hs ls)
+    → walk r gs ms ≡ step r gs f (λ hs. walk (r + 1) hs ls)
 row r gs f {l} {ls} e q h =
     ap (walk r gs) e ∙ passed-over _ _ _ (lt-leb _ _ h) ∙ ap (λ (g : Form). step r gs g (λ hs. walk (r + 1) hs ls)) (sym (ap formed e) ∙ q)
 
@@ -77,7 +77,7 @@ module _ (s : List ℕ) (levels : ℕ) (c : Cursor) (at r : ℕ) (re : Reached s
 
     -- the row's own step
     stepped : (x : Shape) → line .shape ≡ x → (shape x ≡ wrong → ⊥) → (gs : List Open) → length gs + levels ≡ 32
-      → walk (c .row) gs (lines (drop (c .at) s)) ≡ step r gs (shape x) (λ hs. walk (r + 1) hs (lines (drop (line .next) s)))
+        → walk (c .row) gs (lines (drop (c .at) s)) ≡ step r gs (shape x) (λ hs. walk (r + 1) hs (lines (drop (line .next) s)))
     stepped x e n gs q = re .same gs q ∙ row r gs (shape x) (sh .rest (is-row x e n) .1) (form-is x e) k
 
     pub plain-past : line .shape ≡ Plain → (at < line .next) × (line .next ≤ length s)
@@ -87,12 +87,12 @@ module _ (s : List ℕ) (levels : ℕ) (c : Cursor) (at r : ℕ) (re : Reached s
     at-plain e =
         let n : plain ≡ wrong → ⊥ = λ q. let z : _≡_ {A = ℕ} 0 1 = cc in omega arith in
         let p = sh .past (is-row Plain e n) in
-        record
-          { counted = omega (arith, re .counted, p .0)
-          ; within = p .1
-          ; from = omega (arith, re .from, p .0)
-          ; same = stepped Plain e n
-          }
+        record {
+          counted = omega (arith, re .counted, p .0);
+          within = p .1;
+          from = omega (arith, re .from, p .0);
+          same = stepped Plain e n;
+        }
 
     pub at-close : (d : ℕ) → line .shape ≡ Closed d → Walked s c levels (Close d r (line .next))
     at-close d e =
@@ -102,8 +102,8 @@ module _ (s : List ℕ) (levels : ℕ) (c : Cursor) (at r : ℕ) (re : Reached s
 
     module _ (d : ℕ) (e : line .shape ≡ Opens d) where
       opened : (gs : List Open) → length gs + levels ≡ 32
-        → walk (c .row) gs (lines (drop (c .at) s))
-        ≡ cond (leb 32 (length gs)) (refused 6 r) (walk (r + 1) (record { delimiter = d; row = r } ∷ gs) (lines (drop (line .next) s)))
+          → walk (c .row) gs (lines (drop (c .at) s))
+          ≡ cond (leb 32 (length gs)) (refused 6 r) (walk (r + 1) (record { delimiter = d; row = r } ∷ gs) (lines (drop (line .next) s)))
       opened = stepped (Opens d) e (λ q. let z : _≡_ {A = ℕ} 0 1 = cc in omega arith)
 
       pub opened-past : (at < line .next) × (line .next ≤ length s)
@@ -114,7 +114,7 @@ module _ (s : List ℕ) (levels : ℕ) (c : Cursor) (at r : ℕ) (re : Reached s
 
       module _ (z : levels ≡ 0 → ⊥) (inner : LevelEnd) (w : Walked s (record { at = line .next; row = r + 1 }) (levels - 1) inner) where
         entered : (gs : List Open) → length gs + levels ≡ 32
-          → walk (c .row) gs (lines (drop (c .at) s)) ≡ resumed s (record { delimiter = d; row = r } ∷ gs) inner
+            → walk (c .row) gs (lines (drop (c .at) s)) ≡ resumed s (record { delimiter = d; row = r } ∷ gs) inner
         entered gs q =
             opened gs q
             ∙ passed-over _ _ _ (lt-leb 32 (length gs) (omega arith))
@@ -132,19 +132,19 @@ module _ (s : List ℕ) (levels : ℕ) (c : Cursor) (at r : ℕ) (re : Reached s
 
           pub mismatched : (closer d ≡ b → ⊥) → Walked s c levels (stopped 5 close)
           mismatched n =
-              record
-                { right = λ gs q. entered gs q ∙ ap (resumed s (record { delimiter = d; row = r } ∷ gs)) i ∙ passed-over _ _ _ (ne-eqb _ _ n)
-                ; past = tt
-                }
+              record {
+                right = λ gs q. entered gs q ∙ ap (resumed s (record { delimiter = d; row = r } ∷ gs)) i ∙ passed-over _ _ _ (ne-eqb _ _ n);
+                past = tt;
+              }
 
           pub matched : closer d ≡ b → Reached s levels (c .at) (c .row) next (close + 1)
           matched m =
-              record
-                { counted = omega (arith, closed-past)
-                ; within = closed-past .2
-                ; from = omega (arith, closed-past, opened-past, re .from)
-                ; same = λ gs q. entered gs q ∙ ap (resumed s (record { delimiter = d; row = r } ∷ gs)) i ∙ chosen _ _ _ (eq-eqb _ _ m)
-                }
+              record {
+                counted = omega (arith, closed-past);
+                within = closed-past .2;
+                from = omega (arith, closed-past, opened-past, re .from);
+                same = λ gs q. entered gs q ∙ ap (resumed s (record { delimiter = d; row = r } ∷ gs)) i ∙ chosen _ _ _ (eq-eqb _ _ m);
+              }
 
 -- ## The whole check
 

@@ -2,17 +2,21 @@
 use mathlib.Core.Path.{_≡_}
 use mathlib.Core.Bool.{Bool, true, false, cond}
 use mathlib.Core.List.{List, [], _∷_}
-use Prim.Native.Nat.{ℕ, _+_, _≤_, _<_}
+use Prim.Native.Nat.{ℕ, _+_, _-_, _≤_, _<_}
 use lib.Dec.{leb, eqb}
 use lib.ListN.{length, drop}
 use lib.Seq.{slice}
-use Rattle.token_list.specs.Row.{Lines, tail, line, lines, Form, plain, opens, closed, wrong, form}
+use Rattle.token_list.specs.Row.{Lines, tail, line, lines, Form, plain, opens, closed, wrong, form, first, Row}
 use Rattle.token_list.specs.Check.{Answer, passed, refused, Open, ended, close, walk}
 use Rattle.token_list.specs.declared.check.Cursor.{Cursor}
 use Rattle.token_list.specs.declared.check.Checked.{Checked}
 use Rattle.token_list.specs.declared.check.Checked.the-variants.{Passed, Refused}
 use Rattle.token_list.specs.declared.check.LevelEnd.{LevelEnd}
 use Rattle.token_list.specs.declared.check.LevelEnd.the-variants.{End, Close, Refused as Stopped}
+use Rattle.token_list.specs.Stream.{Trees, end, leaf, group, size, follows, allClosed, rowsAt, at}
+use Rattle.token_list.specs.declared.stream.Token.{Token}
+use Rattle.token_list.specs.declared.stream.Peeked.{Peeked}
+use Rattle.token_list.specs.declared.stream.Peeked.the-variants.{Nothing, Leaf, Group}
 use Rattle.token_list.specs.declared.row.Shape.{Shape}
 use Rattle.token_list.specs.declared.row.Shape.the-variants.{Plain, Opens, Closed, Wrong}
 use Rattle.token_list.specs.declared.row.Line.{Line}
@@ -67,14 +71,64 @@ pub record Shaped (s : List ℕ) (at : ℕ) (r : Line) : Type 0 where
   pub past : (shape (r .shape) ≡ wrong → ⊥) → (at < r .next) × (r .next ≤ length s)
   pub rest : (shape (r .shape) ≡ wrong → ⊥) → (l : List ℕ) × (lines (drop at s) ≡ line l (lines (drop (r .next) s)))
 
--- a cursor's own bounds: it is in the list, and as many rows as stand before it have a byte each
+-- a cursor's own bounds: the rows before it have a byte each, it is in the list, and the groups that open after it are closed
 pub record InList (s : List ℕ) (c : Cursor) : Type 0 where
   pub counted : c .row ≤ c .at
   pub within : c .at ≤ length s
+  pub whole : allClosed (rowsAt s (c .at)) ≡ true
+
+-- ## Rows and streams at a cursor
+
+-- the row that a token stands for
+abbrev pub rowOf : List ℕ → Token → Row
+rowOf s t = record { kind = t .kind; text = slice (t .start) (t .end) s }
+
+-- the token t at i: where its parts stand, its first byte of text, and the next row
+pub record TokenAt (s : List ℕ) (i : ℕ) (t : Token) : Type 0 where
+  pub start : t .start ≡ i + 2
+  pub text : t .start ≤ t .end
+  pub next : t .next ≡ t .end + 1
+  pub within : t .next ≤ length s
+  pub mark : t .mark ≡ first (slice (t .start) (t .end) s)
+  pub whole : allClosed (rowsAt s (t .next)) ≡ true
+
+-- a token that is no group, and the stream after it
+pub record LeafAt (s : List ℕ) (i : ℕ) (t : Token) : Type 0 where
+  pub token : TokenAt s i t
+  pub here : at s i .here ≡ leaf (rowOf s t) (at s (t .next) .here)
+  pub outer : at s i .outer ≡ at s (t .next) .outer
+
+-- a group's opening row, with its inside and what stands after it
+pub record GroupAt (s : List ℕ) (i : ℕ) (t : Token) : Type 0 where
+  pub token : TokenAt s i t
+  pub after : Trees
+  pub here : at s i .here ≡ group (t .mark) (at s (t .next) .here) after
+  pub outer : at s (t .next) .outer ≡ after ∷ at s i .outer
+
+abbrev pub stands : List ℕ → ℕ → Peeked → Type 0
+stands s i Nothing = at s i .here ≡ end
+stands s i (Leaf t) = LeafAt s i t
+stands s i (Group t) = GroupAt s i t
+
+-- how many groups are open after a row of kind k, where d were before it
+abbrev pub deeper : ℕ → ℕ → ℕ
+deeper k d = cond (eqb k 111) (d + 1) (cond (eqb k 99) (d - 1) d)
+
+-- from c to d, past the closing row of the group that c stands in
+pub record Skipped (s : List ℕ) (c d : Cursor) : Type 0 where
+  pub inList : InList s d
+  pub forth : c .at < d .at
+  pub row : d .row ≡ c .row + size (at s (c .at) .here) + 1
+  pub streams : at s (c .at) .outer ≡ at s (d .at) .here ∷ at s (d .at) .outer
 
 abbrev pub checked : Checked → Answer
 checked (Passed n) = passed n
 checked (Refused r) = refused (r .number) (r .place)
+
+-- where the list check stands
+pub record Within (s : List ℕ) (c : Cursor) : Type 0 where
+  pub counted : c .row ≤ c .at
+  pub within : c .at ≤ length s
 
 -- what the check answers from a cursor on, under the open groups gs, where the rows of the level end as r says
 abbrev pub resumed : List ℕ → List Open → LevelEnd → Answer

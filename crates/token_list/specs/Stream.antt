@@ -1,8 +1,8 @@
 -- The streams of rows (document 01, "The token list": a group inside a group is followed down one level at a time).
 -- Every list of rows has its streams: one that is never closed ends with the list, and a closing row too many ends its stream.
-use mathlib.Core.Bool.{Bool, true, false, cond}
+use mathlib.Core.Bool.{Bool, true, false, cond, _&&_}
 use mathlib.Core.List.{List, [], _∷_}
-use Prim.Native.Nat.{ℕ}
+use Prim.Native.Nat.{ℕ, _+_}
 use lib.Dec.{eqb}
 use lib.ListN.{drop}
 use Rattle.token_list.specs.Row.{Row, rows, lines, first}
@@ -36,6 +36,24 @@ abbrev pub streams : List Row → Streams
 streams [] = record { here = end; outer = [] }
 streams (r ∷ rs) = before r (streams rs)
 
--- the streams at an offset of a list
+-- how many rows a stream has, with those of its groups
+abbrev pub size : Trees → ℕ
+size end = 0
+size (leaf r ts) = 1 + size ts
+size (group d ts us) = 1 + size ts + 1 + size us
+
+-- every group that opens in the rows is closed in them
+abbrev pub follows : List Trees → Bool
+follows [] = false
+follows (t ∷ ts) = true
+
+abbrev pub allClosed : List Row → Bool
+allClosed [] = true
+allClosed (r ∷ rs) = allClosed rs && cond (eqb (r .kind) 111) (follows (streams rs .outer)) true
+
+-- the rows and the streams at an offset of a list
+abbrev pub rowsAt : List ℕ → ℕ → List Row
+rowsAt s i = rows (lines (drop i s))
+
 unfoldable pub at : List ℕ → ℕ → Streams
-at s i = streams (rows (lines (drop i s)))
+at s i = streams (rowsAt s i)

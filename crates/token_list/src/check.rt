@@ -7,7 +7,7 @@ ghost use mathlib.Core.Path.{_≡_};
 ghost use lib.ListN.{take};
 ghost use Rattle.token_list.specs.Check.{check, NAMES};
 ghost use Rattle.token_list.specs.Text.{same};
-ghost use Rattle.token_list.specs.Contract.{InList, Walked, checked};
+ghost use Rattle.token_list.specs.Contract.{Within, Walked, checked};
 
 // The end mark: the place of a refusal that has no row.
 pub const END: usize = 65535;
@@ -40,14 +40,17 @@ pub enum LevelEnd {
 
 // Follows the rows from `from` to the end of their level; `levels` more may open.
 fn walk(s: &[u8], from: Cursor, levels: usize) -> LevelEnd
-    requires { ⌜ InList (now s) from ⌝ }
+    requires { ⌜ Within (now s) from ⌝ }
     ensures { λ r. ⌜ Walked (now (s .entry)) from levels r ⌝ }
 {
     let mut at = from.at;
     let mut row = from.row;
     while at < s.len() {
         if 4096 <= row {
-            return LevelEnd::Refused(Refusal { number: 4, place: 4096 });
+            return LevelEnd::Refused(Refusal {
+                number: 4,
+                place: 4096,
+            });
         }
         let line = line_shape(s, at);
         let next = line.next;
@@ -55,7 +58,10 @@ fn walk(s: &[u8], from: Cursor, levels: usize) -> LevelEnd
         let shape = line.shape;
         match shape {
             Shape::Wrong => {
-                return LevelEnd::Refused(Refusal { number: 3, place: row });
+                return LevelEnd::Refused(Refusal {
+                    number: 3,
+                    place: row,
+                });
             }
             Shape::Plain => {
                 at = next;
@@ -66,19 +72,35 @@ fn walk(s: &[u8], from: Cursor, levels: usize) -> LevelEnd
             }
             Shape::Opens(d) => {
                 if levels == 0 {
-                    return LevelEnd::Refused(Refusal { number: 6, place: row });
+                    return LevelEnd::Refused(Refusal {
+                        number: 6,
+                        place: row,
+                    });
                 }
-                let inside = walk(s, Cursor { at: next, row: below }, levels - 1);
+                let inside = walk(
+                    s,
+                    Cursor {
+                        at: next,
+                        row: below,
+                    },
+                    levels - 1,
+                );
                 match inside {
                     LevelEnd::End(_) => {
-                        return LevelEnd::Refused(Refusal { number: 7, place: row });
+                        return LevelEnd::Refused(Refusal {
+                            number: 7,
+                            place: row,
+                        });
                     }
                     LevelEnd::Refused(r) => {
                         return LevelEnd::Refused(r);
                     }
                     LevelEnd::Close(e, close, past) => {
                         if closer(d) != e {
-                            return LevelEnd::Refused(Refusal { number: 5, place: close });
+                            return LevelEnd::Refused(Refusal {
+                                number: 5,
+                                place: close,
+                            });
                         }
                         at = past;
                         row = close + 1;
@@ -105,14 +127,23 @@ pub fn check(s: &[u8]) -> Checked
     ensures { λ r. ⌜ checked r ≡ check (now (s .entry)) ⌝ }
 {
     if 65536 < s.len() {
-        return Checked::Refused(Refusal { number: 1, place: END });
+        return Checked::Refused(Refusal {
+            number: 1,
+            place: END,
+        });
     }
     if !has_names(s) {
-        return Checked::Refused(Refusal { number: 2, place: END });
+        return Checked::Refused(Refusal {
+            number: 2,
+            place: END,
+        });
     }
     match walk(s, Cursor { at: 10, row: 0 }, 32) {
         LevelEnd::End(rows) => Checked::Passed(rows),
-        LevelEnd::Close(_, row, _) => Checked::Refused(Refusal { number: 5, place: row }),
+        LevelEnd::Close(_, row, _) => Checked::Refused(Refusal {
+            number: 5,
+            place: row,
+        }),
         LevelEnd::Refused(r) => Checked::Refused(r),
     }
 }

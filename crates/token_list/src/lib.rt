@@ -1,4 +1,5 @@
 // Token lists: rows, the list check, and the cursor that later parts read with.
 pub mod check;
 pub mod row;
+pub mod stream;
 pub mod text;

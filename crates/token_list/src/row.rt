@@ -165,10 +165,18 @@ fn text_shape(s: &[u8], kind: u8, start: usize, end: usize) -> Shape
     ensures { λ r. ⌜ shape r ≡ formOf kind (slice start end (now (s .entry))) ⌝ }
 {
     if kind == b'i' {
-        return if is_name(s, start, end) { Shape::Plain } else { Shape::Wrong };
+        return if is_name(s, start, end) {
+            Shape::Plain
+        } else {
+            Shape::Wrong
+        };
     }
     if kind == b'l' {
-        return if is_literal(s, start, end) { Shape::Plain } else { Shape::Wrong };
+        return if is_literal(s, start, end) {
+            Shape::Plain
+        } else {
+            Shape::Wrong
+        };
     }
     mark_shape(kind, only(s, start, end))
 }
@@ -178,13 +186,25 @@ fn mark_shape(kind: u8, b: u8) -> Shape
     ensures { λ r. ⌜ shape r ≡ markForm kind b ⌝ }
 {
     if kind == b'p' {
-        return if class(b) == 2 { Shape::Plain } else { Shape::Wrong };
+        return if class(b) == 2 {
+            Shape::Plain
+        } else {
+            Shape::Wrong
+        };
     }
     if kind == b'o' {
-        return if is_one_of(b, b"([{0") { Shape::Opens(b) } else { Shape::Wrong };
+        return if is_one_of(b, b"([{0") {
+            Shape::Opens(b)
+        } else {
+            Shape::Wrong
+        };
     }
     if kind == b'c' {
-        return if is_one_of(b, b")]}0") { Shape::Closed(b) } else { Shape::Wrong };
+        return if is_one_of(b, b")]}0") {
+            Shape::Closed(b)
+        } else {
+            Shape::Wrong
+        };
     }
     Shape::Wrong
 }
@@ -195,19 +215,31 @@ pub fn line_shape(s: &[u8], at: usize) -> Line
 {
     let end = line_end(s, at);
     if s.len() <= end {
-        return Line { shape: Shape::Wrong, next: end };
+        return Line {
+            shape: Shape::Wrong,
+            next: end,
+        };
     }
     let next = end + 1;
     if end - at < 2 {
-        return Line { shape: Shape::Wrong, next };
+        return Line {
+            shape: Shape::Wrong,
+            next,
+        };
     }
     let space = at + 1;
     let start = at + 2;
     if s[space] != b' ' {
-        return Line { shape: Shape::Wrong, next };
+        return Line {
+            shape: Shape::Wrong,
+            next,
+        };
     }
     if 255 < end - start {
-        return Line { shape: Shape::Wrong, next };
+        return Line {
+            shape: Shape::Wrong,
+            next,
+        };
     }
     let kind = s[at];
     let shape = text_shape(s, kind, start, end);
