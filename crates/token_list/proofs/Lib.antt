@@ -5,3 +5,4 @@ pub mod Lines
 pub mod Forms
 pub mod Walks
 pub mod Streams
+pub mod Passed

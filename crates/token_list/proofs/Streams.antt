@@ -59,7 +59,7 @@ module _ (r : Row) (st : Streams) where
 
 -- ## Groups that are closed
 
-and-parts : (a b : Bool) → (a && b) ≡ true → (a ≡ true) × (b ≡ true)
+pub and-parts : (a b : Bool) → (a && b) ≡ true → (a ≡ true) × (b ≡ true)
 and-parts true b e = (refl, e)
 and-parts false b e = absurd (false≢true e)
 

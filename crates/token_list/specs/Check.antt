@@ -1,11 +1,11 @@
 -- The answer of the list check (document 01, "What the reader hands back": refusals 1 to 7 in the order "1, 2; row by row 4, 3, then 5 or 6; 7").
-use mathlib.Core.Bool.{Bool, true, false, cond}
+use mathlib.Core.Bool.{Bool, true, false, cond, _&&_}
 use mathlib.Core.List.{List, [], _∷_}
 use Prim.Native.Nat.{ℕ, _+_}
 use lib.Dec.{leb, ltb, eqb}
 use lib.ListN.{length, take, drop}
 use Rattle.token_list.specs.Text.{same, closer}
-use Rattle.token_list.specs.Row.{Lines, tail, line, lines, Form, plain, opens, closed, wrong, form}
+use Rattle.token_list.specs.Row.{Lines, tail, line, lines, Form, plain, opens, closed, wrong, form, formOf, first, Row}
 
 pub data Answer : Type 0 where
   -- the number of rows
@@ -53,3 +53,33 @@ unfoldable pub check : List ℕ → Answer
 check s =
     cond (ltb 65536 (length s)) (refused 1 END)
     (cond (same (take 10 s) NAMES) (walk 0 [] (lines (drop 10 s))) (refused 2 END))
+
+-- What a list that passes is. A row of a right form:
+abbrev pub isRow : Form → Bool
+isRow plain = true
+isRow (opens d) = true
+isRow (closed d) = true
+isRow wrong = false
+
+abbrev pub right : Row → Bool
+right r = isRow (formOf (r .kind) (r .text)) && leb (length (r .text)) 255
+
+abbrev pub closedBy : List ℕ → ℕ → Bool
+closedBy [] c = false
+closedBy (d ∷ ds) c = eqb (closer d) c
+
+abbrev pub enclosing : List ℕ → List ℕ
+enclosing [] = []
+enclosing (d ∷ ds) = ds
+
+abbrev pub none : List ℕ → Bool
+none [] = true
+none (d ∷ ds) = false
+
+-- rows of a right form under the open delimiters ds, at most 32 of them open at once, each group closed by its own close
+abbrev pub nested : List ℕ → List Row → Bool
+nested ds [] = none ds
+nested ds (r ∷ rs) =
+    right r
+    && cond (eqb (r .kind) 111) (ltb (length ds) 32 && nested (first (r .text) ∷ ds) rs)
+    (cond (eqb (r .kind) 99) (closedBy ds (first (r .text)) && nested (enclosing ds) rs) (nested ds rs))

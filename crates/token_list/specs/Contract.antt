@@ -4,10 +4,10 @@ use mathlib.Core.Bool.{Bool, true, false, cond}
 use mathlib.Core.List.{List, [], _∷_}
 use Prim.Native.Nat.{ℕ, _+_, _-_, _≤_, _<_}
 use lib.Dec.{leb, eqb}
-use lib.ListN.{length, drop}
+use lib.ListN.{length, take, drop}
 use lib.Seq.{slice}
-use Rattle.token_list.specs.Row.{Lines, tail, line, lines, Form, plain, opens, closed, wrong, form, first, Row}
-use Rattle.token_list.specs.Check.{Answer, passed, refused, Open, ended, close, walk}
+use Rattle.token_list.specs.Row.{Lines, tail, line, lines, Form, plain, opens, closed, wrong, form, first, Row, written}
+use Rattle.token_list.specs.Check.{Answer, passed, refused, Open, ended, close, walk, NAMES, nested}
 use Rattle.token_list.specs.declared.check.Cursor.{Cursor}
 use Rattle.token_list.specs.declared.check.Checked.{Checked}
 use Rattle.token_list.specs.declared.check.Checked.the-variants.{Passed, Refused}
@@ -146,3 +146,14 @@ closedIn s at (Stopped r) = Unit
 pub record Walked (s : List ℕ) (c : Cursor) (levels : ℕ) (r : LevelEnd) : Type 0 where
   pub right : (gs : List Open) → length gs + levels ≡ 32 → walk (c .row) gs (lines (drop (c .at) s)) ≡ resumed s gs r
   pub past : closedIn s (c .at) r
+
+-- A list that passes the check with n rows: its line of names, then the lines of its rows, which nest; no group is open at
+-- its first row, and each that opens is closed.
+pub record PassedList (s : List ℕ) (n : ℕ) : Type 0 where
+  pub names : take 10 s ≡ NAMES
+  pub written : drop 10 s ≡ written (rowsAt s 10)
+  pub nested : nested [] (rowsAt s 10) ≡ true
+  pub count : length (rowsAt s 10) ≡ n
+  pub whole : allClosed (rowsAt s 10) ≡ true
+  pub outer : at s 10 .outer ≡ []
+  pub size : size (at s 10 .here) ≡ n

@@ -1,6 +1,6 @@
 -- The lines of a text and the rows that they are (document 01, "The token list").
 use mathlib.Core.Bool.{Bool, true, false, cond, _&&_}
-use mathlib.Core.List.{List, [], _∷_}
+use mathlib.Core.List.{List, [], _∷_, _++_}
 use Prim.Native.Nat.{ℕ}
 use lib.Dec.{leb, eqb}
 use lib.ListN.{length}
@@ -62,3 +62,8 @@ rowOf (k ∷ s ∷ t) rs = record { kind = k; text = t } ∷ rs
 abbrev pub rows : Lines → List Row
 rows (tail t) = []
 rows (line l ls) = rowOf l (rows ls)
+
+-- rows as the lines of a list
+abbrev pub written : List Row → List ℕ
+written [] = []
+written (r ∷ rs) = r .kind ∷ 32 ∷ r .text ++ LF ∷ written rs

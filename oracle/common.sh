@@ -1,0 +1,48 @@
+# Builds the generator of lists and the oracle. Sourced by the commands beside it.
+# VIRTUE_SRC names the folder with virtue's published sources (parse/, utils.rs, ..).
+
+root=$(cd "$(dirname "$0")/.." && pwd)
+sources=${VIRTUE_SRC:-$root/../shared/docs/src}
+built=$root/target/oracle
+
+skip() {
+    echo "skipped: $1"
+    exit 0
+}
+
+# Only the generator: it needs no sources of virtue.
+build_lists() {
+    command -v rustc >/dev/null 2>&1 || skip "there is no rustc"
+    mkdir -p "$built"
+    rustc --edition 2021 -O -o "$built/lists" "$root/oracle/src/main.rs"
+}
+
+build_oracle() {
+    command -v rustc >/dev/null 2>&1 || skip "there is no rustc"
+    minor=$(rustc --version | cut -d. -f2)
+    [ "$minor" -ge 88 ] || skip "rustc is older than 1.88, which has no columns of spans"
+    for file in parse/mod.rs parse/attributes.rs parse/body.rs parse/data_type.rs \
+        parse/generics.rs parse/utils.rs parse/visibility.rs utils.rs error.rs \
+        generate/stream_builder.rs; do
+        [ -f "$sources/$file" ] || skip "no $file in VIRTUE_SRC ($sources)"
+    done
+    build_lists
+    rm -f "$built/virtue"
+    ln -s "$(cd "$sources" && pwd)" "$built/virtue"
+    rustc --edition 2021 -O --crate-type proc-macro --crate-name oracle \
+        -o "$built/liboracle.so" "$root/oracle/src/root.rs"
+    # The second line lends its commas' spans to rows; the first comma stands in column 11.
+    {
+        echo 'oracle::answer! {'
+        printf '          '
+        printf ',%.0s' $(seq 4200)
+        printf '\n}\n'
+    } >"$built/driver.rs"
+}
+
+# answer CASES ANSWERS COUNTS: the cases of a file, with the Rust's answers.
+answer() {
+    ORACLE_IN=$1 ORACLE_OUT=$2 ORACLE_COUNTS=$3 \
+        rustc --edition 2021 --crate-type lib --crate-name driver --emit metadata \
+        --extern "oracle=$built/liboracle.so" -o "$built/driver.rmeta" "$built/driver.rs"
+}

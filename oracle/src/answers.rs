@@ -1,0 +1,374 @@
+//! Runs the Rust on token lists and writes what it answers in the words of document 01.
+
+use crate::check::{check, printed, refusal, Check, END};
+use crate::expect::{meets, Sections};
+use crate::lists::{mates, write_section, Row};
+use crate::literal::sound_literal;
+use crate::model;
+use crate::parse::{Attribute, AttributeLocation, DataType, Generics, Parse, Visibility};
+use crate::reading::Reading;
+use crate::refusals::{number_and_place, place, Refusal};
+use crate::stream_builder::StreamBuilder;
+use crate::utils::{parse_tagged_attribute, ParsedAttribute};
+use proc_macro::{Delimiter, Group, Ident, Literal, Punct, Spacing, Span, TokenStream, TokenTree};
+use std::cell::Cell;
+use std::collections::{BTreeMap, HashMap};
+use std::fs::File;
+use std::io::{self, BufRead, BufReader, BufWriter, Write};
+use std::panic::{catch_unwind, AssertUnwindSafe};
+use std::str::FromStr;
+
+/// The names that the writer with additional names gets, in every case.
+const ADDED_LIFETIMES: [&str; 1] = ["x"];
+const ADDED_TYPES: [&str; 2] = ["Y", "Z"];
+
+/// The prefix that tagged attributes are asked for, in every case.
+const PREFIX: &str = "p";
+
+thread_local! {
+    static QUIET: Cell<bool> = const { Cell::new(false) };
+}
+
+pub fn run(spans: Vec<Span>) {
+    let hook = std::panic::take_hook();
+    // Refusal 27 is a panic in the Rust; only other panics are worth a message.
+    std::panic::set_hook(Box::new(move |info| {
+        if !QUIET.with(|q| q.get()) {
+            hook(info)
+        }
+    }));
+    let path = |name: &str| std::env::var(name).unwrap_or_else(|_| panic!("{name} is not set"));
+    let mut input = BufReader::new(File::open(path("ORACLE_IN")).expect("ORACLE_IN"));
+    let mut out = BufWriter::new(File::create(path("ORACLE_OUT")).expect("ORACLE_OUT"));
+    let mut oracle = Oracle {
+        spans,
+        idents: HashMap::new(),
+        literals: HashMap::new(),
+        counts: BTreeMap::new(),
+    };
+    let mut kind = String::from("?");
+    let mut expected = String::new();
+    let mut disappointed = 0;
+    while let Some((name, body)) = read_section(&mut input).expect("ORACLE_IN") {
+        let text = || String::from_utf8_lossy(&body).into_owned();
+        if name == "expect" {
+            // What an example is said to answer: for the oracle alone.
+            expected = text();
+            continue;
+        }
+        write_section(&mut out, &name, &body).expect("ORACLE_OUT");
+        if name == "kind" {
+            kind = text();
+        }
+        if name == "list" {
+            let sections = oracle.case(&kind, &body);
+            for (name, body) in &sections {
+                write_section(&mut out, name, body).expect("ORACLE_OUT");
+            }
+            for words in expected
+                .split("=>")
+                .map(str::trim)
+                .filter(|w| !w.is_empty())
+            {
+                if !meets(&sections, words) {
+                    disappointed += 1;
+                    eprintln!("not as expected: {words}\n{}", text());
+                }
+            }
+            expected.clear();
+        }
+    }
+    out.flush().expect("ORACLE_OUT");
+    let mut counts = File::create(path("ORACLE_COUNTS")).expect("ORACLE_COUNTS");
+    for (what, n) in &oracle.counts {
+        writeln!(counts, "{what}: {n}").expect("ORACLE_COUNTS");
+    }
+    assert_eq!(disappointed, 0, "examples that do not answer as expected");
+}
+
+/// The rows of a list that passes the list check.
+fn to_rows(list: &[u8]) -> Vec<Row> {
+    let text = std::str::from_utf8(list).expect("a checked list is ASCII");
+    text.lines()
+        .skip(1)
+        .map(|line| (line.as_bytes()[0], line[2..].to_string()))
+        .collect()
+}
+
+fn read_section(input: &mut impl BufRead) -> io::Result<Option<(String, Vec<u8>)>> {
+    let mut header = String::new();
+    if input.read_line(&mut header)? == 0 {
+        return Ok(None);
+    }
+    let bad = || io::Error::new(io::ErrorKind::InvalidData, format!("header {header:?}"));
+    let (name, length) = header
+        .trim_end_matches('\n')
+        .split_once(' ')
+        .ok_or_else(bad)?;
+    let length: usize = length.parse().map_err(|_| bad())?;
+    let mut body = vec![0; length];
+    input.read_exact(&mut body)?;
+    Ok(Some((name.to_string(), body)))
+}
+
+struct Oracle {
+    spans: Vec<Span>,
+    // Made once and copied: a literal made from text costs the compiler a source file.
+    idents: HashMap<String, Ident>,
+    literals: HashMap<String, Literal>,
+    counts: BTreeMap<String, usize>,
+}
+
+impl Oracle {
+    fn count(&mut self, what: String) {
+        *self.counts.entry(what).or_insert(0) += 1;
+    }
+
+    fn case(&mut self, kind: &str, list: &[u8]) -> Sections {
+        let mut sections: Sections = Vec::new();
+        let mut put = |name: &'static str, body: &[u8]| sections.push((name, body.to_vec()));
+        self.count("all lists".into());
+        self.count(format!("kind {kind}, lists"));
+        let answer = check(list);
+        put("check", printed(answer).as_bytes());
+        if let Check::Refused(number, _) = answer {
+            self.count(format!("kind {kind}, refused by the list check"));
+            self.count(format!("list check, refusal {number:2}"));
+            return sections;
+        }
+        let rows = to_rows(list);
+        if rows
+            .iter()
+            .any(|(k, text)| *k == b'l' && !sound_literal(text))
+        {
+            self.count(format!("kind {kind}, not compared (literals)"));
+            return sections;
+        }
+        let mate = mates(&rows);
+        let trees = self.trees(&rows);
+        let model = model::roles(&rows, &mate);
+        let declaration = self.declaration(&trees);
+        if let (Err(of_model), Err(of_rust)) = (&model, &declaration) {
+            assert_eq!(of_model, of_rust, "the model refuses otherwise: {rows:?}");
+        }
+
+        match declaration {
+            Err((number, place)) => {
+                assert!(model.is_err(), "the model accepts: {rows:?}");
+                self.count(format!("kind {kind}, refused"));
+                self.count(format!("declaration, refusal {number:2}"));
+                let text = refusal(number, place);
+                put("roles", text.as_bytes());
+                put("listing", text.as_bytes());
+            }
+            Ok(parse) => {
+                self.count(format!("kind {kind}, accepted"));
+                let reading = Reading::new(rows.len(), &mate, &parse);
+                let mut roles = b"accepted\n".to_vec();
+                roles.extend_from_slice(&reading.roles);
+                roles.push(b'\n');
+                put("roles", &roles);
+                let mut model =
+                    model.unwrap_or_else(|r| panic!("the model refuses {r:?}: {rows:?}"));
+                model.iter_mut().for_each(|role| *role += b'a');
+                for (of_model, of_rust) in model.iter().zip(&reading.roles) {
+                    assert!(
+                        *of_rust == b'.' || of_rust == of_model,
+                        "the model: {rows:?}"
+                    );
+                }
+                model.push(b'\n');
+                put("every", &model);
+                put("listing", reading.listing.as_bytes());
+                let (Parse::Struct { generics, .. } | Parse::Enum { generics, .. }) = &parse;
+                let written = |f: &dyn Fn(&Generics) -> StreamBuilder| {
+                    let mut text = String::from("kind text\n");
+                    if let Some(generics) = generics {
+                        write_rows(f(generics).stream, &mut text);
+                    }
+                    text
+                };
+                let lifetimes = ADDED_LIFETIMES.map(String::from);
+                let types = ADDED_TYPES.map(String::from);
+                put("impl", written(&|g| g.impl_generics()).as_bytes());
+                put("type", written(&|g| g.type_generics()).as_bytes());
+                put(
+                    "additional",
+                    written(&|g| g.impl_generics_with_additional(&lifetimes, &types)).as_bytes(),
+                );
+            }
+        }
+        let tagged = tagged(&trees, &rows, &mate);
+        self.count(match &tagged {
+            Tagged::Refused((number, _)) => format!("tagged, refusal {number:2}"),
+            Tagged::None => "tagged, none".into(),
+            Tagged::Roles(_) => "tagged, accepted".into(),
+        });
+        match tagged {
+            Tagged::Refused((number, place)) => put("tagged", refusal(number, place).as_bytes()),
+            Tagged::None => put("tagged", b"none\n"),
+            Tagged::Roles(roles) => {
+                let mut text = b"accepted\n".to_vec();
+                text.extend_from_slice(&roles);
+                text.push(b'\n');
+                put("tagged", &text);
+            }
+        }
+        sections
+    }
+
+    fn trees(&mut self, rows: &[Row]) -> Vec<TokenTree> {
+        let mut stack: Vec<(usize, Vec<TokenTree>)> = vec![(0, Vec::new())];
+        for (n, (kind, text)) in rows.iter().enumerate() {
+            let span = self.spans[n];
+            let tree = match kind {
+                b'o' => {
+                    stack.push((n, Vec::new()));
+                    continue;
+                }
+                b'c' => {
+                    let (open, inside) = stack.pop().expect("checked");
+                    let delimiter = match text.as_str() {
+                        ")" => Delimiter::Parenthesis,
+                        "]" => Delimiter::Bracket,
+                        "}" => Delimiter::Brace,
+                        _ => Delimiter::None,
+                    };
+                    let mut group = Group::new(delimiter, TokenStream::from_iter(inside));
+                    group.set_span(self.spans[open]);
+                    TokenTree::Group(group)
+                }
+                b'i' => {
+                    let mut ident = self
+                        .idents
+                        .entry(text.clone())
+                        .or_insert_with(|| match text.strip_prefix("r#") {
+                            Some(name) => Ident::new_raw(name, span),
+                            None => Ident::new(text, span),
+                        })
+                        .clone();
+                    ident.set_span(span);
+                    TokenTree::Ident(ident)
+                }
+                b'l' => {
+                    let mut literal = self
+                        .literals
+                        .entry(text.clone())
+                        .or_insert_with(|| {
+                            let literal = Literal::from_str(text)
+                                .unwrap_or_else(|_| panic!("not a literal: {text}"));
+                            assert_eq!(literal.to_string(), *text, "a literal keeps its text");
+                            literal
+                        })
+                        .clone();
+                    literal.set_span(span);
+                    TokenTree::Literal(literal)
+                }
+                // Never joint: a joint `'` and the name after it become one token with one span.
+                _ => {
+                    let mut punct = Punct::new(text.as_bytes()[0] as char, Spacing::Alone);
+                    punct.set_span(span);
+                    TokenTree::Punct(punct)
+                }
+            };
+            stack.last_mut().expect("checked").1.push(tree);
+        }
+        stack.pop().expect("checked").1
+    }
+
+    fn declaration(&self, trees: &[TokenTree]) -> Result<Parse, Refusal> {
+        let input = TokenStream::from_iter(trees.iter().cloned());
+        QUIET.with(|q| q.set(true));
+        let answer = catch_unwind(AssertUnwindSafe(|| Parse::new(input)));
+        QUIET.with(|q| q.set(false));
+        match answer {
+            Ok(Ok(parse)) => Ok(parse),
+            Ok(Err(error)) => Err(number_and_place(&error)),
+            Err(_) => Err((27, place_of_panic(trees))),
+        }
+    }
+}
+
+/// Reads once more, up to the panic, from an iterator that remembers what it handed out last: the
+/// Rust panics on the token it has just taken (27), in `ConstGeneric::take` alone.
+fn place_of_panic(trees: &[TokenTree]) -> usize {
+    let last = Cell::new(None);
+    let mut source = trees.iter().cloned();
+    let mut watched = std::iter::from_fn(|| {
+        let token = source.next();
+        last.set(Some(token.as_ref().map_or(END, |t| place(t.span()))));
+        token
+    })
+    .peekable();
+    let input = &mut watched;
+    let before = (|| -> crate::Result<()> {
+        Attribute::try_take(AttributeLocation::Container, input)?;
+        Visibility::try_take(input)?;
+        DataType::take(input)?;
+        Ok(())
+    })();
+    assert!(before.is_ok(), "a panic outside generics");
+    QUIET.with(|q| q.set(true));
+    let generics = catch_unwind(AssertUnwindSafe(|| Generics::try_take(input).is_ok()));
+    QUIET.with(|q| q.set(false));
+    assert!(generics.is_err(), "a panic outside generics");
+    last.get().expect("a token was asked for")
+}
+
+/// A stream as rows.
+fn write_rows(stream: TokenStream, out: &mut String) {
+    for token in stream {
+        match token {
+            TokenTree::Ident(ident) => *out += &format!("i {ident}\n"),
+            TokenTree::Punct(punct) => *out += &format!("p {}\n", punct.as_char()),
+            TokenTree::Literal(literal) => *out += &format!("l {literal}\n"),
+            TokenTree::Group(group) => {
+                let (open, close) = match group.delimiter() {
+                    Delimiter::Parenthesis => ('(', ')'),
+                    Delimiter::Bracket => ('[', ']'),
+                    Delimiter::Brace => ('{', '}'),
+                    Delimiter::None => ('0', '0'),
+                };
+                *out += &format!("o {open}\n");
+                write_rows(group.stream(), out);
+                *out += &format!("c {close}\n");
+            }
+        }
+    }
+}
+
+enum Tagged {
+    Refused(Refusal),
+    None,
+    Roles(Vec<u8>),
+}
+
+/// 31 is ours: the Rust is handed a group, never a list.
+fn tagged(trees: &[TokenTree], rows: &[Row], mate: &[usize]) -> Tagged {
+    let group = match trees.first() {
+        None => return Tagged::Refused((31, END)),
+        Some(TokenTree::Group(group)) => group,
+        Some(_) => return Tagged::Refused((31, 0)),
+    };
+    if trees.len() > 1 {
+        return Tagged::Refused((31, mate[0] + 1));
+    }
+    match parse_tagged_attribute(group, PREFIX) {
+        Err(error) => Tagged::Refused(number_and_place(&error)),
+        Ok(None) => Tagged::None,
+        Ok(Some(parts)) => {
+            // Every row that the answer does not name is "other".
+            let mut roles = vec![b'a' + 23; rows.len()];
+            for part in parts {
+                match part {
+                    ParsedAttribute::Tag(tag) => roles[place(tag.span())] = b'a' + 20,
+                    ParsedAttribute::Property(key, value) => {
+                        roles[place(key.span())] = b'a' + 21;
+                        roles[place(value.span())] = b'a' + 22;
+                    }
+                }
+            }
+            Tagged::Roles(roles)
+        }
+    }
+}

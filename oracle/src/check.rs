@@ -1,0 +1,129 @@
+//! The list check of document 01, written from its text alone (the Rust has nothing like it):
+//! refusals 1 to 7 with their places, or the number of rows.
+
+pub const END: usize = 65_535;
+
+const MAX_BYTES: usize = 65_536;
+const MAX_ROWS: usize = 4_096;
+const MAX_TEXT: usize = 255;
+const MAX_OPEN: usize = 32;
+const NAMES: &[u8] = b"kind text\n";
+const PUNCTUATION: &[u8] = b"=<>!~+-*/%^&|@.,;:#$?'";
+
+#[derive(Clone, Copy, PartialEq, Eq, Debug)]
+pub enum Check {
+    Rows(usize),
+    Refused(u8, usize),
+}
+
+pub fn check(list: &[u8]) -> Check {
+    if list.len() > MAX_BYTES {
+        return Check::Refused(1, END);
+    }
+    if !list.starts_with(NAMES) {
+        return Check::Refused(2, END);
+    }
+    let mut rest = &list[NAMES.len()..];
+    let mut row = 0;
+    // The open groups: opening row and the byte that closes it.
+    let mut open: Vec<(usize, u8)> = Vec::new();
+    while !rest.is_empty() {
+        if row == MAX_ROWS {
+            return Check::Refused(4, MAX_ROWS);
+        }
+        let Some(end) = rest.iter().position(|b| *b == b'\n') else {
+            return Check::Refused(3, row);
+        };
+        let line = &rest[..end];
+        rest = &rest[end + 1..];
+        if !row_form(line) {
+            return Check::Refused(3, row);
+        }
+        match line[0] {
+            b'o' => {
+                if open.len() == MAX_OPEN {
+                    return Check::Refused(6, row);
+                }
+                open.push((row, closing(line[2])));
+            }
+            b'c' => match open.last() {
+                Some((_, close)) if *close == line[2] => {
+                    open.pop();
+                }
+                _ => return Check::Refused(5, row),
+            },
+            _ => {}
+        }
+        row += 1;
+    }
+    match open.last() {
+        Some((opening, _)) => Check::Refused(7, *opening),
+        None => Check::Rows(row),
+    }
+}
+
+/// Kind, one space, a text that fits the kind.
+fn row_form(line: &[u8]) -> bool {
+    if line.len() < 3 || line[1] != b' ' {
+        return false;
+    }
+    let text = &line[2..];
+    if text.len() > MAX_TEXT {
+        return false;
+    }
+    match line[0] {
+        b'i' => ident_text(text),
+        b'p' => text.len() == 1 && PUNCTUATION.contains(&text[0]),
+        b'l' => {
+            (text[0].is_ascii_digit() || b"\"'bcr".contains(&text[0]))
+                && text.iter().all(|b| (32..=126).contains(b))
+        }
+        b'o' => text.len() == 1 && b"([{0".contains(&text[0]),
+        b'c' => text.len() == 1 && b")]}0".contains(&text[0]),
+        _ => false,
+    }
+}
+
+fn ident_text(text: &[u8]) -> bool {
+    match text.strip_prefix(b"r#") {
+        Some(name) => {
+            plain_name(name) && !matches!(name, b"crate" | b"self" | b"super" | b"Self" | b"_")
+        }
+        None => plain_name(text),
+    }
+}
+
+fn plain_name(text: &[u8]) -> bool {
+    match text.first() {
+        Some(b) if b.is_ascii_alphabetic() || *b == b'_' => {
+            text.iter().all(|b| b.is_ascii_alphanumeric() || *b == b'_')
+        }
+        _ => false,
+    }
+}
+
+fn closing(open: u8) -> u8 {
+    match open {
+        b'(' => b')',
+        b'[' => b']',
+        b'{' => b'}',
+        _ => b'0',
+    }
+}
+
+/// What a program prints for a refusal: a line of names, then number and place.
+pub fn refusal(number: u8, place: usize) -> String {
+    if place == END {
+        format!("refused place\n{number} -\n")
+    } else {
+        format!("refused place\n{number} {place}\n")
+    }
+}
+
+/// What the program `rows` prints.
+pub fn printed(answer: Check) -> String {
+    match answer {
+        Check::Rows(n) => format!("rows {n}\n"),
+        Check::Refused(number, place) => refusal(number, place),
+    }
+}

@@ -1,0 +1,430 @@
+//! Kind a: declarations (and tagged attributes) made along the grammar of document 01, with all of
+//! its optional parts, and now and then a turn that it refuses.
+
+use crate::lists::Row;
+use crate::rng::Rng;
+
+pub const DELIMITERS: [(&str, &str); 4] = [("(", ")"), ("[", "]"), ("{", "}"), ("0", "0")];
+
+pub const NAMES: [&str; 34] = [
+    "a", "b", "x", "y", "A", "B", "E", "T", "U", "N", "p", "k", "u8", "u32", "Vec", "Fn", "Foo",
+    "bar_1", "_", "_z", "Self", "self", "crate", "dyn", "type", "for", "mut", "impl", "r#pub",
+    "r#struct", "r#type", "r#a", "r#where", "r#const",
+];
+const WORDS: [&str; 9] = [
+    "pub", "struct", "enum", "where", "const", "in", "super", "self", "crate",
+];
+const LITERALS: [&str; 35] = [
+    "0",
+    "1",
+    "2",
+    "3",
+    "7",
+    "14",
+    "00",
+    "007",
+    "1000",
+    "1_000",
+    "0x1F",
+    "0b11",
+    "0o17",
+    "5i64",
+    "5u8",
+    "1.5",
+    "2e3",
+    "1.0f32",
+    "9223372036854775807",
+    "9223372036854775808",
+    "18446744073709551616",
+    "\"s\"",
+    "\"a b\"",
+    "\"\"",
+    "'c'",
+    "' '",
+    "b'x'",
+    "b\"yz\"",
+    "c\"q\"",
+    "r#\"raw\"#",
+    "\"a\\\"b\"",
+    "'\\''",
+    "b'\\\\'",
+    "br\"x\"",
+    "cr#\"x\"#",
+];
+const PUNCTUATION: &str = "=<>!~+-*/%^&|@.,;:#$?'";
+
+pub struct Builder<'r> {
+    pub rng: &'r mut Rng,
+    pub rows: Vec<Row>,
+}
+
+pub fn declaration(rng: &mut Rng) -> Vec<Row> {
+    let mut b = Builder {
+        rng,
+        rows: Vec::new(),
+    };
+    b.item();
+    b.rows
+}
+
+pub fn tagged(rng: &mut Rng) -> Vec<Row> {
+    let mut b = Builder {
+        rng,
+        rows: Vec::new(),
+    };
+    b.tagged_list();
+    b.rows
+}
+
+/// Any row that is no delimiter.
+pub fn plain_row(rng: &mut Rng) -> Row {
+    match rng.below(10) {
+        0..=2 => (b'i', rng.pick(&NAMES).into()),
+        3..=4 => (b'i', rng.pick(&WORDS).into()),
+        5 => (b'l', rng.pick(&LITERALS).into()),
+        6..=8 => (
+            b'p',
+            rng.pick(&["<", ">", "-", ",", ":", "=", "#", "'", ";"])
+                .into(),
+        ),
+        _ => {
+            let n = rng.below(PUNCTUATION.len());
+            (b'p', PUNCTUATION[n..n + 1].into())
+        }
+    }
+}
+
+impl Builder<'_> {
+    pub fn chance(&mut self, in_n: usize) -> bool {
+        self.rng.one_in(in_n)
+    }
+
+    pub fn i(&mut self, text: &str) {
+        self.rows.push((b'i', text.into()));
+    }
+
+    pub fn p(&mut self, text: &str) {
+        for c in text.chars() {
+            self.rows.push((b'p', c.to_string()));
+        }
+    }
+
+    pub fn l(&mut self) {
+        let text = if self.chance(4) {
+            self.rng.below(1000).to_string()
+        } else {
+            self.rng.pick(&LITERALS).to_string()
+        };
+        self.rows.push((b'l', text));
+    }
+
+    pub fn group(&mut self, delimiter: usize, inside: impl FnOnce(&mut Self)) {
+        let (open, close) = DELIMITERS[delimiter];
+        self.rows.push((b'o', open.into()));
+        inside(self);
+        self.rows.push((b'c', close.into()));
+    }
+
+    pub fn name(&mut self) {
+        let text = if self.chance(30) {
+            self.rng.pick(&WORDS)
+        } else {
+            self.rng.pick(&NAMES)
+        };
+        self.i(text);
+    }
+
+    pub fn capital(&mut self) {
+        let text = self
+            .rng
+            .pick(&["A", "B", "C", "D", "E", "Main", "Drain", "Block", "r#A"]);
+        self.i(text);
+    }
+
+    /// A word: plain, or alone in a group of any delimiter.
+    pub fn word(&mut self, text: &str) {
+        if self.chance(8) {
+            let d = self.rng.below(4);
+            self.group(d, |b| b.i(text));
+        } else {
+            self.i(text);
+        }
+    }
+
+    /// Balanced rows without a rule.
+    pub fn stuff(&mut self, most: usize, levels: usize) {
+        for _ in 0..self.rng.below(most + 1) {
+            if levels > 0 && self.chance(5) {
+                let d = self.rng.below(4);
+                self.group(d, |b| b.stuff(most, levels - 1));
+            } else {
+                let row = plain_row(self.rng);
+                self.rows.push(row);
+            }
+        }
+    }
+
+    fn item(&mut self) {
+        self.attributes();
+        self.visibility();
+        let is_struct = self.chance(2);
+        if self.chance(60) {
+            self.word("union");
+        } else {
+            self.word(if is_struct { "struct" } else { "enum" });
+        }
+        if !self.chance(80) {
+            if self.chance(3) {
+                let text = self
+                    .rng
+                    .pick(&["A", "B", "Foo", "r#A", "_", "pub", "where"])
+                    .to_string();
+                self.word(&text);
+            } else {
+                let d = self.rng.below(40);
+                if d < 4 {
+                    self.group(d, |b| b.capital());
+                } else {
+                    self.capital();
+                }
+            }
+        }
+        if self.chance(2) {
+            self.generics();
+        }
+        let has_where = self.chance(4);
+        if has_where {
+            self.i("where");
+            self.run(2, true);
+            if self.chance(4) {
+                self.p(",");
+            }
+        }
+        if is_struct {
+            self.struct_body();
+        } else {
+            self.enum_body();
+        }
+        if self.chance(4) {
+            if self.chance(2) {
+                self.p(";");
+            }
+            self.stuff(4, 2);
+        }
+    }
+
+    pub fn attributes(&mut self) {
+        while self.chance(4) {
+            self.p("#");
+            if self.chance(8) {
+                self.p("#");
+            }
+            if self.chance(60) {
+                self.stuff(2, 1);
+            } else {
+                self.group(1, |b| {
+                    b.name();
+                    b.stuff(3, 2);
+                });
+            }
+        }
+    }
+
+    pub fn visibility(&mut self) {
+        match self.rng.below(12) {
+            0..=6 => {}
+            7 => self.i("pub"),
+            8 | 9 => {
+                self.i("pub");
+                let first = self
+                    .rng
+                    .pick(&["crate", "self", "super", "in", "in", "a", "r#in"]);
+                let d = if self.chance(8) { self.rng.below(4) } else { 0 };
+                self.group(d, |b| {
+                    b.i(first);
+                    match b.rng.below(4) {
+                        0 => {
+                            b.p("::");
+                            b.name();
+                        }
+                        1 if first == "in" => b.name(),
+                        _ => {}
+                    }
+                });
+            }
+            _ => {
+                let d = self.rng.below(4);
+                self.group(d, |b| b.i("pub"));
+                if self.chance(2) {
+                    let d = self.rng.below(4);
+                    self.group(d, |b| b.stuff(2, 1));
+                }
+            }
+        }
+    }
+
+    fn generics(&mut self) {
+        self.p("<");
+        let n = self.rng.below(4);
+        for k in 0..n {
+            self.param();
+            if !self.chance(10) && (k + 1 < n || self.chance(4)) {
+                self.p(",");
+            }
+        }
+        if !self.chance(40) {
+            self.p(">");
+        }
+    }
+
+    fn param(&mut self) {
+        match self.rng.below(4) {
+            0 => {
+                self.p("'");
+                if !self.chance(30) {
+                    let text = self.rng.pick(&["a", "b", "static", "_", "r#a", "const"]);
+                    self.i(text);
+                }
+                if self.chance(2) {
+                    self.p(":");
+                    if self.chance(2) {
+                        self.p("'");
+                        self.i("b");
+                    } else {
+                        self.run(1, false);
+                    }
+                }
+            }
+            1 => {
+                self.i("const");
+                if self.chance(20) {
+                    let row = plain_row(self.rng);
+                    self.rows.push(row);
+                } else {
+                    let text = self.rng.pick(&["N", "M", "const", "_", "r#N"]);
+                    self.i(text);
+                }
+                if !self.chance(5) {
+                    self.p(":");
+                    self.run(1, false);
+                    if self.chance(4) {
+                        self.p("=");
+                        self.l();
+                    }
+                }
+            }
+            _ => {
+                self.name();
+                match self.rng.below(4) {
+                    0 => {
+                        self.p(":");
+                        self.run(2, false);
+                        if self.chance(5) {
+                            self.p("=");
+                            self.run(1, false);
+                        }
+                    }
+                    1 => {
+                        self.p("=");
+                        self.run(2, false);
+                    }
+                    _ => {}
+                }
+            }
+        }
+    }
+
+    /// A run: types, bounds and what else may stand there. With `no_groups` braces and
+    /// parentheses are kept inside angles, because they would end a `where` run.
+    pub fn run(&mut self, levels: usize, no_groups: bool) {
+        if self.chance(14) {
+            return;
+        }
+        for k in 0..1 + self.rng.below(3) {
+            if k > 0 && self.chance(2) {
+                self.p("+");
+            }
+            self.piece(levels, no_groups);
+        }
+    }
+
+    fn piece(&mut self, levels: usize, no_groups: bool) {
+        let deep = levels > 0;
+        match self.rng.below(22) {
+            0..=4 => self.name(),
+            5 => {
+                self.name();
+                self.p("::");
+                self.name();
+            }
+            6 | 7 if deep => {
+                self.name();
+                self.p("<");
+                let n = self.rng.below(3);
+                for k in 0..=n {
+                    self.run(levels - 1, false);
+                    if k < n {
+                        self.p(",");
+                    }
+                }
+                self.p(">");
+            }
+            8 => {
+                self.p("&'");
+                self.i("a");
+                self.name();
+            }
+            9 if deep => self.group(1, |b| {
+                b.run(levels - 1, false);
+                if b.chance(2) {
+                    b.p(";");
+                    b.l();
+                }
+            }),
+            10 if deep && !no_groups => self.group(0, |b| {
+                b.run(levels - 1, false);
+                b.p(",");
+                b.run(levels - 1, false);
+            }),
+            11 | 12 if deep => {
+                if no_groups {
+                    self.i("Box");
+                    self.p("<");
+                }
+                self.i("Fn");
+                self.group(0, |b| b.run(levels - 1, false));
+                self.p("->");
+                self.run(levels - 1, false);
+                if no_groups {
+                    self.p(">");
+                }
+            }
+            13 => {
+                self.i("for");
+                self.p("<'");
+                self.i("a");
+                self.p(">");
+                self.name();
+            }
+            14 => self.l(),
+            15 if deep => self.group(3, |b| b.run(levels - 1, false)),
+            16 if deep && !no_groups => self.group(2, |b| b.stuff(3, 1)),
+            17 => {
+                let text = self
+                    .rng
+                    .pick(&["?", "*", "!", "->", "&", "'", "=", "-", ":"]);
+                self.p(text);
+                self.name();
+            }
+            18 if self.chance(4) => self.p("<"),
+            19 if self.chance(4) => self.p(">"),
+            20 if self.chance(3) => self.p("->"),
+            21 if self.chance(4) => self.p("#"),
+            _ => {
+                self.name();
+                self.p(":");
+                self.name();
+            }
+        }
+    }
+}

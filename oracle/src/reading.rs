@@ -1,0 +1,172 @@
+//! What the Rust's answer to an accepted list says of its rows, and its listing.
+
+use crate::check::END;
+use crate::parse::{Attribute, Fields, Generic, Parse, UnnamedField};
+use crate::refusals::place;
+use proc_macro::{Span, TokenTree};
+
+pub struct Reading<'a> {
+    mate: &'a [usize],
+    /// A letter for each row that is named, `.` for the others.
+    pub roles: Vec<u8>,
+    pub listing: String,
+}
+
+impl<'a> Reading<'a> {
+    pub fn new(rows: usize, mate: &'a [usize], parse: &Parse) -> Self {
+        let mut r = Reading {
+            mate,
+            roles: vec![b'.'; rows],
+            listing: String::from("part name number\n"),
+        };
+        let (
+            Parse::Struct {
+                attributes,
+                name,
+                generics,
+                generic_constraints,
+                ..
+            }
+            | Parse::Enum {
+                attributes,
+                name,
+                generics,
+                generic_constraints,
+                ..
+            },
+        ) = (parse,);
+        r.attributes(attributes);
+        r.mark(name.span(), 7);
+        let (word, count) = match parse {
+            Parse::Struct { body, .. } => ("struct", count(&body.fields)),
+            Parse::Enum { body, .. } => ("enum", body.variants.len()),
+        };
+        r.line(word, &name.to_string(), &count.to_string());
+        if let Some(generics) = generics {
+            for generic in generics.iter() {
+                r.param(generic);
+            }
+        }
+        if let Some(constraints) = generic_constraints {
+            // The run is private; the Rust's own `where` clause is the word and then the run.
+            for token in constraints.where_clause().stream.into_iter().skip(1) {
+                r.tree(&token, 13);
+            }
+        }
+        match parse {
+            Parse::Struct { body, .. } => r.fields(&body.fields),
+            Parse::Enum { body, .. } => {
+                for (position, variant) in body.variants.iter().enumerate() {
+                    r.attributes(&variant.attributes);
+                    r.mark(variant.name.span(), 15);
+                    let number = match &variant.value {
+                        Some(value) => {
+                            // A negative is a new literal, with no row.
+                            r.mark(value.span(), 16);
+                            value.to_string()
+                        }
+                        None => position.to_string(),
+                    };
+                    r.line("variant", &variant.name.to_string(), &number);
+                    r.fields(&variant.fields);
+                }
+            }
+        }
+        r
+    }
+
+    fn line(&mut self, part: &str, name: &str, number: &str) {
+        self.listing += &format!("{part} {name} {number}\n");
+    }
+
+    fn set(&mut self, row: usize, role: u8) {
+        assert_eq!(self.roles[row], b'.', "no row is named twice");
+        self.roles[row] = b'a' + role;
+    }
+
+    fn mark(&mut self, span: Span, role: u8) {
+        let row = place(span);
+        if row != END {
+            self.set(row, role);
+        }
+    }
+
+    /// A token of a run or an attribute: a group with all its rows.
+    fn tree(&mut self, token: &TokenTree, role: u8) {
+        let row = place(token.span());
+        assert_ne!(row, END, "a token of the list has a row");
+        for n in row..=self.mate[row].max(row) {
+            self.set(n, role);
+        }
+    }
+
+    fn attributes(&mut self, attributes: &[Attribute]) {
+        for attribute in attributes {
+            self.mark(attribute.punct.span(), 1);
+            self.tree(&TokenTree::Group(attribute.tokens.clone()), 2);
+        }
+    }
+
+    fn param(&mut self, generic: &Generic) {
+        let name = generic.ident();
+        self.mark(name.span(), 9);
+        let mut text = name.to_string();
+        match generic {
+            Generic::Lifetime(lifetime) => {
+                // The Rust drops the `'`, which stands directly before the name.
+                let row = place(name.span());
+                self.set(row - 1, 9);
+                text.insert(0, '\'');
+                for token in &lifetime.constraint {
+                    self.tree(token, 11);
+                }
+            }
+            Generic::Generic(simple) => {
+                for token in simple.constraints.iter().chain(&simple.default_value) {
+                    self.tree(token, 11);
+                }
+            }
+            Generic::Const(constant) => {
+                self.mark(constant.const_token.span(), 9);
+                for token in &constant.constraints {
+                    self.tree(token, 11);
+                }
+            }
+        }
+        self.line("param", &text, "-");
+    }
+
+    fn fields(&mut self, fields: &Option<Fields>) {
+        match fields {
+            None => {}
+            Some(Fields::Struct(fields)) => {
+                for (position, (name, field)) in fields.iter().enumerate() {
+                    self.mark(name.span(), 17);
+                    self.field(field);
+                    self.line("field", &name.to_string(), &position.to_string());
+                }
+            }
+            Some(Fields::Tuple(fields)) => {
+                for (position, field) in fields.iter().enumerate() {
+                    self.field(field);
+                    self.line("field", "-", &position.to_string());
+                }
+            }
+        }
+    }
+
+    fn field(&mut self, field: &UnnamedField) {
+        self.attributes(&field.attributes);
+        for token in &field.r#type {
+            self.tree(token, 18);
+        }
+    }
+}
+
+fn count(fields: &Option<Fields>) -> usize {
+    match fields {
+        None => 0,
+        Some(Fields::Struct(fields)) => fields.len(),
+        Some(Fields::Tuple(fields)) => fields.len(),
+    }
+}
