@@ -229,23 +229,23 @@ balanced-row r rs ds ih e = kind (eqb (r .kind) 111) (eqb (r .kind) 99) refl ref
   where
     kind : (o c : Bool) → eqb (r .kind) 111 ≡ o → eqb (r .kind) 99 ≡ c → Balanced (r ∷ rs) ds
     kind true c a b =
-        let bl = ih (first (r .text) ∷ ds) (and-parts _ _ (sym (chosen _ _ _ a) ∙ nest-rest r rs ds e) .1) in
+        let bl = ih (first (r .text) ∷ ds) (and-parts (ltb (length ds) 32) _ (sym (chosen _ _ _ a) ∙ nest-rest r rs ds e) .1) in
         record {
-          outer = ap (λ (st : Streams). length (st .outer)) (before-open r (streams rs) (eqb-true _ _ a)) ∙ others-length _ _ (bl .outer);
-          whole = and-both _ _ (bl .whole) (chosen _ _ _ a ∙ follows-of _ _ (bl .outer));
+          outer = ap (λ (st : Streams). length (st .outer)) (before-open r (streams rs) (eqb-true _ _ a)) ∙ others-length (streams rs .outer) (length ds) (bl .outer);
+          whole = and-both _ _ (bl .whole) (chosen _ (follows (streams rs .outer)) true a ∙ follows-of (streams rs .outer) (length ds) (bl .outer));
         }
     kind false true a b =
-        let p = and-parts _ _ (sym (passed-over _ _ _ a ∙ chosen _ _ _ b) ∙ nest-rest r rs ds e) in
+        let p = and-parts (closedBy ds (first (r .text))) _ (sym (passed-over _ _ _ a ∙ chosen _ _ _ b) ∙ nest-rest r rs ds e) in
         let bl = ih (enclosing ds) (p .1) in
         record {
-          outer = ap (λ (st : Streams). length (st .outer)) (before-close r (streams rs) (eqb-true _ _ b)) ∙ ap suc (bl .outer) ∙ sym (enclosed ds _ (p .0));
-          whole = and-both _ _ (bl .whole) (passed-over _ _ _ a);
+          outer = ap (λ (st : Streams). length (st .outer)) (before-close r (streams rs) (eqb-true _ _ b)) ∙ ap suc (bl .outer) ∙ sym (enclosed ds (first (r .text)) (p .0));
+          whole = and-both _ _ (bl .whole) (passed-over _ (follows (streams rs .outer)) true a);
         }
     kind false false a b =
         let bl = ih ds (sym (passed-over _ _ _ a ∙ passed-over _ _ _ b) ∙ nest-rest r rs ds e) in
         record {
           outer = ap (λ (st : Streams). length (st .outer)) (before-leaf r (streams rs) (eqb-false _ _ a) (eqb-false _ _ b)) ∙ bl .outer;
-          whole = and-both _ _ (bl .whole) (passed-over _ _ _ a);
+          whole = and-both _ _ (bl .whole) (passed-over _ (follows (streams rs .outer)) true a);
         }
 
 balanced : (rs : List Row) (ds : List ℕ) → nested ds rs ≡ true → Balanced rs ds
