@@ -1,0 +1,37 @@
+-- The whole answer of the reader of declarations, and the whole role buffer (document 01, "What the reader hands back").
+use mathlib.Core.Bool.{Bool, true, false, cond}
+use mathlib.Core.List.{List, [], _∷_, _++_}
+use Prim.Native.Nat.{ℕ, _-_}
+use lib.Dec.{ltb}
+use lib.ListN.{length, replicate}
+use Rattle.token_list.specs.Check as list
+use Rattle.token_list.specs.Stream.{Trees, size, at}
+use Rattle.parse.specs.Role as role
+use Rattle.parse.specs.Declaration.{Declaration}
+use Rattle.parse.specs.Took.{Took, took, refuse}
+use Rattle.parse.specs.Reading.{item}
+
+pub data Answer : Type 0 where
+  -- the declaration, and the role of each row
+  declared : Declaration → List ℕ → Answer
+  -- the refusal's number and place
+  refused : ℕ → ℕ → Answer
+
+-- the rows after the item are left over
+abbrev pub itemAnswer : Took Declaration → Answer
+itemAnswer (took d rs us) = declared d (rs ++ replicate (size us) role.left-over)
+itemAnswer (refuse n p) = refused n p
+
+-- a list that passes the list check with so many rows, and a buffer of n bytes
+abbrev pub checkedAnswer : List ℕ → ℕ → list.Answer → Answer
+checkedAnswer s n (list.Answer.refused m p) = refused m p
+checkedAnswer s n (list.Answer.passed rows) = cond (ltb n rows) (refused 8 list.END) (itemAnswer (item 0 (at s 10 .here)))
+
+-- for a list s and a role buffer of n bytes
+unfoldable pub answer : List ℕ → ℕ → Answer
+answer s n = checkedAnswer s n (list.check s)
+
+-- the roles, then 255; after a refusal 255 throughout
+abbrev pub buffer : ℕ → Answer → List ℕ
+buffer n (declared d rs) = rs ++ replicate (n - length rs) 255
+buffer n (refused m p) = replicate n 255

@@ -1,0 +1,52 @@
+-- What a declaration says, as plain data without places. Names are texts; runs are the tokens that they hold.
+use mathlib.Core.List.{List}
+use Prim.Native.Nat.{ℕ}
+use Rattle.token_list.specs.Stream.{Trees}
+
+-- `struct` or `enum`
+pub data Kind : Type 0 where
+  struct : Kind
+  enum : Kind
+
+-- GenericParam of the Reference: LifetimeParam, ConstParam, TypeParam. An absent run is empty.
+pub data Parameter : Type 0 where
+  -- name and bounds
+  lifetime : List ℕ → Trees → Parameter
+  -- name and type
+  constant : List ℕ → Trees → Parameter
+  -- name, bounds and default
+  type : List ℕ → Trees → Trees → Parameter
+
+-- StructField: name and type. TupleField: type.
+pub record Field : Type 0 where
+  pub name : List ℕ
+  pub type : Trees
+
+pub data Fields : Type 0 where
+  unit : Fields
+  named : List Field → Fields
+  tuple : List Trees → Fields
+
+-- a variant's value: none, a literal's text, or the negative of a number
+pub data Value : Type 0 where
+  absent : Value
+  literal : List ℕ → Value
+  negative : ℕ → Value
+
+-- EnumItem
+pub record Variant : Type 0 where
+  pub name : List ℕ
+  pub fields : Fields
+  pub value : Value
+
+pub data Body : Type 0 where
+  fields : Fields → Body
+  variants : List Variant → Body
+
+-- Struct or Enumeration
+pub record Declaration : Type 0 where
+  pub kind : Kind
+  pub name : List ℕ
+  pub parameters : List Parameter
+  pub clause : Trees
+  pub body : Body

@@ -1,0 +1,448 @@
+-- What the reader of declarations answers (document 01, "Runs", "Role grammar" and the table of refusals), one definition for
+-- each reader of the Rust. Productions are those of the Rust Reference 1.63.
+use mathlib.Core.Bool.{Bool, true, false, cond, not, _&&_, _||_}
+use mathlib.Core.List.{List, [], _∷_, _++_}
+use Prim.Native.Nat.{ℕ, zero, suc, _+_, _-_, _*_}
+use lib.Dec.{leb, eqb}
+use lib.ListN.{length, replicate}
+use Rattle.token_list.specs.Text.{same, all, digit, member}
+use Rattle.token_list.specs.Row.{Row, first}
+use Rattle.token_list.specs.Check.{END}
+use Rattle.token_list.specs.Stream.{Trees, end, leaf, group, size}
+use Rattle.parse.specs.Role as role
+use Rattle.parse.specs.Declaration.{Kind, struct, enum, Parameter, lifetime, constant, type, Field, Fields, unit, named, tuple, Value, absent, literal, negative, Variant, Body, fields, variants, Declaration}
+use Rattle.parse.specs.Took.{Took, took, refuse, Reader, onward, after, _>>=_, pure, placeOf, wrong}
+
+-- ## Tokens
+
+abbrev pub isIdent : Row → Bool
+isIdent r = eqb (r .kind) 105
+
+abbrev pub isLiteral : Row → Bool
+isLiteral r = eqb (r .kind) 108
+
+abbrev pub isPunct : ℕ → Row → Bool
+isPunct b r = eqb (r .kind) 112 && eqb (first (r .text)) b
+
+abbrev pub isWord : List ℕ → Row → Bool
+isWord t r = isIdent r && same (r .text) t
+
+-- the rows of a group: its opening row, its inside, its closing row
+abbrev pub whole : Trees → ℕ
+whole ts = 1 + size ts + 1
+
+-- a copied group: the same role for all its rows
+abbrev pub copied : ℕ → Trees → List ℕ
+copied r ts = replicate (whole ts) r
+
+-- ## Words and punctuation (parse/utils.rs)
+
+-- a word: the ident's text and row
+pub data Word : Type 0 where
+  missing : Word
+  found : List ℕ → ℕ → Word
+
+-- a stream of one token that passes the test
+abbrev pub lone : (Row → Bool) → Trees → Bool
+lone p end = false
+lone p (group d ts us) = false
+lone p (leaf r end) = p r
+lone p (leaf r (leaf q us)) = false
+lone p (leaf r (group d ts us)) = false
+
+abbrev pub textOf : Trees → List ℕ
+textOf end = []
+textOf (group d ts us) = []
+textOf (leaf r ts) = r .text
+
+-- an ident, or a group that holds just one
+abbrev pub word : ℕ → Reader Word
+word r row end = took missing [] end
+word r row (leaf q us) = cond (isIdent q) (took (found (q .text) row) (r ∷ []) us) (took missing [] (leaf q us))
+word r row (group d ts us) = cond (lone isIdent ts) (took (found (textOf ts) (row + 1)) (copied r ts) us) (took missing [] (group d ts us))
+
+abbrev pub punctIf : ℕ → ℕ → Reader Bool
+punctIf b r row end = took false [] end
+punctIf b r row (leaf q us) = cond (isPunct b q) (took true (r ∷ []) us) (took false [] (leaf q us))
+punctIf b r row (group d ts us) = took false [] (group d ts us)
+
+-- ## Runs
+
+pub record Stops : Type 0 where
+  pub comma : Bool
+  pub angle : Bool
+  pub group : Bool
+
+pub data Ending : Type 0 where
+  atComma atAngle atGroup atEnd : Ending
+
+-- what a token is to a run: it belongs, with the depth and whether a `-` was last from then on; it ends the run; or it is a
+-- `>` with nothing open
+pub data Verdict : Type 0 where
+  belongs : ℕ → Bool → Verdict
+  ends : Ending → Verdict
+  unopened : Verdict
+
+-- rules 1, 2, 3, 4 and 6, for < > , and -
+abbrev pub judgePunct : Stops → ℕ → Bool → ℕ → Verdict
+judgePunct st depth minus b =
+    cond (minus && eqb b 62) (belongs depth false)
+    (cond (eqb b 60) (belongs (depth + 1) false)
+    (cond (eqb b 62) (cond (eqb depth 0) (cond (st .angle) (ends atAngle) unopened) (belongs (depth - 1) false))
+    (cond (eqb b 44 && (eqb depth 0 && st .comma)) (ends atComma) (belongs depth (eqb b 45)))))
+
+abbrev pub judge : Stops → ℕ → Bool → Row → Verdict
+judge st depth minus r = cond (eqb (r .kind) 112) (judgePunct st depth minus (first (r .text))) (belongs depth false)
+
+-- rules 5 and 6, for { and (
+abbrev pub judgeGroup : Stops → ℕ → ℕ → Verdict
+judgeGroup st depth d = cond (eqb depth 0 && (st .group && (eqb d 123 || eqb d 40))) (ends atGroup) (belongs depth false)
+
+abbrev pub judged : Verdict → (ℕ → Bool → Took Ending) → Trees → ℕ → Took Ending
+judged (belongs depth minus) go ts row = go depth minus
+judged (ends e) go ts row = took e [] ts
+judged unopened go ts row = refuse 15 row
+
+-- read_tokens_until_punct: the rows of the run get the role r
+abbrev pub runFrom : Stops → ℕ → ℕ → Bool → Reader Ending
+runFrom st r depth minus row end = took atEnd [] end
+runFrom st r depth minus row (leaf q us) =
+    judged (judge st depth minus q) (λ e m. onward (r ∷ []) (runFrom st r e m (row + 1) us)) (leaf q us) row
+runFrom st r depth minus row (group d ts us) =
+    judged (judgeGroup st depth d) (λ e m. onward (copied r ts) (runFrom st r e m (row + whole ts) us)) (group d ts us) row
+
+-- the first tokens of a stream, n rows in all
+abbrev pub front : Trees → ℕ → Trees
+front end n = end
+front (leaf r us) zero = end
+front (leaf r us) (suc n) = leaf r (front us n)
+front (group d ts us) zero = end
+front (group d ts us) (suc n) = group d ts (front us (n - (1 + size ts)))
+
+abbrev pub kept : Trees → Took Ending → Took Trees
+kept ts (took e rs us) = took (front ts (length rs)) rs us
+kept ts (refuse n p) = refuse n p
+
+-- a run, with what it holds
+abbrev pub run : Stops → ℕ → Reader Trees
+run st r row ts = kept ts (runFrom st r 0 false row ts)
+
+abbrev pub runIf : Bool → Stops → ℕ → Reader Trees
+runIf true st r = run st r
+runIf false st r = pure end
+
+abbrev pub parameterStops : Stops
+parameterStops = record { comma = true; angle = true; group = false }
+
+abbrev pub fieldStops : Stops
+fieldStops = record { comma = true; angle = false; group = false }
+
+abbrev pub clauseStops : Stops
+clauseStops = record { comma = false; angle = false; group = true }
+
+-- ## Attributes (parse/attributes.rs; OuterAttribute): `#` is 35, `[` is 91
+
+abbrev mutual
+  pub attributes : Reader (Unit {0})
+  attributes row end = took tt [] end
+  attributes row (group d ts us) = took tt [] (group d ts us)
+  attributes row (leaf r us) = cond (isPunct 35 r) (marked row us) (took tt [] (leaf r us))
+
+  -- after a `#` in the row given
+  pub marked : ℕ → Trees → Took (Unit {0})
+  marked row end = refuse 13 END
+  marked row (group d ts us) =
+      cond (eqb d 91) (onward (role.attribute-mark ∷ copied role.attribute-group ts) (attributes (row + 1 + whole ts) us)) (refuse 12 (row + 1))
+  marked row (leaf r us) = cond (isPunct 35 r) (onward (role.idle-mark ∷ []) (marked (row + 1) us)) (refuse 13 (row + 1))
+
+-- ## Visibility (parse/visibility.rs; Visibility): `(` is 40
+
+abbrev pub PUB : List ℕ
+PUB = 112 ∷ 117 ∷ 98 ∷ []
+
+-- crate, self, super or in
+abbrev pub scopeWord : Row → Bool
+scopeWord r =
+    isWord (99 ∷ 114 ∷ 97 ∷ 116 ∷ 101 ∷ []) r
+    || (isWord (115 ∷ 101 ∷ 108 ∷ 102 ∷ []) r || (isWord (115 ∷ 117 ∷ 112 ∷ 101 ∷ 114 ∷ []) r || isWord (105 ∷ 110 ∷ []) r))
+
+abbrev pub scoped : Trees → Bool
+scoped end = false
+scoped (leaf r ts) = scopeWord r
+scoped (group d ts us) = false
+
+-- the group after a plain `pub`, and after a wrapped one
+abbrev pub scopeAfter : Reader (Unit {0})
+scopeAfter row end = took tt [] end
+scopeAfter row (leaf r us) = took tt [] (leaf r us)
+scopeAfter row (group d ts us) = cond (eqb d 40 && scoped ts) (took tt (copied role.scope ts) us) (took tt [] (group d ts us))
+
+abbrev pub anyScope : Reader (Unit {0})
+anyScope row end = took tt [] end
+anyScope row (leaf r us) = took tt [] (leaf r us)
+anyScope row (group d ts us) = took tt (copied role.scope ts) us
+
+abbrev pub visibility : Reader (Unit {0})
+visibility row end = took tt [] end
+visibility row (leaf r us) = cond (isWord PUB r) (onward (role.visibility ∷ []) (scopeAfter (row + 1) us)) (took tt [] (leaf r us))
+visibility row (group d ts us) =
+    cond (lone (isWord PUB) ts) (onward (copied role.visibility ts) (anyScope (row + whole ts) us)) (took tt [] (group d ts us))
+
+-- ## The item's word and name (parse/data_type.rs)
+
+abbrev pub STRUCT : List ℕ
+STRUCT = 115 ∷ 116 ∷ 114 ∷ 117 ∷ 99 ∷ 116 ∷ []
+
+abbrev pub ENUM : List ℕ
+ENUM = 101 ∷ 110 ∷ 117 ∷ 109 ∷ []
+
+-- the word that must stand here, or 11
+abbrev pub named! : Word → Reader (List ℕ)
+named! missing = wrong 11
+named! (found t p) = pure t
+
+abbrev pub kindOf : Word → Reader Kind
+kindOf missing = wrong 11
+kindOf (found t p) = cond (same t STRUCT) (pure struct) (cond (same t ENUM) (pure enum) (λ row ts. refuse 25 p))
+
+pub record Head : Type 0 where
+  pub kind : Kind
+  pub name : List ℕ
+
+abbrev pub dataType : Reader Head
+dataType = do
+  w ← word role.item-word
+  k ← kindOf w
+  v ← word role.item-name
+  n ← named! v
+  pure (record { kind = k; name = n })
+
+-- ## Generics (parse/generics.rs; GenericParams): ' : = < > , are 39, 58, 61, 60, 62 and 44
+
+abbrev pub CONST : List ℕ
+CONST = 99 ∷ 111 ∷ 110 ∷ 115 ∷ 116 ∷ []
+
+-- an ident as a parameter's name, or a refusal: n at what stands there, or at p where nothing does
+abbrev pub parameterName : ℕ → ℕ → Reader (List ℕ)
+parameterName n p row end = refuse n p
+parameterName n p row (leaf r us) = cond (isIdent r) (took (r .text) (role.parameter-name ∷ []) us) (refuse n row)
+parameterName n p row (group d ts us) = refuse n row
+
+-- `:` or another mark, and its run
+abbrev pub marked-run : ℕ → Reader Trees
+marked-run b = do
+  t ← punctIf b role.separator
+  runIf t parameterStops role.bound
+
+-- from the `'` in the row before
+abbrev pub lifetimeAfter : ℕ → Reader Parameter
+lifetimeAfter quote = do
+  n ← parameterName 24 quote
+  b ← marked-run 58
+  pure (lifetime n b)
+
+abbrev pub constantAfter : Reader Parameter
+constantAfter = do
+  n ← parameterName 27 END
+  t ← marked-run 58
+  pure (constant n t)
+
+-- `:` and bounds, or `=` and a default
+abbrev pub typeRuns : List ℕ → Bool → Reader Parameter
+typeRuns n true = run parameterStops role.bound >>= λ b. pure (type n b end)
+typeRuns n false = marked-run 61 >>= λ d. pure (type n end d)
+
+abbrev pub typeAfter : List ℕ → Reader Parameter
+typeAfter n = do
+  t ← punctIf 58 role.separator
+  typeRuns n t
+
+-- a parameter with the `,` that may follow, or nothing at the `>`
+pub data Maybe (A : Type 0) : Type 0 where
+  done : Maybe A
+  one : A → Maybe A
+
+abbrev pub comma : {A : Type 0} → A → Reader (Maybe A)
+comma a = punctIf 44 role.separator >>= λ t. pure (one a)
+
+-- the first row of a parameter is taken with the role r
+abbrev pub from : {A : Type 0} → ℕ → ℕ → Trees → Reader A → Took A
+from r row us m = onward (r ∷ []) (m (row + 1) us)
+
+-- after the `<` in the row `angle`
+abbrev pub parameter : ℕ → Reader (Maybe Parameter)
+parameter angle row end = refuse 14 angle
+parameter angle row (group d ts us) = refuse 14 row
+parameter angle row (leaf r us) =
+    cond (isPunct 39 r) (from role.parameter-name row us (lifetimeAfter row >>= comma))
+    (cond (isPunct 62 r) (took done (role.angle ∷ []) us)
+    (cond (isWord CONST r) (from role.parameter-name row us (constantAfter >>= comma))
+    (cond (isIdent r) (from role.parameter-name row us (typeAfter (r .text) >>= comma)) (refuse 14 row))))
+
+-- ## Going round: a reader again and again until it is done; the fuel is more than the stream's rows
+
+abbrev pub more : {A : Type 0} → Reader (List A) → Maybe A → Reader (List A)
+more go done = pure []
+more go (one a) = go >>= λ xs. pure (a ∷ xs)
+
+abbrev pub rounds : {A : Type 0} → ℕ → Reader (Maybe A) → Reader (List A)
+rounds zero m row ts = refuse 0 row
+rounds (suc n) m row ts = after row (m row ts) (more (rounds n m))
+
+abbrev pub every : {A : Type 0} → Reader (Maybe A) → Reader (List A)
+every m row ts = rounds (suc (size ts)) m row ts
+
+abbrev pub generics : Reader (List Parameter)
+generics row end = took [] [] end
+generics row (group d ts us) = took [] [] (group d ts us)
+generics row (leaf r us) = cond (isPunct 60 r) (from role.angle row us (every (parameter row))) (took [] [] (leaf r us))
+
+-- ## The where clause (GenericConstraints; WhereClause)
+
+abbrev pub WHERE : List ℕ
+WHERE = 119 ∷ 104 ∷ 101 ∷ 114 ∷ 101 ∷ []
+
+abbrev pub clause : Reader Trees
+clause row end = took end [] end
+clause row (group d ts us) = took end [] (group d ts us)
+clause row (leaf r us) = cond (isWord WHERE r) (from role.where-word row us (run clauseStops role.where-run)) (took end [] (leaf r us))
+
+-- ## Bodies (parse/body.rs; StructFields, TupleFields, EnumItems): { ( ; are 123, 40 and 59
+
+-- the inside of a group, between its delimiters
+abbrev pub closing : {A : Type 0} → Trees → Took A → Took A
+closing us (took a rs rest) = took a (role.delimiter ∷ rs ++ role.delimiter ∷ []) us
+closing us (refuse n p) = refuse n p
+
+abbrev pub enclosed : {A : Type 0} → Reader A → ℕ → Trees → Trees → Took A
+enclosed m row ts us = closing us (m (row + 1) ts)
+
+abbrev pub must : ℕ → Bool → Reader (Unit {0})
+must n true = pure tt
+must n false = wrong n
+
+-- `:`, the type's run and the `,` that may follow
+abbrev pub fieldAfter : List ℕ → Reader (Maybe Field)
+fieldAfter n = do
+  t ← punctIf 58 role.separator
+  u ← must 23 t
+  f ← run fieldStops role.type
+  comma (record { name = n; type = f })
+
+-- attributes and visibility may stand alone at the end
+abbrev pub fieldStart : Reader (Maybe Field)
+fieldStart row end = took done [] end
+fieldStart row (group d ts us) = refuse 22 row
+fieldStart row (leaf r us) = cond (isIdent r) (from role.field-name row us (fieldAfter (r .text))) (refuse 22 row)
+
+abbrev pub namedField : Reader (Maybe Field)
+namedField = do
+  a ← attributes
+  v ← visibility
+  fieldStart
+
+abbrev pub tupleType : Reader (Maybe Trees)
+tupleType = do
+  a ← attributes
+  v ← visibility
+  t ← run fieldStops role.type
+  comma t
+
+abbrev pub tupleField : Reader (Maybe Trees)
+tupleField row end = took done [] end
+tupleField row (leaf r us) = tupleType row (leaf r us)
+tupleField row (group d ts us) = tupleType row (group d ts us)
+
+abbrev pub namedFields : Reader Fields
+namedFields = every namedField >>= λ fs. pure (named fs)
+
+abbrev pub tupleFields : Reader Fields
+tupleFields = every tupleField >>= λ ts. pure (tuple ts)
+
+-- EnumItemTuple or EnumItemStruct
+abbrev pub variantFields : Reader Fields
+variantFields row end = took unit [] end
+variantFields row (leaf r us) = took unit [] (leaf r us)
+variantFields row (group d ts us) =
+    cond (eqb d 123) (enclosed namedFields row ts us) (cond (eqb d 40) (enclosed tupleFields row ts us) (refuse 19 row))
+
+-- the worth of decimal digits
+abbrev pub worthFrom : ℕ → List ℕ → ℕ
+worthFrom n [] = n
+worthFrom n (b ∷ bs) = worthFrom (n * 10 + (b - 48)) bs
+
+abbrev pub worth : List ℕ → ℕ
+worth t = worthFrom 0 t
+
+-- digits alone, worth at most the largest i64
+unfoldable pub negatable : List ℕ → Bool
+negatable t = all digit t && leb (worth t) 9223372036854775807
+
+-- after `-`
+abbrev pub negativeValue : Reader Value
+negativeValue row end = refuse 21 END
+negativeValue row (group d ts us) = refuse 21 row
+negativeValue row (leaf r us) =
+    cond (isLiteral r) (cond (negatable (r .text)) (took (negative (worth (r .text))) (role.value ∷ []) us) (refuse 26 row)) (refuse 21 row)
+
+-- EnumItemDiscriminant, after `=`: `-` is 45
+abbrev pub discriminant : Reader Value
+discriminant row end = refuse 21 END
+discriminant row (group d ts us) = refuse 21 row
+discriminant row (leaf r us) =
+    cond (isLiteral r) (took (literal (r .text)) (role.value ∷ []) us)
+    (cond (isPunct 45 r) (from role.value row us negativeValue) (refuse 21 row))
+
+abbrev pub valueIf : Reader Value
+valueIf row end = took absent [] end
+valueIf row (group d ts us) = refuse 20 row
+valueIf row (leaf r us) =
+    cond (isPunct 61 r) (from role.separator row us discriminant) (cond (isPunct 44 r) (took absent [] (leaf r us)) (refuse 20 row))
+
+-- EnumItem
+abbrev pub variantHere : Reader (Maybe Variant)
+variantHere = do
+  a ← attributes
+  w ← word role.variant-name
+  n ← named! w
+  f ← variantFields
+  v ← valueIf
+  comma (record { name = n; fields = f; value = v })
+
+abbrev pub variant : Reader (Maybe Variant)
+variant row end = took done [] end
+variant row (leaf r us) = variantHere row (leaf r us)
+variant row (group d ts us) = variantHere row (group d ts us)
+
+abbrev pub enumVariants : Reader Body
+enumVariants = every variant >>= λ vs. pure (variants vs)
+
+abbrev pub structFields : Reader Fields → Reader Body
+structFields m = m >>= λ f. pure (fields f)
+
+abbrev pub structBody : Reader Body
+structBody row end = refuse 16 END
+structBody row (leaf r us) = cond (isPunct 59 r) (took (fields unit) (role.delimiter ∷ []) us) (refuse 16 row)
+structBody row (group d ts us) =
+    cond (eqb d 123) (enclosed (structFields namedFields) row ts us) (cond (eqb d 40) (enclosed (structFields tupleFields) row ts us) (refuse 17 row))
+
+abbrev pub enumBody : Reader Body
+enumBody row end = refuse 18 END
+enumBody row (leaf r us) = cond (isPunct 59 r) (took (variants []) (role.delimiter ∷ []) us) (refuse 18 row)
+enumBody row (group d ts us) = enclosed enumVariants row ts us
+
+-- ## The item (parse/mod.rs; Struct and Enumeration)
+
+abbrev pub bodyOf : Kind → Reader Body
+bodyOf struct = structBody
+bodyOf enum = enumBody
+
+abbrev pub item : Reader Declaration
+item = do
+  a ← attributes
+  v ← visibility
+  h ← dataType
+  p ← generics
+  c ← clause
+  b ← bodyOf (h .kind)
+  pure (record { kind = h .kind; name = h .name; parameters = p; clause = c; body = b })

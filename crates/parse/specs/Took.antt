@@ -1,0 +1,41 @@
+-- What a reader answers: it takes the first rows of a stream, or refuses.
+use mathlib.Core.List.{List, [], _∷_, _++_}
+use Prim.Native.Nat.{ℕ, _+_}
+use lib.ListN.{length}
+use Rattle.token_list.specs.Check.{END}
+use Rattle.token_list.specs.Stream.{Trees, end, leaf, group}
+
+pub data Took (A : Type 0) : Type 0 where
+  -- a value, the roles of the rows that were taken, and what is left of the stream
+  took : A → List ℕ → Trees → Took A
+  -- a refusal's number and place
+  refuse : ℕ → ℕ → Took A
+
+-- from the number of the first row and the stream
+abbrev pub Reader : Type 0 → Type 0
+Reader A = ℕ → Trees → Took A
+
+-- rows taken before
+abbrev pub onward : {A : Type 0} → List ℕ → Took A → Took A
+onward rs (took a qs us) = took a (rs ++ qs) us
+onward rs (refuse n p) = refuse n p
+
+abbrev pub after : {A B : Type 0} → ℕ → Took A → (A → Reader B) → Took B
+after row (took a rs us) f = onward rs (f a (row + length rs) us)
+after row (refuse n p) f = refuse n p
+
+infixl 20 _>>=_
+abbrev pub _>>=_ : {A B : Type 0} → Reader A → (A → Reader B) → Reader B
+_>>=_ m f row ts = after row (m row ts) f
+
+abbrev pub pure : {A : Type 0} → A → Reader A
+pure a row ts = took a [] ts
+
+-- the place of what stands first: its row, or the end mark
+abbrev pub placeOf : ℕ → Trees → ℕ
+placeOf row end = END
+placeOf row (leaf r ts) = row
+placeOf row (group d ts us) = row
+
+abbrev pub wrong : {A : Type 0} → ℕ → Reader A
+wrong n row ts = refuse n (placeOf row ts)
