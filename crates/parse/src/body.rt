@@ -1,0 +1,518 @@
+// Bodies (virtue's parse/body.rs).
+use crate::attributes;
+use crate::generics::Counted;
+use crate::utils::MaybeWord;
+use crate::utils::Ran;
+use crate::utils::Step;
+use crate::utils::Stops;
+use crate::utils::consume_ident;
+use crate::utils::consume_punct_if;
+use crate::utils::is_punct;
+use crate::utils::mark;
+use crate::utils::past;
+use crate::utils::read_tokens_until_punct;
+use crate::utils::take_token;
+use crate::utils::wrong_token;
+use crate::visibility;
+use token_list::check::Cursor;
+use token_list::check::END;
+use token_list::check::Refusal;
+use token_list::stream::Peeked;
+use token_list::stream::Token;
+use token_list::stream::peek;
+use token_list::stream::skip;
+
+// Where a named field's name stands, and the cursor after the field.
+pub struct FieldAt {
+    pub name: Token,
+    pub next: Cursor,
+}
+
+pub enum FieldStep {
+    One(FieldAt),
+    Done(Cursor),
+    Refused(Refusal),
+}
+
+// A field without a name: the cursor after it.
+pub enum TypeStep {
+    One(Cursor),
+    Done(Cursor),
+    Refused(Refusal),
+}
+
+// A variant's group: none, or the cursor inside it.
+pub enum FieldsAt {
+    Unit,
+    Named(Cursor),
+    Tuple(Cursor),
+}
+
+pub enum FieldsStep {
+    At(FieldsAt, Cursor),
+    Refused(Refusal),
+}
+
+// A variant's value: none, a literal, or the literal after a `-`.
+pub enum ValueAt {
+    Absent,
+    Literal(Token),
+    Negative(Token),
+}
+
+pub enum ValueStep {
+    At(ValueAt, Cursor),
+    Refused(Refusal),
+}
+
+// Where a variant's parts stand, and the cursor after it.
+pub struct VariantAt {
+    pub name: Token,
+    pub fields: FieldsAt,
+    pub value: ValueAt,
+    pub next: Cursor,
+}
+
+pub enum VariantStep {
+    One(VariantAt),
+    Done(Cursor),
+    Refused(Refusal),
+}
+
+// Attributes and visibility, which stand before a field.
+pub fn field_start(s: &[u8], c: Cursor, roles: &mut [u8]) -> Step {
+    match attributes::try_take(s, c, roles) {
+        Step::Refused(r) => Step::Refused(r),
+        Step::At(d) => Step::At(visibility::try_take(s, d, roles)),
+    }
+}
+
+// A type's run and the `,` that may follow.
+pub fn field_type(s: &[u8], c: Cursor, roles: &mut [u8]) -> Step {
+    match read_tokens_until_punct(
+        s,
+        c,
+        roles,
+        Stops {
+            comma: true,
+            angle: false,
+            group: false,
+        },
+        18,
+    ) {
+        Ran::Refused(r) => Step::Refused(r),
+        Ran::At(d, _) => {
+            let p = consume_punct_if(s, d, roles, b',', 10);
+            let next = p.next;
+            Step::At(next)
+        }
+    }
+}
+
+// `:` and a type.
+pub fn field_after(s: &[u8], c: Cursor, roles: &mut [u8]) -> Step {
+    let p = consume_punct_if(s, c, roles, b':', 10);
+    let next = p.next;
+    if !p.taken {
+        return Step::Refused(wrong_token(s, next, 23));
+    }
+    field_type(s, next, roles)
+}
+
+// One named field, or the end.
+pub fn named_field(s: &[u8], c: Cursor, roles: &mut [u8]) -> FieldStep {
+    match field_start(s, c, roles) {
+        Step::Refused(r) => FieldStep::Refused(r),
+        Step::At(d) => {
+            let row = d.row;
+            match peek(s, d) {
+                Peeked::Nothing => FieldStep::Done(d),
+                Peeked::Group(_) => FieldStep::Refused(Refusal {
+                    number: 22,
+                    place: row,
+                }),
+                Peeked::Leaf(t) => {
+                    if t.kind != b'i' {
+                        return FieldStep::Refused(Refusal {
+                            number: 22,
+                            place: row,
+                        });
+                    }
+                    let next = take_token(s, d, t, roles, 17);
+                    match field_after(s, next, roles) {
+                        Step::Refused(r) => FieldStep::Refused(r),
+                        Step::At(e) => FieldStep::One(FieldAt { name: t, next: e }),
+                    }
+                }
+            }
+        }
+    }
+}
+
+// One field without a name, or the end.
+pub fn tuple_field(s: &[u8], c: Cursor, roles: &mut [u8]) -> TypeStep {
+    match peek(s, c) {
+        Peeked::Nothing => TypeStep::Done(c),
+        Peeked::Leaf(_) => tuple_type(s, c, roles),
+        Peeked::Group(_) => tuple_type(s, c, roles),
+    }
+}
+
+pub fn tuple_type(s: &[u8], c: Cursor, roles: &mut [u8]) -> TypeStep {
+    match field_start(s, c, roles) {
+        Step::Refused(r) => TypeStep::Refused(r),
+        Step::At(d) => match field_type(s, d, roles) {
+            Step::Refused(r) => TypeStep::Refused(r),
+            Step::At(e) => TypeStep::One(e),
+        },
+    }
+}
+
+// virtue's UnnamedField::parse_with_name
+pub fn parse_with_name(s: &[u8], from: Cursor, roles: &mut [u8]) -> Counted {
+    let mut c = from;
+    let mut count = 0;
+    loop {
+        match named_field(s, c, roles) {
+            FieldStep::One(f) => {
+                c = f.next;
+                count += 1;
+            }
+            FieldStep::Done(d) => {
+                return Counted::At(d, count);
+            }
+            FieldStep::Refused(r) => {
+                return Counted::Refused(r);
+            }
+        }
+    }
+}
+
+// virtue's UnnamedField::parse
+pub fn parse(s: &[u8], from: Cursor, roles: &mut [u8]) -> Counted {
+    let mut c = from;
+    let mut count = 0;
+    loop {
+        match tuple_field(s, c, roles) {
+            TypeStep::One(d) => {
+                c = d;
+                count += 1;
+            }
+            TypeStep::Done(d) => {
+                return Counted::At(d, count);
+            }
+            TypeStep::Refused(r) => {
+                return Counted::Refused(r);
+            }
+        }
+    }
+}
+
+// The fields of a group of this delimiter, `{` or `(`, whose inside starts at c.
+pub fn fields(s: &[u8], c: Cursor, roles: &mut [u8], brace: bool) -> Counted {
+    if brace {
+        return parse_with_name(s, c, roles);
+    }
+    parse(s, c, roles)
+}
+
+// The group that opens at c, with its delimiters.
+pub fn fields_group(s: &[u8], c: Cursor, t: Token, roles: &mut [u8], brace: bool) -> Counted {
+    let inside = take_token(s, c, t, roles, 14);
+    match fields(s, inside, roles, brace) {
+        Counted::Refused(r) => Counted::Refused(r),
+        Counted::At(d, count) => {
+            let row = d.row;
+            mark(roles, row, 14);
+            let after = skip(s, d);
+            Counted::At(after, count)
+        }
+    }
+}
+
+// A variant's group, where one stands.
+pub fn variant_fields(s: &[u8], c: Cursor, roles: &mut [u8]) -> FieldsStep {
+    let row = c.row;
+    match peek(s, c) {
+        Peeked::Nothing => FieldsStep::At(FieldsAt::Unit, c),
+        Peeked::Leaf(_) => FieldsStep::At(FieldsAt::Unit, c),
+        Peeked::Group(t) => {
+            let d = t.mark;
+            let inside = past(s, c, t);
+            if d == b'{' {
+                return match fields_group(s, c, t, roles, true) {
+                    Counted::Refused(r) => FieldsStep::Refused(r),
+                    Counted::At(e, _) => FieldsStep::At(FieldsAt::Named(inside), e),
+                };
+            }
+            if d == b'(' {
+                return match fields_group(s, c, t, roles, false) {
+                    Counted::Refused(r) => FieldsStep::Refused(r),
+                    Counted::At(e, _) => FieldsStep::At(FieldsAt::Tuple(inside), e),
+                };
+            }
+            FieldsStep::Refused(Refusal {
+                number: 19,
+                place: row,
+            })
+        }
+    }
+}
+
+// Whether the text is digits alone, worth at most the largest i64.
+pub fn is_negatable(s: &[u8], start: usize, end: usize) -> bool {
+    let mut n: u64 = 0;
+    let mut i = start;
+    while i < end {
+        let b = s[i];
+        if b < b'0' {
+            return false;
+        }
+        if b'9' < b {
+            return false;
+        }
+        if 9223372036854775807 < n {
+            return false;
+        }
+        let digit = (b - b'0') as u64;
+        if 922337203685477580 < n {
+            n = 9223372036854775808;
+        } else {
+            n = n * 10 + digit;
+        }
+        i += 1;
+    }
+    n <= 9223372036854775807
+}
+
+// The literal after a `-`.
+pub fn negative_value(s: &[u8], c: Cursor, roles: &mut [u8]) -> ValueStep {
+    let row = c.row;
+    match peek(s, c) {
+        Peeked::Nothing => ValueStep::Refused(Refusal {
+            number: 21,
+            place: END,
+        }),
+        Peeked::Group(_) => ValueStep::Refused(Refusal {
+            number: 21,
+            place: row,
+        }),
+        Peeked::Leaf(t) => {
+            if t.kind != b'l' {
+                return ValueStep::Refused(Refusal {
+                    number: 21,
+                    place: row,
+                });
+            }
+            let start = t.start;
+            let end = t.end;
+            if !is_negatable(s, start, end) {
+                return ValueStep::Refused(Refusal {
+                    number: 26,
+                    place: row,
+                });
+            }
+            let next = take_token(s, c, t, roles, 16);
+            ValueStep::At(ValueAt::Negative(t), next)
+        }
+    }
+}
+
+// What follows a variant's `=`.
+pub fn discriminant(s: &[u8], c: Cursor, roles: &mut [u8]) -> ValueStep {
+    let row = c.row;
+    match peek(s, c) {
+        Peeked::Nothing => ValueStep::Refused(Refusal {
+            number: 21,
+            place: END,
+        }),
+        Peeked::Group(_) => ValueStep::Refused(Refusal {
+            number: 21,
+            place: row,
+        }),
+        Peeked::Leaf(t) => {
+            if t.kind == b'l' {
+                let next = take_token(s, c, t, roles, 16);
+                return ValueStep::At(ValueAt::Literal(t), next);
+            }
+            if is_punct(t, b'-') {
+                let next = take_token(s, c, t, roles, 16);
+                return negative_value(s, next, roles);
+            }
+            ValueStep::Refused(Refusal {
+                number: 21,
+                place: row,
+            })
+        }
+    }
+}
+
+// A variant's value, where one stands; else a `,` or the end must follow.
+pub fn value_if(s: &[u8], c: Cursor, roles: &mut [u8]) -> ValueStep {
+    let row = c.row;
+    match peek(s, c) {
+        Peeked::Nothing => ValueStep::At(ValueAt::Absent, c),
+        Peeked::Group(_) => ValueStep::Refused(Refusal {
+            number: 20,
+            place: row,
+        }),
+        Peeked::Leaf(t) => {
+            if is_punct(t, b'=') {
+                let next = take_token(s, c, t, roles, 10);
+                return discriminant(s, next, roles);
+            }
+            if is_punct(t, b',') {
+                return ValueStep::At(ValueAt::Absent, c);
+            }
+            ValueStep::Refused(Refusal {
+                number: 20,
+                place: row,
+            })
+        }
+    }
+}
+
+pub enum NameStep {
+    At(Token, Cursor),
+    Refused(Refusal),
+}
+
+// A variant's attributes and name.
+pub fn variant_name(s: &[u8], c: Cursor, roles: &mut [u8]) -> NameStep {
+    match attributes::try_take(s, c, roles) {
+        Step::Refused(r) => NameStep::Refused(r),
+        Step::At(d) => match consume_ident(s, d, roles, 15) {
+            MaybeWord::Missing => NameStep::Refused(wrong_token(s, d, 11)),
+            MaybeWord::Found(w) => {
+                let name = w.token;
+                let next = w.next;
+                NameStep::At(name, next)
+            }
+        },
+    }
+}
+
+// A variant's value and the `,` that may follow.
+pub fn variant_value(s: &[u8], c: Cursor, roles: &mut [u8]) -> ValueStep {
+    match value_if(s, c, roles) {
+        ValueStep::Refused(r) => ValueStep::Refused(r),
+        ValueStep::At(v, d) => {
+            let p = consume_punct_if(s, d, roles, b',', 10);
+            let next = p.next;
+            ValueStep::At(v, next)
+        }
+    }
+}
+
+pub fn variant_here(s: &[u8], c: Cursor, roles: &mut [u8]) -> VariantStep {
+    match variant_name(s, c, roles) {
+        NameStep::Refused(r) => VariantStep::Refused(r),
+        NameStep::At(name, d) => match variant_fields(s, d, roles) {
+            FieldsStep::Refused(r) => VariantStep::Refused(r),
+            FieldsStep::At(fields, e) => match variant_value(s, e, roles) {
+                ValueStep::Refused(r) => VariantStep::Refused(r),
+                ValueStep::At(value, next) => VariantStep::One(VariantAt {
+                    name,
+                    fields,
+                    value,
+                    next,
+                }),
+            },
+        },
+    }
+}
+
+// One variant, or the end.
+pub fn variant(s: &[u8], c: Cursor, roles: &mut [u8]) -> VariantStep {
+    match peek(s, c) {
+        Peeked::Nothing => VariantStep::Done(c),
+        Peeked::Leaf(_) => variant_here(s, c, roles),
+        Peeked::Group(_) => variant_here(s, c, roles),
+    }
+}
+
+pub fn variants(s: &[u8], from: Cursor, roles: &mut [u8]) -> Counted {
+    let mut c = from;
+    let mut count = 0;
+    loop {
+        match variant(s, c, roles) {
+            VariantStep::One(v) => {
+                c = v.next;
+                count += 1;
+            }
+            VariantStep::Done(d) => {
+                return Counted::At(d, count);
+            }
+            VariantStep::Refused(r) => {
+                return Counted::Refused(r);
+            }
+        }
+    }
+}
+
+// virtue's StructBody::take
+pub fn take_struct(s: &[u8], c: Cursor, roles: &mut [u8]) -> Counted {
+    let row = c.row;
+    match peek(s, c) {
+        Peeked::Nothing => Counted::Refused(Refusal {
+            number: 16,
+            place: END,
+        }),
+        Peeked::Leaf(t) => {
+            if !is_punct(t, b';') {
+                return Counted::Refused(Refusal {
+                    number: 16,
+                    place: row,
+                });
+            }
+            let next = take_token(s, c, t, roles, 14);
+            Counted::At(next, 0)
+        }
+        Peeked::Group(t) => {
+            let d = t.mark;
+            if d == b'{' {
+                return fields_group(s, c, t, roles, true);
+            }
+            if d == b'(' {
+                return fields_group(s, c, t, roles, false);
+            }
+            Counted::Refused(Refusal {
+                number: 17,
+                place: row,
+            })
+        }
+    }
+}
+
+// virtue's EnumBody::take
+pub fn take_enum(s: &[u8], c: Cursor, roles: &mut [u8]) -> Counted {
+    let row = c.row;
+    match peek(s, c) {
+        Peeked::Nothing => Counted::Refused(Refusal {
+            number: 18,
+            place: END,
+        }),
+        Peeked::Leaf(t) => {
+            if !is_punct(t, b';') {
+                return Counted::Refused(Refusal {
+                    number: 18,
+                    place: row,
+                });
+            }
+            let next = take_token(s, c, t, roles, 14);
+            Counted::At(next, 0)
+        }
+        Peeked::Group(t) => {
+            let inside = take_token(s, c, t, roles, 14);
+            match variants(s, inside, roles) {
+                Counted::Refused(r) => Counted::Refused(r),
+                Counted::At(d, count) => {
+                    let at = d.row;
+                    mark(roles, at, 14);
+                    let after = skip(s, d);
+                    Counted::At(after, count)
+                }
+            }
+        }
+    }
+}
