@@ -7,6 +7,17 @@ use token_list::stream::Token;
 use token_list::stream::peek;
 use token_list::stream::skip;
 use token_list::text::text_is;
+ghost use mathlib.Core.Path.{_≡_};
+ghost use mathlib.Core.Bool.{Bool, true, false, cond, _&&_};
+ghost use Prim.Native.Nat.{_+_, _-_, _^_, _≤_, _<_};
+ghost use lib.Dec.{eqb};
+ghost use lib.ListN.{length, set, replicate};
+ghost use lib.Seq.{sets};
+ghost use Rattle.token_list.specs.Stream.{at, head, follows};
+ghost use Rattle.token_list.specs.Contract.{InList, TokenAt, GroupAt, rowOf};
+ghost use Rattle.parse.specs.Took.{placeOf};
+ghost use Rattle.parse.specs.Reading.{isWord, copied, word, punctIf, judgePunct, judgeGroup, belongs, runFrom};
+ghost use Rattle.parse.specs.Contract.{Moved, Meets, on, stream, pastOf, wordSaid, wordShown, loneShown, stopsOf, verdictOf, Turned, ranSaid, ranShown};
 
 // The answer of a reader: where it stopped, or a refusal.
 pub enum Step {
@@ -68,14 +79,18 @@ pub enum RunTurn {
 }
 
 // One role byte, where the buffer has it.
-pub fn mark(roles: &mut [u8], row: usize, role: u8) {
+pub fn mark(roles: &mut [u8], row: usize, role: u8)
+    ensures { λ _. ⌜ now (roles .exit) ≡ set (now (roles .entry)) row role ⌝ }
+{
     if row < roles.len() {
         roles[row] = role;
     }
 }
 
 // The same role for the rows from `from` up to `to`.
-pub fn fill(roles: &mut [u8], from: usize, to: usize, role: u8) {
+pub fn fill(roles: &mut [u8], from: usize, to: usize, role: u8)
+    ensures { λ _. ⌜ now (roles .exit) ≡ sets (now (roles .entry)) from (replicate (to - from) role) ⌝ }
+{
     let mut i = from;
     while i < to {
         mark(roles, i, role);
@@ -84,7 +99,11 @@ pub fn fill(roles: &mut [u8], from: usize, to: usize, role: u8) {
 }
 
 // Past a token's own row.
-pub fn past(s: &[u8], c: Cursor, t: Token) -> Cursor {
+pub fn past(s: &[u8], c: Cursor, t: Token) -> Cursor
+    requires { ⌜ InList (now s) c ⌝ }
+    requires { ⌜ TokenAt (now s) (c .at) t ⌝ }
+    ensures { λ r. ⌜ r ≡ pastOf c t ⌝ }
+{
     let row = c.row;
     let below = row + 1;
     let next = t.next;
@@ -95,14 +114,23 @@ pub fn past(s: &[u8], c: Cursor, t: Token) -> Cursor {
 }
 
 // Takes the token at c.
-pub fn take_token(s: &[u8], c: Cursor, t: Token, roles: &mut [u8], role: u8) -> Cursor {
+pub fn take_token(s: &[u8], c: Cursor, t: Token, roles: &mut [u8], role: u8) -> Cursor
+    requires { ⌜ InList (now s) c ⌝ }
+    requires { ⌜ TokenAt (now s) (c .at) t ⌝ }
+    ensures { λ r. ⌜ r ≡ pastOf c t ⌝ }
+    ensures { λ _. ⌜ now (roles .exit) ≡ set (now (roles .entry)) (c .row) role ⌝ }
+{
     let row = c.row;
     mark(roles, row, role);
     past(s, c, t)
 }
 
 // Takes the group that opens at c, with all its rows.
-pub fn take_group(s: &[u8], c: Cursor, t: Token, roles: &mut [u8], role: u8) -> Cursor {
+pub fn take_group(s: &[u8], c: Cursor, t: Token, roles: &mut [u8], role: u8) -> Cursor
+    requires { ⌜ InList (now s) c ⌝ }
+    requires { ⌜ GroupAt (now s) (c .at) t ⌝ }
+    ensures { λ r. ⌜ Moved (now (s .entry)) c r (copied role (at (now (s .entry)) (t .next) .here)) (head (at (now (s .entry)) (t .next) .outer)) (now (roles .entry)) (now (roles .exit)) ⌝ }
+{
     let row = c.row;
     let inside = past(s, c, t);
     let end = skip(s, inside);
@@ -112,7 +140,10 @@ pub fn take_group(s: &[u8], c: Cursor, t: Token, roles: &mut [u8], role: u8) -> 
 }
 
 // The place of what stands at c, or the end mark.
-pub fn place(s: &[u8], c: Cursor) -> usize {
+pub fn place(s: &[u8], c: Cursor) -> usize
+    requires { ⌜ InList (now s) c ⌝ }
+    ensures { λ r. ⌜ r ≡ placeOf (c .row) (stream (now (s .entry)) c) ⌝ }
+{
     match peek(s, c) {
         Peeked::Nothing => END,
         Peeked::Leaf(_) => c.row,
@@ -121,12 +152,17 @@ pub fn place(s: &[u8], c: Cursor) -> usize {
 }
 
 // A refusal at what stands at c (virtue's Error::wrong_token).
-pub fn wrong_token(s: &[u8], c: Cursor, number: u8) -> Refusal {
+pub fn wrong_token(s: &[u8], c: Cursor, number: u8) -> Refusal
+    requires { ⌜ InList (now s) c ⌝ }
+    ensures { λ r. ⌜ (r .number ≡ number) × (r .place ≡ placeOf (c .row) (stream (now (s .entry)) c)) ⌝ }
+{
     let at = place(s, c);
     Refusal { number, place: at }
 }
 
-pub fn is_punct(t: Token, b: u8) -> bool {
+pub fn is_punct(t: Token, b: u8) -> bool
+    ensures { λ r. ⌜ r ≡ (eqb (t .kind) 112 && eqb (t .mark) b) ⌝ }
+{
     if t.kind == b'p' {
         return t.mark == b;
     }
@@ -134,7 +170,10 @@ pub fn is_punct(t: Token, b: u8) -> bool {
 }
 
 // Whether the token is an ident with this text.
-pub fn ident_eq(s: &[u8], t: Token, text: &[u8]) -> bool {
+pub fn ident_eq(s: &[u8], t: Token, text: &[u8]) -> bool
+    requires { ⌜ t .end ≤ length (now s) ⌝ }
+    ensures { λ r. ⌜ r ≡ isWord (now (text .entry)) (rowOf (now (s .entry)) t) ⌝ }
+{
     if t.kind == b'i' {
         let start = t.start;
         let end = t.end;
@@ -144,7 +183,11 @@ pub fn ident_eq(s: &[u8], t: Token, text: &[u8]) -> bool {
 }
 
 // The ident that stands alone in the stream at `inside`.
-pub fn lone_ident(s: &[u8], inside: Cursor) -> MaybeWord {
+pub fn lone_ident(s: &[u8], inside: Cursor) -> MaybeWord
+    requires { ⌜ InList (now s) inside ⌝ }
+    requires { ⌜ follows (at (now s) (inside .at) .outer) ≡ true ⌝ }
+    ensures { λ r. ⌜ loneShown (now (s .entry)) inside r ⌝ }
+{
     match peek(s, inside) {
         Peeked::Nothing => MaybeWord::Missing,
         Peeked::Group(_) => MaybeWord::Missing,
@@ -170,7 +213,10 @@ pub fn lone_ident(s: &[u8], inside: Cursor) -> MaybeWord {
     }
 }
 
-pub fn consume_ident(s: &[u8], c: Cursor, roles: &mut [u8], role: u8) -> MaybeWord {
+pub fn consume_ident(s: &[u8], c: Cursor, roles: &mut [u8], role: u8) -> MaybeWord
+    requires { ⌜ InList (now s) c ⌝ }
+    ensures { λ r. ⌜ Meets (now (s .entry)) c (now (roles .entry)) (now (roles .exit)) (wordShown (now (s .entry)) r) (wordSaid c r) (word role (c .row) (stream (now (s .entry)) c)) ⌝ }
+{
     let row = c.row;
     match peek(s, c) {
         Peeked::Nothing => MaybeWord::Missing,
@@ -200,7 +246,10 @@ pub fn consume_ident(s: &[u8], c: Cursor, roles: &mut [u8], role: u8) -> MaybeWo
     }
 }
 
-pub fn consume_punct_if(s: &[u8], c: Cursor, roles: &mut [u8], punct: u8, role: u8) -> MaybePunct {
+pub fn consume_punct_if(s: &[u8], c: Cursor, roles: &mut [u8], punct: u8, role: u8) -> MaybePunct
+    requires { ⌜ InList (now s) c ⌝ }
+    ensures { λ r. ⌜ Meets (now (s .entry)) c (now (roles .entry)) (now (roles .exit)) (λ (v : Bool). r .taken ≡ v) (on (r .next)) (punctIf punct role (c .row) (stream (now (s .entry)) c)) ⌝ }
+{
     match peek(s, c) {
         Peeked::Nothing => MaybePunct {
             taken: false,
@@ -224,7 +273,9 @@ pub fn consume_punct_if(s: &[u8], c: Cursor, roles: &mut [u8], punct: u8, role: 
 }
 
 // A `>` directly after a `-` of the same run.
-pub fn check_if_arrow(minus: bool, b: u8) -> bool {
+pub fn check_if_arrow(minus: bool, b: u8) -> bool
+    ensures { λ r. ⌜ r ≡ (minus && eqb b 62) ⌝ }
+{
     if minus {
         return b == b'>';
     }
@@ -232,7 +283,10 @@ pub fn check_if_arrow(minus: bool, b: u8) -> bool {
 }
 
 // What a punctuation is to a run at this depth; `minus`: a `-` stands right before it.
-pub fn judge_punct(stops: Stops, depth: usize, minus: bool, b: u8) -> Verdict {
+pub fn judge_punct(stops: Stops, depth: usize, minus: bool, b: u8) -> Verdict
+    requires { ⌜ depth + 1 < 2 ^ 64 ⌝ }
+    ensures { λ r. ⌜ verdictOf r ≡ judgePunct (stopsOf stops) depth minus b ⌝ }
+{
     if check_if_arrow(minus, b) {
         return Verdict::Belongs(depth, false);
     }
@@ -261,7 +315,9 @@ pub fn judge_punct(stops: Stops, depth: usize, minus: bool, b: u8) -> Verdict {
     Verdict::Belongs(depth, minus)
 }
 
-pub fn judge_group(stops: Stops, depth: usize, d: u8) -> Verdict {
+pub fn judge_group(stops: Stops, depth: usize, d: u8) -> Verdict
+    ensures { λ r. ⌜ verdictOf r ≡ judgeGroup (stopsOf stops) depth d ⌝ }
+{
     if depth == 0 {
         if stops.group {
             if d == b'{' {
@@ -276,7 +332,10 @@ pub fn judge_group(stops: Stops, depth: usize, d: u8) -> Verdict {
 }
 
 // What a token that is no group is to a run.
-pub fn judge(stops: Stops, depth: usize, minus: bool, t: Token) -> Verdict {
+pub fn judge(stops: Stops, depth: usize, minus: bool, t: Token) -> Verdict
+    requires { ⌜ depth + 1 < 2 ^ 64 ⌝ }
+    ensures { λ r. ⌜ verdictOf r ≡ cond (eqb (t .kind) 112) (judgePunct (stopsOf stops) depth minus (t .mark)) (belongs depth false) ⌝ }
+{
     if t.kind == b'p' {
         let b = t.mark;
         return judge_punct(stops, depth, minus, b);
@@ -293,7 +352,11 @@ pub fn turn(
     role: u8,
     depth: usize,
     minus: bool,
-) -> RunTurn {
+) -> RunTurn
+    requires { ⌜ InList (now s) c ⌝ }
+    requires { ⌜ depth ≤ c .at ⌝ }
+    ensures { λ r. ⌜ Turned (now (s .entry)) c (now (roles .entry)) (now (roles .exit)) stops role depth minus r ⌝ }
+{
     match peek(s, c) {
         Peeked::Nothing => RunTurn::Ended(Ending::End),
         Peeked::Leaf(t) => match judge(stops, depth, minus, t) {
@@ -337,7 +400,10 @@ pub fn read_tokens_until_punct(
     roles: &mut [u8],
     stops: Stops,
     role: u8,
-) -> Ran {
+) -> Ran
+    requires { ⌜ InList (now s) from ⌝ }
+    ensures { λ r. ⌜ Meets (now (s .entry)) from (now (roles .entry)) (now (roles .exit)) (ranShown r) (ranSaid r) (runFrom (stopsOf stops) role 0 false (from .row) (stream (now (s .entry)) from)) ⌝ }
+{
     let mut c = from;
     let mut depth = 0;
     let mut minus = false;

@@ -1,0 +1,3 @@
+-- Laws on the reading, the role buffer and the contracts, which the proofs of the functions cite.
+pub mod Buffer
+pub mod Meeting

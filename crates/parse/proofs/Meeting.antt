@@ -1,0 +1,118 @@
+-- Laws on the readers' contract: one law for each way to put readers together.
+use mathlib.Core.Path.{_≡_, refl, ap, _∙_, sym, subst, subst⁻¹}
+use mathlib.Core.Bool.{true}
+use mathlib.Core.List.{List, [], _∷_, _++_}
+use Prim.Native.Nat.{ℕ, zero, suc, _+_, _-_, _≤_, _<_}
+use native.Mathlib.Omega.{arith}
+use lib.ListN.{length, set, replicate, length-append, length-replicate}
+use lib.Seq.{sets}
+use Rattle.token_list.specs.Stream.{Trees, end, leaf, group, size, head, others, follows, at}
+use Rattle.token_list.specs.Contract.{InList, TokenAt, LeafAt, GroupAt, Skipped, rowOf}
+use Rattle.token_list.specs.declared.check.Cursor.{Cursor}
+use Rattle.token_list.specs.declared.stream.Token.{Token}
+use Rattle.parse.specs.Took.{Took, took, refuse, Reader, onward, after}
+use Rattle.parse.specs.Reading.{copied, whole}
+use Rattle.parse.specs.Contract.{Moved, Said, on, no, Meets, stands, refuses, stream, pastOf}
+use Rattle.parse.proofs.Buffer.{sets-append}
+
+-- ## Moves
+
+pub moved-none : (s : List ℕ) (c : Cursor) (b : List ℕ) → InList s c → Moved s c c [] (stream s c) b b
+moved-none s c b i = record { inList = i; row = omega arith; forth = omega arith; here = refl; outer = refl; roles = refl }
+
+pub moved-on : {s : List ℕ} {a b c : Cursor} {rs qs : List ℕ} {us vs : Trees} {b0 b1 b2 : List ℕ}
+  → Moved s a b rs us b0 b1 → Moved s b c qs vs b1 b2 → Moved s a c (rs ++ qs) vs b0 b2
+moved-on {s} {a} {b} {c} {rs} {qs} {us} {vs} {b0} {b1} {b2} m n =
+    record
+      { inList = n .inList
+      ; row = omega (arith, m .row, n .row, length-append rs qs)
+      ; forth = omega (arith, m .forth, n .forth, length-append rs qs)
+      ; here = n .here
+      ; outer = n .outer ∙ m .outer
+      ; roles = n .roles ∙ (λ i. sets (m .roles i) (m .row i) qs) ∙ sym (sets-append b0 (a .row) rs qs)
+      }
+
+module _ (s : List ℕ) (c : Cursor) (t : Token) (i : InList s c) where
+  pub past-fits : TokenAt s (c .at) t → (c .row < length s) × (c .at + 1 ≤ t .next)
+  past-fits k = (omega (arith, i .counted, i .within, k .start, k .text, k .next, k .within), omega (arith, k .start, k .text, k .next))
+
+  pub past-in : TokenAt s (c .at) t → InList s (pastOf c t)
+  past-in k =
+      record
+        { counted = omega (arith, i .counted, k .start, k .text, k .next)
+        ; within = k .within
+        ; whole = k .whole
+        }
+
+  pub leaf-moved : (b : List ℕ) (r : ℕ) → LeafAt s (c .at) t → Moved s c (pastOf c t) (r ∷ []) (stream s (pastOf c t)) b (set b (c .row) r)
+  leaf-moved b r l =
+      record
+        { inList = past-in (l .token)
+        ; row = omega arith
+        ; forth = omega (arith, past-fits (l .token))
+        ; here = refl
+        ; outer = sym (l .outer)
+        ; roles = refl
+        }
+
+  pub group-follows : GroupAt s (c .at) t → follows (at s (t .next) .outer) ≡ true
+  group-follows g = ap follows (g .outer)
+
+  -- past a whole group, every row with the role r
+  pub group-moved : (b : List ℕ) (r : ℕ) (d : Cursor) → GroupAt s (c .at) t → Skipped s (pastOf c t) d
+    → Moved s c d (copied r (at s (t .next) .here)) (head (at s (t .next) .outer)) b (sets b (c .row) (replicate (d .row - c .row) r))
+  group-moved b r d g k =
+      let w = whole (at s (t .next) .here) in
+      let n : d .row ≡ c .row + w = omega (arith, k .row) in
+      let l : length (copied r (at s (t .next) .here)) ≡ w = length-replicate w r in
+      let z : d .row - c .row ≡ w = omega (arith, n) in
+      record
+        { inList = k .inList
+        ; row = omega (arith, n, l)
+        ; forth = omega (arith, k .forth, l, past-fits (g .token))
+        ; here = sym (ap head (k .streams))
+        ; outer = ap others (sym (k .streams) ∙ g .outer)
+        ; roles = ap (λ (x : ℕ). sets b (c .row) (replicate x r)) z
+        }
+
+  -- what the group's streams are
+  pub group-stream : GroupAt s (c .at) t → stream s c ≡ group (t .mark) (at s (t .next) .here) (head (at s (t .next) .outer))
+  group-stream g = g .here ∙ ap (λ (u : Trees). group (t .mark) (at s (t .next) .here) u) (sym (ap head (g .outer)))
+
+-- ## Putting readers together
+
+module _ {A : Type 0} {s : List ℕ} {c : Cursor} {b0 b1 : List ℕ} {sh : A → Type 0} where
+  -- another way to say the reading
+  pub meets-as : {x : Said} {t u : Took A} → u ≡ t → Meets s c b0 b1 sh x t → Meets s c b0 b1 sh x u
+  meets-as {x} e m = subst⁻¹ (Meets s c b0 b1 sh x) e m
+
+  -- another way to say the answer
+  pub meets-say : {x y : Said} {t : Took A} → x ≡ y → Meets s c b0 b1 sh x t → Meets s c b0 b1 sh y t
+  meets-say {x} {y} {t} e m = subst (λ z. Meets s c b0 b1 sh z t) e m
+
+  pub landed : {d : Cursor} {t : Took A} → Meets s c b0 b1 sh (on d) t → InList s d
+  landed (stands m h) = m .inList
+
+  pub meets-show : {sh2 : A → Type 0} {x : Said} {t : Took A} → ((a : A) → sh a → sh2 a) → Meets s c b0 b1 sh x t → Meets s c b0 b1 sh2 x t
+  meets-show f (stands m h) = stands m (f _ h)
+  meets-show f refuses = refuses
+
+pub meets-stay : {A : Type 0} (s : List ℕ) (c : Cursor) (b : List ℕ) (sh : A → Type 0) (a : A) → InList s c → sh a → Meets s c b b sh (on c) (took a [] (stream s c))
+meets-stay s c b sh a i h = stands (moved-none s c b i) h
+
+pub meets-onward : {A : Type 0} {s : List ℕ} {c d : Cursor} {rs : List ℕ} {us : Trees} {b0 b1 b2 : List ℕ} {sh : A → Type 0} {x : Said} {t : Took A}
+  → Moved s c d rs us b0 b1 → Meets s d b1 b2 sh x t → Meets s c b0 b2 sh x (onward rs t)
+meets-onward m (stands n h) = stands (moved-on m n) h
+meets-onward m refuses = refuses
+
+-- a reader, and then another from where it stopped
+pub meets-then : {A B : Type 0} {s : List ℕ} {c d : Cursor} {b0 b1 b2 : List ℕ} {sh : A → Type 0} {sh2 : B → Type 0} {x : Said} {t : Took A}
+  (f : A → Reader B) → Meets s c b0 b1 sh (on d) t → ((a : A) → sh a → Meets s d b1 b2 sh2 x (f a (d .row) (stream s d)))
+  → Meets s c b0 b2 sh2 x (after (c .row) t f)
+meets-then {s = s} {c} {d} {b0} {b1} {b2} {sh} {sh2} {x} f (stands {a = a} {rs = rs} {us = us} m h) k =
+    meets-onward m (subst (λ u. Meets s d b1 b2 sh2 x (f a (c .row + length rs) u)) (m .here) (subst (λ r. Meets s d b1 b2 sh2 x (f a r (stream s d))) (m .row) (k a h)))
+
+-- a reader that refuses
+pub meets-no : {A B : Type 0} {s : List ℕ} {c : Cursor} {b0 b1 b2 : List ℕ} {sh : A → Type 0} {sh2 : B → Type 0} {n p : ℕ} {t : Took A}
+  (f : A → Reader B) → Meets s c b0 b1 sh (no n p) t → Meets s c b0 b2 sh2 (no n p) (after (c .row) t f)
+meets-no f refuses = refuses
