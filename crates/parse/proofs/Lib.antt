@@ -1,3 +1,5 @@
 -- Laws on the reading, the role buffer and the contracts, which the proofs of the functions cite.
 pub mod Buffer
 pub mod Meeting
+pub mod Judge
+pub mod Turns

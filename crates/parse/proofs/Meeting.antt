@@ -1,17 +1,20 @@
 -- Laws on the readers' contract: one law for each way to put readers together.
 use mathlib.Core.Path.{_≡_, refl, ap, _∙_, sym, subst, subst⁻¹}
-use mathlib.Core.Bool.{true}
+use mathlib.Core.Bool.{Bool, true, false, _&&_}
 use mathlib.Core.List.{List, [], _∷_, _++_}
 use Prim.Native.Nat.{ℕ, zero, suc, _+_, _-_, _≤_, _<_}
 use native.Mathlib.Omega.{arith}
+use lib.Dec.{eqb}
 use lib.ListN.{length, set, replicate, length-append, length-replicate}
 use lib.Seq.{sets}
+use Rattle.token_list.specs.Row.{Row}
 use Rattle.token_list.specs.Stream.{Trees, end, leaf, group, size, head, others, follows, at}
-use Rattle.token_list.specs.Contract.{InList, TokenAt, LeafAt, GroupAt, Skipped, rowOf}
+use Rattle.token_list.specs.Contract.{InList, TokenAt, LeafAt, GroupAt, Skipped, rowOf, stands as standsAt}
+use Rattle.token_list.specs.declared.stream.Peeked.{Peeked}
 use Rattle.token_list.specs.declared.check.Cursor.{Cursor}
 use Rattle.token_list.specs.declared.stream.Token.{Token}
 use Rattle.parse.specs.Took.{Took, took, refuse, Reader, onward, after}
-use Rattle.parse.specs.Reading.{copied, whole}
+use Rattle.parse.specs.Reading.{copied, whole, lone, isPunct}
 use Rattle.parse.specs.Contract.{Moved, Said, on, no, Meets, stands, refuses, stream, pastOf}
 use Rattle.parse.proofs.Buffer.{sets-append}
 
@@ -116,3 +119,84 @@ meets-then {s = s} {c} {d} {b0} {b1} {b2} {sh} {sh2} {x} f (stands {a = a} {rs =
 pub meets-no : {A B : Type 0} {s : List ℕ} {c : Cursor} {b0 b1 b2 : List ℕ} {sh : A → Type 0} {sh2 : B → Type 0} {n p : ℕ} {t : Took A}
   (f : A → Reader B) → Meets s c b0 b1 sh (no n p) t → Meets s c b0 b2 sh2 (no n p) (after (c .row) t f)
 meets-no f refuses = refuses
+
+-- what stands at a cursor, by the answer that was given
+pub peeked : (s : List ℕ) (i : ℕ) {p q : Peeked} → standsAt s i p → p ≡ q → standsAt s i q
+peeked s i h e = subst (standsAt s i) e h
+
+-- ## A reader, by what stands at the cursor
+
+pub token-within : (s : List ℕ) (i : ℕ) (t : Token) → TokenAt s i t → t .end ≤ length s
+token-within s i t k = omega (arith, k .next, k .within)
+
+pub past-in-of : (s : List ℕ) (c d : Cursor) (t : Token) → d ≡ pastOf c t → InList s c → TokenAt s (c .at) t → InList s d
+past-in-of s c d t e i k = subst⁻¹ (InList s) e (past-in s c t i k)
+
+pub follows-of : (s : List ℕ) (c d : Cursor) (t : Token) → d ≡ pastOf c t → InList s c → GroupAt s (c .at) t → follows (at s (d .at) .outer) ≡ true
+follows-of s c d t e i g = subst⁻¹ (λ (x : Cursor). follows (at s (x .at) .outer) ≡ true) e (group-follows s c t i g)
+
+module _ {A : Type 0} (m : Reader A) (s : List ℕ) (c : Cursor) (inList : InList s c) (sh : A → Type 0) where
+  -- it takes nothing
+  pub meets-same : (b : List ℕ) (ts : Trees) (a : A) → stream s c ≡ ts → m (c .row) ts ≡ took a [] ts → sh a → Meets s c b b sh (on c) (m (c .row) (stream s c))
+  meets-same b ts a e q h = meets-as (ap (m (c .row)) e ∙ q ∙ ap (took a []) (sym e)) (meets-stay s c b sh a inList h)
+
+  -- it refuses
+  pub meets-refused : (b0 b1 : List ℕ) (ts : Trees) (n p : ℕ) → stream s c ≡ ts → m (c .row) ts ≡ refuse n p → Meets s c b0 b1 sh (no n p) (m (c .row) (stream s c))
+  meets-refused b0 b1 ts n p e q = meets-as (ap (m (c .row)) e ∙ q) refuses
+
+  module _ (t : Token) (l : LeafAt s (c .at) t) (d : Cursor) (b0 b1 : List ℕ) (r : ℕ) (e : d ≡ pastOf c t) (q : b1 ≡ set b0 (c .row) r) where
+    pub leaf-taken : Moved s c d (r ∷ []) (stream s d) b0 b1
+    leaf-taken = subst⁻¹ (λ (x : Cursor). Moved s c x (r ∷ []) (stream s x) b0 b1) e (subst⁻¹ (λ (b : List ℕ). Moved s c (pastOf c t) (r ∷ []) (stream s (pastOf c t)) b0 b) q (leaf-moved s c t inList b0 r l))
+
+    -- it takes the token
+    pub meets-leaf : (a : A) → m (c .row) (leaf (rowOf s t) (at s (t .next) .here)) ≡ took a (r ∷ []) (at s (t .next) .here) → sh a → Meets s c b0 b1 sh (on d) (m (c .row) (stream s c))
+    meets-leaf a k h =
+        let f = ap (λ (x : Cursor). stream s x) e in
+        meets-as (ap (m (c .row)) (l .here) ∙ k ∙ ap (took a (r ∷ [])) (sym f)) (stands leaf-taken h)
+
+    -- it takes the token and goes on
+    pub meets-from : (b2 : List ℕ) (x : Said) (k : Reader A) → m (c .row) (leaf (rowOf s t) (at s (t .next) .here)) ≡ onward (r ∷ []) (k (c .row + 1) (at s (t .next) .here))
+      → Meets s d b1 b2 sh x (k (d .row) (stream s d)) → Meets s c b0 b2 sh x (m (c .row) (stream s c))
+    meets-from b2 x k f g =
+        meets-as (ap (m (c .row)) (l .here) ∙ f ∙ ap (λ (y : Cursor). onward (r ∷ []) (k (y .row) (stream s y))) (sym e)) (meets-onward leaf-taken g)
+
+  module _ (t : Token) (g : GroupAt s (c .at) t) (d : Cursor) (b0 b1 rs : List ℕ) (moved : Moved s c d rs (head (at s (t .next) .outer)) b0 b1) where
+    -- it takes the group
+    pub meets-group : (a : A) → m (c .row) (group (t .mark) (at s (t .next) .here) (head (at s (t .next) .outer))) ≡ took a rs (head (at s (t .next) .outer)) → sh a
+      → Meets s c b0 b1 sh (on d) (m (c .row) (stream s c))
+    meets-group a k h = meets-as (ap (m (c .row)) (group-stream s c t inList g) ∙ k) (stands moved h)
+
+    -- it takes the group and goes on
+    pub meets-group-from : (b2 : List ℕ) (x : Said) (k : Reader A)
+      → m (c .row) (group (t .mark) (at s (t .next) .here) (head (at s (t .next) .outer))) ≡ onward rs (k (c .row + length rs) (head (at s (t .next) .outer)))
+      → Meets s d b1 b2 sh x (k (d .row) (stream s d)) → Meets s c b0 b2 sh x (m (c .row) (stream s c))
+    meets-group-from b2 x k f n =
+        meets-as
+        (ap (m (c .row)) (group-stream s c t inList g) ∙ f ∙ (λ i. onward rs (k (sym (moved .row) i) (sym (moved .here) i))))
+        (meets-onward moved n)
+
+-- past the closing row of a group, from before a token in it
+pub leaf-skipped : (s : List ℕ) (c d : Cursor) (t : Token) → LeafAt s (c .at) t → Skipped s (pastOf c t) d → Skipped s c d
+leaf-skipped s c d t l k =
+    let z = ap size (l .here) in
+    record
+      { inList = k .inList
+      ; forth = omega (arith, k .forth, z, l .token .start, l .token .text, l .token .next)
+      ; row = omega (arith, k .row, z)
+      ; streams = l .outer ∙ k .streams
+      }
+
+lone-not : (p : Row → Bool) (r : Row) (us : Trees) → p r ≡ false → lone p (leaf r us) ≡ false
+lone-not p r end e = e
+lone-not p r (leaf q us) e = refl
+lone-not p r (group d ts us) e = refl
+
+pub lone-other : (p : Row → Bool) (ts us : Trees) (r : Row) → ts ≡ leaf r us → p r ≡ false → lone p ts ≡ false
+lone-other p ts us r e q = ap (lone p) e ∙ lone-not p r us q
+
+pub leaf-then : (s : List ℕ) (c d : Cursor) (t : Token) (us : Trees) → LeafAt s (c .at) t → d ≡ pastOf c t → stream s d ≡ us → stream s c ≡ leaf (rowOf s t) us
+leaf-then s c d t us l e n = l .here ∙ ap (leaf (rowOf s t)) (sym (ap (λ (x : Cursor). stream s x) e) ∙ n)
+
+-- the test for a punctuation, on the token
+pub punct-of : (s : List ℕ) (i : ℕ) (t : Token) (b : ℕ) → TokenAt s i t → isPunct b (rowOf s t) ≡ (eqb (t .kind) 112 && eqb (t .mark) b)
+punct-of s i t b k = ap (λ (m : ℕ). eqb (t .kind) 112 && eqb m b) (sym (k .mark))

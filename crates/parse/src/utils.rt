@@ -16,7 +16,7 @@ ghost use lib.Seq.{sets};
 ghost use Rattle.token_list.specs.Stream.{at, head, follows};
 ghost use Rattle.token_list.specs.Contract.{InList, TokenAt, GroupAt, rowOf};
 ghost use Rattle.parse.specs.Took.{placeOf};
-ghost use Rattle.parse.specs.Reading.{isWord, copied, word, punctIf, judgePunct, judgeGroup, belongs, runFrom};
+ghost use Rattle.parse.specs.Reading.{isWord, copied, word, punctIf, judgePunct, judgeGroup, belongs, ends, atComma, runFrom};
 ghost use Rattle.parse.specs.Contract.{Moved, Meets, on, stream, pastOf, wordSaid, wordShown, loneShown, stopsOf, verdictOf, Turned, ranSaid, ranShown};
 
 // The answer of a reader: where it stopped, or a refusal.
@@ -282,6 +282,18 @@ pub fn check_if_arrow(minus: bool, b: u8) -> bool
     false
 }
 
+// What a `,` is to a run at this depth.
+pub fn judge_comma(stops: Stops, depth: usize) -> Verdict
+    ensures { λ r. ⌜ verdictOf r ≡ cond (eqb depth 0 && stops .comma) (ends atComma) (belongs depth false) ⌝ }
+{
+    if depth == 0 {
+        if stops.comma {
+            return Verdict::Ends(Ending::Comma);
+        }
+    }
+    Verdict::Belongs(depth, false)
+}
+
 // What a punctuation is to a run at this depth; `minus`: a `-` stands right before it.
 pub fn judge_punct(stops: Stops, depth: usize, minus: bool, b: u8) -> Verdict
     requires { ⌜ depth + 1 < 2 ^ 64 ⌝ }
@@ -305,11 +317,7 @@ pub fn judge_punct(stops: Stops, depth: usize, minus: bool, b: u8) -> Verdict
         return Verdict::Belongs(higher, false);
     }
     if b == b',' {
-        if depth == 0 {
-            if stops.comma {
-                return Verdict::Ends(Ending::Comma);
-            }
-        }
+        return judge_comma(stops, depth);
     }
     let minus = b == b'-';
     Verdict::Belongs(depth, minus)
