@@ -3,3 +3,4 @@ pub mod Buffer
 pub mod Meeting
 pub mod Judge
 pub mod Turns
+pub mod Marks

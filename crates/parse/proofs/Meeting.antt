@@ -1,12 +1,12 @@
 -- Laws on the readers' contract: one law for each way to put readers together.
 use mathlib.Core.Path.{_≡_, refl, ap, _∙_, sym, subst, subst⁻¹}
 use mathlib.Core.Bool.{Bool, true, false, _&&_}
-use mathlib.Core.List.{List, [], _∷_, _++_}
+use mathlib.Core.List.{List, [], _∷_, _++_, append-assoc}
 use Prim.Native.Nat.{ℕ, zero, suc, _+_, _-_, _≤_, _<_}
 use native.Mathlib.Omega.{arith}
 use lib.Dec.{eqb}
 use lib.ListN.{length, set, replicate, length-append, length-replicate}
-use lib.Seq.{sets}
+use lib.Seq.{sets, length-sets}
 use Rattle.token_list.specs.Row.{Row}
 use Rattle.token_list.specs.Stream.{Trees, end, leaf, group, size, head, others, follows, at}
 use Rattle.token_list.specs.Contract.{InList, TokenAt, LeafAt, GroupAt, Skipped, rowOf, stands as standsAt}
@@ -15,7 +15,7 @@ use Rattle.token_list.specs.declared.check.Cursor.{Cursor}
 use Rattle.token_list.specs.declared.stream.Token.{Token}
 use Rattle.parse.specs.Took.{Took, took, refuse, Reader, onward, after}
 use Rattle.parse.specs.Reading.{copied, whole, lone, isPunct}
-use Rattle.parse.specs.Contract.{Moved, Said, on, no, Meets, stands, refuses, stream, pastOf}
+use Rattle.parse.specs.Contract.{Moved, Said, on, no, Meets, stands, refuses, stream, pastOf, Belonged}
 use Rattle.parse.proofs.Buffer.{sets-append}
 
 -- ## Moves
@@ -200,3 +200,43 @@ leaf-then s c d t us l e n = l .here ∙ ap (leaf (rowOf s t)) (sym (ap (λ (x :
 -- the test for a punctuation, on the token
 pub punct-of : (s : List ℕ) (i : ℕ) (t : Token) (b : ℕ) → TokenAt s i t → isPunct b (rowOf s t) ≡ (eqb (t .kind) 112 && eqb (t .mark) b)
 punct-of s i t b k = ap (λ (m : ℕ). eqb (t .kind) 112 && eqb m b) (sym (k .mark))
+
+-- ## Readers that go round: what was `was` at the cursor `from` is `is` at c
+
+pub record Going {A : Type 0} (s : List ℕ) (from : Cursor) (before : List ℕ) (c : Cursor) (now : List ℕ) (was is : Took A) : Type 0 where
+  pub taken : List ℕ
+  pub moved : Moved s from c taken (stream s c) before now
+  pub same : was ≡ onward taken is
+
+onward-none : {A : Type 0} (t : Took A) → onward [] t ≡ t
+onward-none (took a rs us) = refl
+onward-none (refuse n p) = refl
+
+onward-append : {A : Type 0} (rs qs : List ℕ) (t : Took A) → onward rs (onward qs t) ≡ onward (rs ++ qs) t
+onward-append rs qs (took a ps us) = simp append-assoc
+onward-append rs qs (refuse n p) = refl
+
+pub going-start : {A : Type 0} (s : List ℕ) (c : Cursor) (b : List ℕ) (t : Took A) → InList s c → Going s c b c b t t
+going-start s c b t i = record { taken = []; moved = moved-none s c b i; same = sym (onward-none t) }
+
+pub going-more : {A : Type 0} {s : List ℕ} {from c d : Cursor} {b0 b1 b2 : List ℕ} {t u v : Took A} → Going s from b0 c b1 t u → Belonged s c d b1 b2 u v → Going s from b0 d b2 t v
+going-more {v = v} k g =
+    record
+      { taken = k .taken ++ g .roles
+      ; moved = moved-on (k .moved) (g .moved)
+      ; same = k .same ∙ ap (onward (k .taken)) (g .same) ∙ onward-append (k .taken) (g .roles) v
+      }
+
+pub going-ends : {A : Type 0} {s : List ℕ} {from c : Cursor} {b0 b1 b2 : List ℕ} {t u : Took A} {sh : A → Type 0} (a : A)
+  → Going s from b0 c b1 t u → u ≡ took a [] (stream s c) → b2 ≡ b1 → sh a → Meets s from b0 b2 sh (on c) t
+going-ends {s = s} {from} {c} {b0} {b1} {t = t} {sh = sh} a k e q h =
+    subst⁻¹ (λ b. Meets s from b0 b sh (on c) t) q
+    (meets-as (k .same ∙ ap (onward (k .taken)) e) (meets-onward (k .moved) (meets-stay s c b1 sh a (k .moved .inList) h)))
+
+-- the last part of it meets what is left
+pub going-meets : {A : Type 0} {s : List ℕ} {from c : Cursor} {b0 b1 b2 : List ℕ} {t u : Took A} {sh : A → Type 0} {x : Said}
+  → Going s from b0 c b1 t u → Meets s c b1 b2 sh x u → Meets s from b0 b2 sh x t
+going-meets k m = meets-as (k .same) (meets-onward (k .moved) m)
+
+pub going-length : {A : Type 0} {s : List ℕ} {from c : Cursor} {b0 b1 : List ℕ} {t u : Took A} → Going s from b0 c b1 t u → length b1 ≡ length b0
+going-length k = ap length (k .moved .roles) ∙ simp length-sets

@@ -1,12 +1,11 @@
 -- Laws on runs, a token at a time.
 use mathlib.Core.Path.{_≡_, refl, ap, _∙_, sym, subst, subst⁻¹}
 use mathlib.Core.Bool.{Bool, true, false, cond, _&&_, _||_}
-use mathlib.Core.List.{List, [], _∷_, _++_, append-assoc}
+use mathlib.Core.List.{List, [], _∷_, _++_}
 use Prim.Native.Nat.{ℕ, _+_, _-_, _≤_, _<_}
 use native.Mathlib.Omega.{arith}
 use lib.Dec.{eqb}
 use lib.ListN.{length, set, length-replicate}
-use lib.Seq.{length-sets}
 use Rattle.token_list.specs.Row.{Row, first}
 use Rattle.token_list.specs.Stream.{Trees, end, leaf, group, head, at}
 use Rattle.token_list.specs.Contract.{InList, TokenAt, LeafAt, GroupAt, rowOf}
@@ -14,8 +13,8 @@ use Rattle.token_list.specs.declared.check.Cursor.{Cursor}
 use Rattle.token_list.specs.declared.stream.Token.{Token}
 use Rattle.parse.specs.Took.{Took, took, refuse, onward}
 use Rattle.parse.specs.Reading.{Stops, Ending, atEnd, atAngle, atComma, atGroup, Verdict, belongs, ends, unopened, judge, judgePunct, judgeGroup, judged, runFrom, copied, whole}
-use Rattle.parse.specs.Contract.{Moved, Meets, on, no, refuses, stream, pastOf, Belonged}
-use Rattle.parse.proofs.Meeting.{leaf-taken, group-stream, moved-none, moved-on, meets-as, meets-onward, meets-stay, past-fits}
+use Rattle.parse.specs.Contract.{Moved, stream, pastOf, Belonged}
+use Rattle.parse.proofs.Meeting.{leaf-taken, group-stream, Going, going-start}
 
 pub judge-of : (st : Stops) (depth : ℕ) (m : Bool) (s : List ℕ) (i : ℕ) (t : Token) → TokenAt s i t
   → judge st depth m (rowOf s t) ≡ cond (eqb (t .kind) 112) (judgePunct st depth m (t .mark)) (belongs depth false)
@@ -55,14 +54,6 @@ deep-after-group st depth e d n q = subst (λ (v : Verdict). depthOf v ≤ depth
     go : (b : Bool) → depthOf (cond b (ends atGroup) (belongs depth false)) ≤ depth
     go true = omega arith
     go false = omega arith
-
-onward-none : {A : Type 0} (t : Took A) → onward [] t ≡ t
-onward-none (took a rs us) = refl
-onward-none (refuse n p) = refl
-
-onward-append : {A : Type 0} (rs qs : List ℕ) (t : Took A) → onward rs (onward qs t) ≡ onward (rs ++ qs) t
-onward-append rs qs (took a ps us) = simp append-assoc
-onward-append rs qs (refuse n p) = refl
 
 -- ## One token
 
@@ -130,36 +121,8 @@ module _ (st : Stops) (r : ℕ) (s : List ℕ) (c : Cursor) (inList : InList s c
 -- ## A whole run: it came from the cursor `from` to c
 
 pub record Running (s : List ℕ) (st : Stops) (r : ℕ) (from : Cursor) (before : List ℕ) (c : Cursor) (depth : ℕ) (m : Bool) (now : List ℕ) : Type 0 where
-  pub taken : List ℕ
-  pub moved : Moved s from c taken (stream s c) before now
+  pub going : Going s from before c now (runFrom st r 0 false (from .row) (stream s from)) (runFrom st r depth m (c .row) (stream s c))
   pub deep : depth ≤ c .at
-  pub same : runFrom st r 0 false (from .row) (stream s from) ≡ onward taken (runFrom st r depth m (c .row) (stream s c))
 
 pub run-start : (s : List ℕ) (st : Stops) (r : ℕ) (c : Cursor) (b : List ℕ) → InList s c → Running s st r c b c 0 false b
-run-start s st r c b i = record { taken = []; moved = moved-none s c b i; deep = omega arith; same = sym (onward-none _) }
-
-pub run-more : {s : List ℕ} {st : Stops} {r : ℕ} {from c d : Cursor} {b0 b1 b2 : List ℕ} {depth e : ℕ} {m n : Bool}
-  → Running s st r from b0 c depth m b1 → Belonged s c d b1 b2 (runFrom st r depth m (c .row) (stream s c)) (runFrom st r e n (d .row) (stream s d)) → e ≤ d .at
-  → Running s st r from b0 d e n b2
-run-more {s} {st} {r} {d = d} {e = e} {n = n} k g h =
-    record
-      { taken = k .taken ++ g .roles
-      ; moved = moved-on (k .moved) (g .moved)
-      ; deep = h
-      ; same = k .same ∙ ap (onward (k .taken)) (g .same) ∙ onward-append (k .taken) (g .roles) (runFrom st r e n (d .row) (stream s d))
-      }
-
-pub run-ends : {s : List ℕ} {st : Stops} {r : ℕ} {from c : Cursor} {b0 b1 b2 : List ℕ} {depth : ℕ} {m : Bool} {sh : Ending → Type 0} (x : Ending)
-  → Running s st r from b0 c depth m b1 → runFrom st r depth m (c .row) (stream s c) ≡ took x [] (stream s c) → b2 ≡ b1 → sh x
-  → Meets s from b0 b2 sh (on c) (runFrom st r 0 false (from .row) (stream s from))
-run-ends {s} {st} {r} {from} {c} {b0} {b1} {sh = sh} x k e q h =
-    subst⁻¹ (λ b. Meets s from b0 b sh (on c) (runFrom st r 0 false (from .row) (stream s from))) q
-    (meets-as (k .same ∙ ap (onward (k .taken)) e) (meets-onward (k .moved) (meets-stay s c b1 sh x (k .moved .inList) h)))
-
-pub run-refuses : {s : List ℕ} {st : Stops} {r : ℕ} {from c : Cursor} {b0 b1 : List ℕ} {depth : ℕ} {m : Bool} {sh : Ending → Type 0} (b2 : List ℕ) (n p : ℕ)
-  → Running s st r from b0 c depth m b1 → runFrom st r depth m (c .row) (stream s c) ≡ refuse n p
-  → Meets s from b0 b2 sh (no n p) (runFrom st r 0 false (from .row) (stream s from))
-run-refuses b2 n p k e = meets-as (k .same ∙ ap (onward (k .taken)) e) refuses
-
-pub run-length : {s : List ℕ} {st : Stops} {r : ℕ} {from c : Cursor} {b0 b1 : List ℕ} {depth : ℕ} {m : Bool} → Running s st r from b0 c depth m b1 → length b1 ≡ length b0
-run-length k = ap length (k .moved .roles) ∙ simp length-sets
+run-start s st r c b i = record { going = going-start s c b _ i; deep = omega arith }

@@ -25,6 +25,9 @@ use Rattle.parse.specs.declared.utils.Verdict.{Verdict}
 use Rattle.parse.specs.declared.utils.Verdict.the-variants as verdicts
 use Rattle.parse.specs.declared.utils.RunTurn.{RunTurn}
 use Rattle.parse.specs.declared.utils.RunTurn.the-variants as turns
+use Rattle.parse.specs.declared.attributes.Marked.{Marked}
+use Rattle.parse.specs.declared.attributes.Marked.the-variants as marks
+
 
 -- ## Every reader's contract
 
@@ -109,8 +112,8 @@ loneShown s c words.Missing = reading.lone reading.isIdent (stream s c) ≡ fals
 loneShown s c (words.Found w) =
     (reading.lone reading.isIdent (stream s c) ≡ true) × TextOf s (w .token) (reading.textOf (stream s c)) × (w .token .kind ≡ 105) × (w .row ≡ c .row) × Skipped s c (w .next)
 
--- a token that belonged to a run
-pub record Belonged (s : List ℕ) (c d : Cursor) (before after : List ℕ) (was is : Took reading.Ending) : Type 0 where
+-- a part was taken between c and d, and the reading goes on there
+pub record Belonged {A : Type 0} (s : List ℕ) (c d : Cursor) (before after : List ℕ) (was is : Took A) : Type 0 where
   pub roles : List ℕ
   pub moved : Moved s c d roles (stream s d) before after
   pub some : 0 < length roles
@@ -124,3 +127,11 @@ Turned s c before after st r depth minus (turns.Ended e) =
     (reading.runFrom (stopsOf st) r depth minus (c .row) (stream s c) ≡ took (endingOf e) [] (stream s c)) × (after ≡ before)
 Turned s c before after st r depth minus (turns.Refused f) =
     reading.runFrom (stopsOf st) r depth minus (c .row) (stream s c) ≡ refuse (f .number) (f .place)
+
+-- ## The answers of attributes
+
+-- one `#` with its group, or an idle one, by the answer
+abbrev pub AttributeRead : List ℕ → Cursor → List ℕ → List ℕ → Marked → Type 0
+AttributeRead s c before after (marks.On d) = Belonged s c d before after (reading.attributes (c .row) (stream s c)) (reading.attributes (d .row) (stream s d))
+AttributeRead s c before after marks.Done = (reading.attributes (c .row) (stream s c) ≡ took tt [] (stream s c)) × (after ≡ before)
+AttributeRead s c before after (marks.Refused r) = reading.attributes (c .row) (stream s c) ≡ refuse (r .number) (r .place)

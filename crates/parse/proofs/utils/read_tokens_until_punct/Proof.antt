@@ -1,5 +1,4 @@
-use Rattle.parse.proofs.Turns.{run-ends, run-refuses, run-length}
-use Rattle.parse.proofs.Turns.{Running, run-start, run-more}
+use Rattle.parse.proofs.Turns.{Running, run-start}
 use Rattle.parse.specs.Contract.{stopsOf}
 use Rattle.parse.specs.declared.utils.RunTurn.{RunTurn}
 use Rattle.parse.specs.declared.utils.Stops.{Stops}
@@ -34,7 +33,7 @@ loop-holds : tie.Need-loop-holds Inv-loop μ-loop
 loop-holds c = run-start _ _ _ _ _ (c .before .before .pre)
 
 turn-requires : tie.Need-turn-requires Inv-loop μ-loop
-turn-requires c κs = ((c .before .loop) .inv .moved .inList, (c .before .loop) .inv .deep)
+turn-requires c κs = ((c .before .loop) .inv .going .moved .inList, (c .before .loop) .inv .deep)
 
 enum-known-next : tie.Need-enum-known-next Inv-loop μ-loop
 enum-known-next c = search needs
@@ -47,27 +46,27 @@ loop-less c =
 loop-again : tie.Need-loop-again Inv-loop μ-loop
 loop-again c =
     let b = told _ _ _ _ _ _ _ _ ((c .before .before .before .before .before .turn) .ensures) ((c .before .next) .given .1) in
-    run-more ((c .before .before .before .before .before .before .before .loop) .inv) (b .0) (b .1)
+    record { going = meeting.going-more ((c .before .before .before .before .before .before .before .loop) .inv .going) (b .0); deep = b .1 }
 
 enum-known-e : tie.Need-enum-known-e Inv-loop μ-loop
 enum-known-e c = search needs
 
 same-length : tie.Need-same-length Inv-loop μ-loop
-same-length c = (c .before .before .before .before .before .turn) .kept .1 .1 .0 ∙ run-length ((c .before .before .before .before .before .before .before .loop) .inv)
+same-length c = (c .before .before .before .before .before .turn) .kept .1 .1 .0 ∙ meeting.going-length ((c .before .before .before .before .before .before .before .loop) .inv .going)
 
 returns : tie.Need-returns Inv-loop μ-loop
 returns c =
     let b = told _ _ _ _ _ _ _ _ ((c .before .before .before .before .before .turn) .ensures) ((c .before .e) .given .1) in
-    run-ends _ ((c .before .before .before .before .before .before .before .loop) .inv) (b .0) (b .1) refl
+    meeting.going-ends _ ((c .before .before .before .before .before .before .before .loop) .inv .going) (b .0) (b .1) refl
 
 enum-known-r : tie.Need-enum-known-r Inv-loop μ-loop
 enum-known-r c = search needs
 
 same-length-2 : tie.Need-same-length-2 Inv-loop μ-loop
-same-length-2 c = (c .before .before .before .before .before .turn) .kept .1 .1 .0 ∙ run-length ((c .before .before .before .before .before .before .before .loop) .inv)
+same-length-2 c = (c .before .before .before .before .before .turn) .kept .1 .1 .0 ∙ meeting.going-length ((c .before .before .before .before .before .before .before .loop) .inv .going)
 
 returns-2 : tie.Need-returns-2 Inv-loop μ-loop
-returns-2 c = run-refuses _ _ _ ((c .before .before .before .before .before .before .before .loop) .inv) (told _ _ _ _ _ _ _ _ ((c .before .before .before .before .before .turn) .ensures) ((c .before .r) .given .1))
+returns-2 c = meeting.going-meets ((c .before .before .before .before .before .before .before .loop) .inv .going) (meeting.meets-as (told _ _ _ _ _ _ _ _ ((c .before .before .before .before .before .turn) .ensures) ((c .before .r) .given .1)) contract.refuses)
 
 pub read-tokens-until-punct-spec : {M : Type 1} → statement M
 read-tokens-until-punct-spec =
