@@ -4,3 +4,4 @@ pub mod Meeting
 pub mod Judge
 pub mod Turns
 pub mod Marks
+pub mod Heads

@@ -1,6 +1,6 @@
 -- Laws on the readers' contract: one law for each way to put readers together.
 use mathlib.Core.Path.{_≡_, refl, ap, _∙_, sym, subst, subst⁻¹}
-use mathlib.Core.Bool.{Bool, true, false, _&&_}
+use mathlib.Core.Bool.{Bool, true, false, _&&_, false≢true}
 use mathlib.Core.List.{List, [], _∷_, _++_, append-assoc}
 use Prim.Native.Nat.{ℕ, zero, suc, _+_, _-_, _≤_, _<_}
 use native.Mathlib.Omega.{arith}
@@ -13,9 +13,15 @@ use Rattle.token_list.specs.Contract.{InList, TokenAt, LeafAt, GroupAt, Skipped
 use Rattle.token_list.specs.declared.stream.Peeked.{Peeked}
 use Rattle.token_list.specs.declared.check.Cursor.{Cursor}
 use Rattle.token_list.specs.declared.stream.Token.{Token}
-use Rattle.parse.specs.Took.{Took, took, refuse, Reader, onward, after}
-use Rattle.parse.specs.Reading.{copied, whole, lone, isPunct}
-use Rattle.parse.specs.Contract.{Moved, Said, on, no, Meets, stands, refuses, stream, pastOf, Belonged}
+use Rattle.parse.specs.Took.{Took, took, refuse, Reader, onward, after, _>>=_, placeOf}
+use Rattle.parse.specs.Reading.{copied, whole, lone, isPunct, isIdent, isWord, textOf, Word, missing, found}
+use Rattle.parse.specs.Contract.{Moved, Said, on, no, Meets, stands, refuses, refusal, stream, pastOf, Belonged, TextOf, wordShown, wordSaid}
+use Rattle.parse.specs.declared.utils.Word.{Word as WordAt}
+use Rattle.parse.specs.declared.utils.MaybeWord.{MaybeWord}
+use Rattle.parse.specs.declared.utils.MaybeWord.the-variants as words
+use Rattle.token_list.specs.declared.check.Refusal.{Refusal}
+use Rattle.token_list.specs.Text.{same}
+use Rattle.token_list.proofs.Texts.{and-last, and-fails}
 use Rattle.parse.proofs.Buffer.{sets-append}
 
 -- ## Moves
@@ -240,3 +246,54 @@ going-meets k m = meets-as (k .same) (meets-onward (k .moved) m)
 
 pub going-length : {A : Type 0} {s : List ℕ} {from c : Cursor} {b0 b1 : List ℕ} {t u : Took A} → Going s from b0 c b1 t u → length b1 ≡ length b0
 going-length k = ap length (k .moved .roles) ∙ simp length-sets
+
+-- ## Words
+
+module _ {B : Type 0} (f : Word → Reader B) {s : List ℕ} {c : Cursor} {b0 b1 b2 : List ℕ} {sh : B → Type 0} {x : Said} {t : Took Word} where
+  pub meets-word : (w : WordAt) → Meets s c b0 b1 (wordShown s (words.Found w)) (on (w .next)) t
+    → ((text : List ℕ) → TextOf s (w .token) text → Meets s (w .next) b1 b2 sh x (f (found text (w .row)) (w .next .row) (stream s (w .next))))
+    → Meets s c b0 b2 sh x (after (c .row) t f)
+  meets-word w m k = meets-then f m (λ a h. subst⁻¹ (λ (y : Word). Meets s (w .next) b1 b2 sh x (f y (w .next .row) (stream s (w .next)))) (h .2) (k (h .0) (h .1)))
+
+  pub meets-missing : Meets s c b0 b1 (wordShown s words.Missing) (on c) t → Meets s c b1 b2 sh x (f missing (c .row) (stream s c)) → Meets s c b0 b2 sh x (after (c .row) t f)
+  meets-missing m k = meets-then f m (λ a h. subst⁻¹ (λ (y : Word). Meets s c b1 b2 sh x (f y (c .row) (stream s c))) h k)
+
+-- a refusal at what stands at the cursor
+pub meets-wrong : {A : Type 0} {s : List ℕ} {c : Cursor} {b0 b1 : List ℕ} {sh : A → Type 0} (r : Refusal) (n : ℕ)
+  → (r .number ≡ n) × (r .place ≡ placeOf (c .row) (stream s c)) → Meets s c b0 b1 sh (refusal r) (refuse n (placeOf (c .row) (stream s c)))
+meets-wrong {s = s} {c} {b0} {b1} {sh} r n e = meets-say (λ i. no (sym (e .0) i) (sym (e .1) i)) refuses
+
+-- ## Readers in a row may be bracketed otherwise
+
+after-onward : {A B : Type 0} (row : ℕ) (rs : List ℕ) (t : Took A) (g : A → Reader B) → after row (onward rs t) g ≡ onward rs (after (row + length rs) t g)
+after-onward row rs (took a qs us) g =
+    let e : row + length (rs ++ qs) ≡ row + length rs + length qs = omega (arith, length-append rs qs) in
+    ap (λ (k : ℕ). onward (rs ++ qs) (g a k us)) e ∙ sym (onward-append rs qs (g a (row + length rs + length qs) us))
+after-onward row rs (refuse n p) g = refl
+
+pub after-assoc : {A B C : Type 0} (row : ℕ) (t : Took A) (f : A → Reader B) (g : B → Reader C) → after row (after row t f) g ≡ after row t (λ a. f a >>= g)
+after-assoc row (took a rs us) f g = after-onward row rs (f a (row + length rs) us) g
+after-assoc row (refuse n p) f g = refl
+
+-- ## A word that stands alone
+
+pub lone-word : (t : List ℕ) (ts : Trees) → lone isIdent ts ≡ true → lone (isWord t) ts ≡ same (textOf ts) t
+lone-word t end e = absurd (false≢true e)
+lone-word t (group d ts us) e = absurd (false≢true e)
+lone-word t (leaf r end) e = and-last _ _ e
+lone-word t (leaf r (leaf q us)) e = absurd (false≢true e)
+lone-word t (leaf r (group d ts us)) e = absurd (false≢true e)
+
+pub lone-no-word : (t : List ℕ) (ts : Trees) → lone isIdent ts ≡ false → lone (isWord t) ts ≡ false
+lone-no-word t end e = refl
+lone-no-word t (group d ts us) e = refl
+lone-no-word t (leaf r end) e = and-fails _ _ e
+lone-no-word t (leaf r (leaf q us)) e = refl
+lone-no-word t (leaf r (group d ts us)) e = refl
+
+-- what a word's reader answered
+pub say-word : {s : List ℕ} {c : Cursor} {b0 b1 : List ℕ} {t : Took Word} {p q : MaybeWord} → p ≡ q → Meets s c b0 b1 (wordShown s p) (wordSaid c p) t → Meets s c b0 b1 (wordShown s q) (wordSaid c q) t
+say-word {s} {c} {b0} {b1} {t} e m = subst (λ (p : MaybeWord). Meets s c b0 b1 (wordShown s p) (wordSaid c p) t) e m
+
+pub word-within : {s : List ℕ} {c : Cursor} {b0 b1 : List ℕ} {t : Took Word} (w : WordAt) → Meets s c b0 b1 (wordShown s (words.Found w)) (on (w .next)) t → w .token .end ≤ length s
+word-within w (stands m h) = h .1 .within

@@ -10,7 +10,7 @@ use Rattle.token_list.specs.Contract.{InList, Skipped}
 use Rattle.token_list.specs.declared.check.Cursor.{Cursor}
 use Rattle.token_list.specs.declared.check.Refusal.{Refusal}
 use Rattle.token_list.specs.declared.stream.Token.{Token}
-use Rattle.parse.specs.Took.{Took, took, refuse, onward}
+use Rattle.parse.specs.Took.{Took, took, refuse, Reader, onward, _>>=_}
 use Rattle.parse.specs.Reading as reading
 use Rattle.parse.specs.declared.utils.Step.{Step}
 use Rattle.parse.specs.declared.utils.Step.the-variants as steps
@@ -25,6 +25,14 @@ use Rattle.parse.specs.declared.utils.Verdict.{Verdict}
 use Rattle.parse.specs.declared.utils.Verdict.the-variants as verdicts
 use Rattle.parse.specs.declared.utils.RunTurn.{RunTurn}
 use Rattle.parse.specs.declared.utils.RunTurn.the-variants as turns
+use Rattle.parse.specs.Role as role
+use Rattle.parse.specs.Declaration as declaration
+use Rattle.parse.specs.declared.data_type.DataType.{DataType}
+use Rattle.parse.specs.declared.data_type.DataType.the-variants as kinds
+use Rattle.parse.specs.declared.data_type.Worded.{Worded}
+use Rattle.parse.specs.declared.data_type.Worded.the-variants as wordeds
+use Rattle.parse.specs.declared.data_type.Headed.{Headed}
+use Rattle.parse.specs.declared.data_type.Headed.the-variants as heads
 use Rattle.parse.specs.declared.attributes.Marked.{Marked}
 use Rattle.parse.specs.declared.attributes.Marked.the-variants as marks
 
@@ -135,3 +143,29 @@ abbrev pub AttributeRead : List ℕ → Cursor → List ℕ → List ℕ → Mar
 AttributeRead s c before after (marks.On d) = Belonged s c d before after (reading.attributes (c .row) (stream s c)) (reading.attributes (d .row) (stream s d))
 AttributeRead s c before after marks.Done = (reading.attributes (c .row) (stream s c) ≡ took tt [] (stream s c)) × (after ≡ before)
 AttributeRead s c before after (marks.Refused r) = reading.attributes (c .row) (stream s c) ≡ refuse (r .number) (r .place)
+
+-- ## The answers of data_type
+
+-- the item's word alone
+abbrev pub itemWord : Reader declaration.Kind
+itemWord = reading.word role.item-word >>= reading.kindOf
+
+abbrev pub kindOf : DataType → declaration.Kind
+kindOf kinds.Struct = declaration.struct
+kindOf kinds.Enum = declaration.enum
+
+abbrev pub wordedSaid : Worded → Said
+wordedSaid (wordeds.At k d) = on d
+wordedSaid (wordeds.Refused r) = refusal r
+
+abbrev pub wordedShown : Worded → declaration.Kind → Type 0
+wordedShown (wordeds.At k d) v = kindOf k ≡ v
+wordedShown (wordeds.Refused r) v = ⊥
+
+abbrev pub headSaid : Headed → Said
+headSaid (heads.At h) = on (h .next)
+headSaid (heads.Refused r) = refusal r
+
+abbrev pub headShown : List ℕ → Headed → reading.Head → Type 0
+headShown s (heads.At h) v = (kindOf (h .kind) ≡ v .kind) × TextOf s (h .name) (v .name)
+headShown s (heads.Refused r) v = ⊥
