@@ -5,8 +5,8 @@ use mathlib.Core.List.{List, [], _∷_, _++_}
 use Prim.Native.Nat.{ℕ, zero, suc, _+_, _*_, _/_, _%_, _^_, _≤_, _<_}
 use native.Mathlib.Nat.{div-lt-iff-lt-mul, pow-suc, add-suc, add-zero, suc-add}
 use native.Mathlib.Omega.{arith}
-use lib.ListN.{length, set, length-append}
-use lib.Seq.{sets, length-sets}
+use lib.ListN.{length, take, set, length-append}
+use lib.Seq.{sets, length-sets, sets-eq, take-at}
 use lib.Dec.{ltb}
 use borrow.Author.Tests.{lt-ltb, le-ltb}
 use Rattle.report.specs.Text.{digits, decimal}
@@ -32,6 +32,12 @@ joined {k} {l} {m} {s} {t} {h} {i} {j} p q =
 
 pub kept : {k l s : List ℕ} {h i : ℕ} → Put k l h i s → length l ≡ length k
 kept {k} {l} {s} {h} p = ap length (p .bytes) ∙ length-sets k h s
+
+-- a text at the start of an output that has room for it
+pub shown : {k l s : List ℕ} {r : ℕ} → Put k l 0 r s → r ≤ length k → take r l ≡ s
+shown {k} {l} {s} {r} p room =
+    let n : length s ≡ r = omega (arith, p .next) in
+    ap (take r) (p .bytes ∙ sets-eq s k 0 (omega arith)) ∙ take-at s _ r n
 
 -- ## Digits
 
