@@ -9,6 +9,7 @@ ghost use lib.Seq.{slice};
 ghost use Rattle.token_list.specs.Text.{same};
 ghost use Rattle.token_list.specs.Check.{check};
 ghost use Rattle.report.specs.Text.{answerText};
+ghost use Rattle.replay.specs.Answer.{right};
 
 // Whether the bytes from start to end are the report of the list check.
 fn is_check(list: &[u8], s: &[u8], start: usize, end: usize) -> bool
@@ -23,6 +24,7 @@ fn is_check(list: &[u8], s: &[u8], start: usize, end: usize) -> bool
 // Whether the bytes from start to end are the answer that the section asks for.
 pub fn is_right(section: Section, list: &[u8], s: &[u8], start: usize, end: usize) -> bool
     requires { ⌜ end ≤ length (now s) ⌝ }
+    ensures { λ r. ⌜ r ≡ right section (now (list .entry)) (slice start end (now (s .entry))) ⌝ }
 {
     match section {
         Section::List => false,

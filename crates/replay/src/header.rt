@@ -1,6 +1,7 @@
 // The line in front of a section: its name, one space, its length.
+use report::put::put_bytes;
 use token_list::text::text_is;
-ghost use Prim.Native.Nat.{_≤_, _<_};
+ghost use Prim.Native.Nat.{_+_, _^_, _≤_, _<_};
 ghost use lib.ListN.{length};
 ghost use Rattle.replay.specs.State.{headed};
 
@@ -78,6 +79,18 @@ fn section_named(s: &[u8], start: usize, end: usize) -> Section
         return Section::Check;
     }
     Section::Other
+}
+
+// The name of a section that is compared.
+pub fn put_name(out: &mut [u8], at: usize, section: Section) -> usize
+    requires { ⌜ at + 5 < 2 ^ 64 ⌝ }
+    ensures { λ r. ⌜ r ≤ at + 5 ⌝ }
+{
+    match section {
+        Section::Check => put_bytes(out, at, b"check"),
+        Section::List => at,
+        Section::Other => at,
+    }
 }
 
 // The header from `from` on, within the bytes before `to`.

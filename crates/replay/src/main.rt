@@ -8,9 +8,11 @@ mod window;
 use crate::answers::is_right;
 use crate::header::Header;
 use crate::header::Section;
+use crate::header::put_name;
 use crate::header::read_header;
 use crate::state::State;
 use crate::state::count;
+use crate::state::counted;
 use crate::state::start;
 use crate::window::ready;
 use libc::STDOUT_FILENO;
@@ -56,11 +58,13 @@ fn take_list(buf: &mut [u8], list: &mut [u8], s: State, size: usize) -> Turn
     Turn::On(next)
 }
 
-fn name_difference(case: usize) {
+fn name_difference(case: usize, section: Section) {
     let mut out = [0u8; 64];
     let word = put_bytes(&mut out, 0, b"differs case ");
     let number = put_number(&mut out, word, case);
-    let end = put_bytes(&mut out, number, b" section check\n");
+    let middle = put_bytes(&mut out, number, b" section ");
+    let name = put_name(&mut out, middle, section);
+    let end = put_byte(&mut out, name, b'\n');
     io::write_all(STDOUT_FILENO, &out[..end]);
 }
 
@@ -80,15 +84,14 @@ fn compare(buf: &mut [u8], list: &[u8], s: State, section: Section, size: usize)
     }
     let end = from + size;
     let length = s.list;
-    let mut next = s;
+    let mut next = counted(s, section);
     next.from = end;
     next.to = to;
-    next.checks = count(s.checks);
     if is_right(section, &list[..length], buf, from, end) {
         return Turn::On(next);
     }
     if s.differences < 10 {
-        name_difference(s.cases);
+        name_difference(s.cases, section);
     }
     next.differences = count(s.differences);
     Turn::On(next)

@@ -1,4 +1,6 @@
 // What is kept from section to section.
+use crate::header::Section;
+ghost use mathlib.Core.Path.{_≡_};
 ghost use Prim.Native.Nat.{_≤_};
 ghost use Rattle.replay.specs.State.{Placed};
 
@@ -34,4 +36,19 @@ pub fn count(n: usize) -> usize
     ensures { λ r. ⌜ n ≤ r ⌝ }
 {
     if n < usize::MAX { n + 1 } else { n }
+}
+
+// One more answer of this section.
+pub fn counted(s: State, section: Section) -> State
+    ensures { λ r. ⌜ r .list ≡ s .list ⌝ }
+{
+    let mut next = s;
+    match section {
+        Section::Check => {
+            next.checks = count(s.checks);
+            next
+        }
+        Section::List => next,
+        Section::Other => next,
+    }
 }

@@ -6,7 +6,6 @@ use crate::put::put_refusal;
 use token_list::check::Checked;
 use token_list::check::check;
 ghost use Prim.Native.Nat.{_≤_};
-ghost use mathlib.Core.Path.{_≡_};
 ghost use Rattle.token_list.specs.Check.{check};
 ghost use Rattle.token_list.specs.Contract.{checked};
 ghost use Rattle.report.specs.Text.{answerText};

@@ -3,7 +3,7 @@
 use token_list::check::END;
 use token_list::check::Refusal;
 ghost use Prim.Native.Nat.{_+_, _^_, _≤_, _<_};
-ghost use mathlib.Core.List.{List, [], _∷_};
+ghost use mathlib.Core.List.{[], _∷_};
 ghost use lib.ListN.{length};
 ghost use Rattle.report.specs.Text.{decimal, placeText, refusalText};
 ghost use Rattle.report.specs.Contract.{Put};

@@ -22,8 +22,8 @@ returns-2 c = search needs
 add-end : tie.Need-add-end
 add-end c = search needs
 
-count-requires : tie.Need-count-requires
-count-requires c κs = search needs
+counted-requires : tie.Need-counted-requires
+counted-requires c κs = search needs
 
 slice-aggregate-is-right : tie.Need-slice-aggregate-is-right
 slice-aggregate-is-right c =
@@ -42,8 +42,8 @@ returns-3 c = search needs
 name-difference-requires : tie.Need-name-difference-requires
 name-difference-requires c κs = search needs
 
-count-requires-2 : tie.Need-count-requires-2
-count-requires-2 c κs = search needs
+count-requires : tie.Need-count-requires
+count-requires c κs = search needs
 
 same-length-3 : tie.Need-same-length-3
 same-length-3 c = search needs
@@ -61,12 +61,12 @@ compare-spec =
     same-length
     returns-2
     add-end
-    count-requires
+    counted-requires
     slice-aggregate-is-right
     is-right-requires
     same-length-2
     returns-3
     name-difference-requires
-    count-requires-2
+    count-requires
     same-length-3
     returns-4)
