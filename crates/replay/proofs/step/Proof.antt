@@ -1,9 +1,15 @@
 use native.Mathlib.Omega.{arith}
 use mathlib.Core.Path.{subst}
 use Rattle.replay.specs.State.{headed}
+use Prim.Native.Nat.{_≤_}
 use borrow.Author.Needs.{needs}
 use Rattle.replay.proofs.step.Statement.{statement}
 use Rattle.replay.proofs.step.Tie as tie
+
+-- the section that the header announces starts within the unread bytes
+begins : (c : tie.After-section) → c .section .given .0 .1 .1 .0 ≤ c .before .before .before .before .before .before .before .before .before .ready .result .to
+begins c =
+    subst (headed (c .before .before .before .before .before .before .before .before .before .ready .result .to)) (c .section .given .1) (c .before .before .read-header .ensures)
 
 ready-requires : tie.Need-ready-requires
 ready-requires c κs = search needs
@@ -43,22 +49,18 @@ enum-told-2 c = search needs
 
 take-list-requires : tie.Need-take-list-requires
 take-list-requires c κs =
-    let h = c .before .before .before .before .before .before .before in
-    let w = c .before .before .before .before .before .before .before .before .before .before .before .before .before .before .ready in
-    let a = c .before .before .before .before .before .before .before .before .before .before .before .before .before .before .before .before .before .before in
-    let t = subst (headed (w .result .to)) (c .before .before .before .before .before .section .given .1) (h .read-header .ensures) in
-    record { order = t; room = omega (arith, w .ensures .room, w .kept .0); list = a .pre .list }
+    let d = c .before .before .before .before .before in
+    let w = d .before .before .before .before .before .before .before .before .before .ready in
+    record { order = begins d; room = omega (arith, w .ensures .room, w .kept .0); list = d .before .before .before .before .before .before .before .before .before .before .before .before .before .pre .list }
 
 enum-told-3 : tie.Need-enum-told-3
 enum-told-3 c = search needs
 
 compare-requires : tie.Need-compare-requires
 compare-requires c κs =
-    let h = c .before .before .before .before .before .before .before in
-    let w = c .before .before .before .before .before .before .before .before .before .before .before .before .before .before .ready in
-    let a = c .before .before .before .before .before .before .before .before .before .before .before .before .before .before .before .before .before .before in
-    let t = subst (headed (w .result .to)) (c .before .before .before .before .before .section .given .1) (h .read-header .ensures) in
-    record { order = t; room = omega (arith, w .ensures .room, w .kept .0); list = a .pre .list }
+    let d = c .before .before .before .before .before in
+    let w = d .before .before .before .before .before .before .before .before .before .ready in
+    record { order = begins d; room = omega (arith, w .ensures .room, w .kept .0); list = d .before .before .before .before .before .before .before .before .before .before .before .before .before .pre .list }
 
 enum-told-4 : tie.Need-enum-told-4
 enum-told-4 c = search needs
@@ -92,11 +94,9 @@ same-length-9 c = search needs
 
 returns-7 : tie.Need-returns-7
 returns-7 c =
-    let h = c .before .before .before .before .before in
-    let w = c .before .before .before .before .before .before .before .before .before .before .before .before .ready in
-    let a = c .before .before .before .before .before .before .before .before .before .before .before .before .before .before .before .before in
-    let t = subst (headed (w .result .to)) (c .before .before .before .section .given .1) (h .read-header .ensures) in
-    record { order = t; room = omega (arith, w .ensures .room, w .kept .0); list = a .pre .list }
+    let d = c .before .before .before in
+    let w = d .before .before .before .before .before .before .before .before .before .ready in
+    record { order = begins d; room = omega (arith, w .ensures .room, w .kept .0); list = d .before .before .before .before .before .before .before .before .before .before .before .before .before .pre .list }
 
 pub step-spec : {M : Type 1} → statement M
 step-spec =
