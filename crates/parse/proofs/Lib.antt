@@ -1,0 +1,2 @@
+-- Laws on the definitions, which the proofs of the functions cite.
+pub mod Conserved
