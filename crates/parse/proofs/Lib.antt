@@ -1,2 +1,3 @@
 -- Laws on the definitions, which the proofs of the functions cite.
 pub mod Conserved
+pub mod GrammarSound

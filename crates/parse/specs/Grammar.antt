@@ -5,7 +5,7 @@
 use mathlib.Core.Path.{_≡_}
 use mathlib.Core.Bool.{Bool, true, false, not, _&&_, _||_}
 use mathlib.Core.List.{List, [], _∷_, _++_}
-use Prim.Native.Nat.{ℕ, suc, _+_}
+use Prim.Native.Nat.{ℕ, _+_, _-_}
 use lib.Dec.{eqb, leb}
 use lib.ListN.{length, replicate}
 use Rattle.token_list.specs.Row.{Row}
@@ -71,11 +71,11 @@ module _ (allowed : Difference → Bool) where
     -- 2. `<` adds one to the depth
     deeper : {depth : ℕ} {minus : Bool} {q : Row} {us vs : Trees} {rs : List ℕ} → isPunct 60 q ≡ true → Run st r (depth + 1) false us vs rs → Run st r depth minus (leaf q us) vs (r ∷ rs)
     -- 3. other `>`: above depth 0, subtract one
-    back : {depth : ℕ} {q : Row} {us vs : Trees} {rs : List ℕ} → isPunct 62 q ≡ true → Run st r depth false us vs rs → Run st r (suc depth) false (leaf q us) vs (r ∷ rs)
+    back : {depth : ℕ} {q : Row} {us vs : Trees} {rs : List ℕ} → isPunct 62 q ≡ true → eqb depth 0 ≡ false → Run st r (depth - 1) false us vs rs → Run st r depth false (leaf q us) vs (r ∷ rs)
     -- 3. at 0, the run ends before it if `>` is a stop
-    angle : {q : Row} {us : Trees} → isPunct 62 q ≡ true → st .angle ≡ true → Run st r 0 false (leaf q us) (leaf q us) []
+    angle : {depth : ℕ} {q : Row} {us : Trees} → isPunct 62 q ≡ true → eqb depth 0 ≡ true → st .angle ≡ true → Run st r depth false (leaf q us) (leaf q us) []
     -- 4. another stop punctuation at depth 0 ends the run before it
-    comma : {minus : Bool} {q : Row} {us : Trees} → isPunct 44 q ≡ true → st .comma ≡ true → Run st r 0 minus (leaf q us) (leaf q us) []
+    comma : {depth : ℕ} {minus : Bool} {q : Row} {us : Trees} → isPunct 44 q ≡ true → eqb depth 0 ≡ true → st .comma ≡ true → Run st r depth minus (leaf q us) (leaf q us) []
     -- 5. at depth 0, a brace or parenthesis group ends the run if `{` or `(` is a stop
     stop : {depth : ℕ} {minus : Bool} {d : ℕ} {ts us : Trees} → stopping st depth d ≡ true → Run st r depth minus (group d ts us) (group d ts us) []
     -- 6. everything else belongs: a token
