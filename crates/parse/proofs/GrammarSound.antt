@@ -225,7 +225,7 @@ punctIf-sound b row (leaf q us) = choice (isPunct b q) (λ e. met (role.separato
 punctIf-sound b row (group d ts us) = met [] (group d ts us) (g.Mark.absent refl)
 
 -- a mark that may stand, with its run
-data Marked (b : ℕ) : Trees → List ℕ → Trees → Type 0 where
+pub data Marked (b : ℕ) : Trees → List ℕ → Trees → Type 0 where
   none : {ts : Trees} → starts (isPunct b) ts ≡ false → Marked b ts [] ts
   some : {c : Row} {us vs : Trees} {rs : List ℕ} → isPunct b c ≡ true → g.Run everything parameterStops role.bound 0 false us vs rs → Marked b (leaf c us) (role.separator ∷ rs) vs
 

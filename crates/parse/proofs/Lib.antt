@@ -1,3 +1,4 @@
 -- Laws on the definitions, which the proofs of the functions cite.
 pub mod Conserved
 pub mod GrammarSound
+pub mod GrammarComplete
