@@ -2,3 +2,5 @@
 pub mod Conserved
 pub mod GrammarSound
 pub mod GrammarComplete
+pub mod GrammarRoles
+pub mod Promise

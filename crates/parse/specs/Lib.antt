@@ -7,4 +7,5 @@ pub mod Took
 pub mod Grammar
 pub mod Reading
 pub mod Answer
+pub mod Promise
 pub mod Contract
