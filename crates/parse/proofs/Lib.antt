@@ -4,3 +4,4 @@ pub mod GrammarSound
 pub mod GrammarComplete
 pub mod GrammarRoles
 pub mod Promise
+pub mod Examples

@@ -8,4 +8,5 @@ pub mod Grammar
 pub mod Reading
 pub mod Answer
 pub mod Promise
+pub mod Examples
 pub mod Contract
