@@ -1,4 +1,10 @@
--- Laws on the reading, the role buffer and the contracts, which the proofs of the functions cite.
+-- Laws on the reading, the grammar, the role buffer and the contracts, which the proofs of the functions cite.
+pub mod Conserved
+pub mod GrammarSound
+pub mod GrammarComplete
+pub mod GrammarRoles
+pub mod Promise
+pub mod Examples
 pub mod Buffer
 pub mod Meeting
 pub mod Judge

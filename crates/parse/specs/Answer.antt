@@ -35,3 +35,8 @@ answer s n = checkedAnswer s n (list.check s)
 abbrev pub buffer : ℕ → Answer → List ℕ
 buffer n (declared d rs) = rs ++ replicate (n - length rs) 255
 buffer n (refused m p) = replicate n 255
+
+-- whether the reader of declarations refuses nothing
+abbrev pub accepts : Answer → Bool
+accepts (declared d rs) = true
+accepts (refused m p) = false

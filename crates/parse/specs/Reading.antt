@@ -10,30 +10,9 @@ use Rattle.token_list.specs.Row.{Row, first}
 use Rattle.token_list.specs.Check.{END}
 use Rattle.token_list.specs.Stream.{Trees, end, leaf, group, size}
 use Rattle.parse.specs.Role as role
+pub use Rattle.parse.specs.Token.{isIdent, isLiteral, isPunct, isWord, whole, copied, lone, PUB, STRUCT, ENUM, CONST, WHERE, scopeWord, scoped, worthFrom, worth, negatable, Stops, parameterStops, fieldStops, clauseStops}
 use Rattle.parse.specs.Declaration.{Kind, struct, enum, Parameter, lifetime, constant, type, Field, Fields, unit, named, tuple, Value, absent, literal, negative, Variant, Body, fields, variants, Declaration}
 use Rattle.parse.specs.Took.{Took, took, refuse, Reader, onward, after, _>>=_, pure, placeOf, wrong}
-
--- ## Tokens
-
-abbrev pub isIdent : Row → Bool
-isIdent r = eqb (r .kind) 105
-
-abbrev pub isLiteral : Row → Bool
-isLiteral r = eqb (r .kind) 108
-
-abbrev pub isPunct : ℕ → Row → Bool
-isPunct b r = eqb (r .kind) 112 && eqb (first (r .text)) b
-
-abbrev pub isWord : List ℕ → Row → Bool
-isWord t r = isIdent r && same (r .text) t
-
--- the rows of a group: its opening row, its inside, its closing row
-abbrev pub whole : Trees → ℕ
-whole ts = 1 + size ts + 1
-
--- a copied group: the same role for all its rows
-abbrev pub copied : ℕ → Trees → List ℕ
-copied r ts = replicate (whole ts) r
 
 -- ## Words and punctuation (parse/utils.rs)
 
@@ -41,14 +20,6 @@ copied r ts = replicate (whole ts) r
 pub data Word : Type 0 where
   missing : Word
   found : List ℕ → ℕ → Word
-
--- a stream of one token that passes the test
-abbrev pub lone : (Row → Bool) → Trees → Bool
-lone p end = false
-lone p (group d ts us) = false
-lone p (leaf r end) = p r
-lone p (leaf r (leaf q us)) = false
-lone p (leaf r (group d ts us)) = false
 
 abbrev pub textOf : Trees → List ℕ
 textOf end = []
@@ -67,11 +38,6 @@ punctIf b r row (leaf q us) = cond (isPunct b q) (took true (r ∷ []) us) (took
 punctIf b r row (group d ts us) = took false [] (group d ts us)
 
 -- ## Runs
-
-pub record Stops : Type 0 where
-  pub comma : Bool
-  pub angle : Bool
-  pub group : Bool
 
 pub data Ending : Type 0 where
   atComma atAngle atGroup atEnd : Ending
@@ -131,15 +97,6 @@ abbrev pub runIf : Bool → Stops → ℕ → Reader Trees
 runIf true st r = run st r
 runIf false st r = pure end
 
-abbrev pub parameterStops : Stops
-parameterStops = record { comma = true; angle = true; group = false }
-
-abbrev pub fieldStops : Stops
-fieldStops = record { comma = true; angle = false; group = false }
-
-abbrev pub clauseStops : Stops
-clauseStops = record { comma = false; angle = false; group = true }
-
 -- ## Attributes (parse/attributes.rs; OuterAttribute): `#` is 35, `[` is 91
 
 abbrev mutual
@@ -156,20 +113,6 @@ abbrev mutual
   marked row (leaf r us) = cond (isPunct 35 r) (onward (role.idle-mark ∷ []) (marked (row + 1) us)) (refuse 13 (row + 1))
 
 -- ## Visibility (parse/visibility.rs; Visibility): `(` is 40
-
-abbrev pub PUB : List ℕ
-PUB = 112 ∷ 117 ∷ 98 ∷ []
-
--- crate, self, super or in
-abbrev pub scopeWord : Row → Bool
-scopeWord r =
-    isWord (99 ∷ 114 ∷ 97 ∷ 116 ∷ 101 ∷ []) r
-    || (isWord (115 ∷ 101 ∷ 108 ∷ 102 ∷ []) r || (isWord (115 ∷ 117 ∷ 112 ∷ 101 ∷ 114 ∷ []) r || isWord (105 ∷ 110 ∷ []) r))
-
-abbrev pub scoped : Trees → Bool
-scoped end = false
-scoped (leaf r ts) = scopeWord r
-scoped (group d ts us) = false
 
 -- the group after a plain `pub`, and after a wrapped one
 abbrev pub scopeAfter : Reader (Unit {0})
@@ -189,12 +132,6 @@ visibility row (group d ts us) =
     cond (lone (isWord PUB) ts) (onward (copied role.visibility ts) (anyScope (row + whole ts) us)) (took tt [] (group d ts us))
 
 -- ## The item's word and name (parse/data_type.rs)
-
-abbrev pub STRUCT : List ℕ
-STRUCT = 115 ∷ 116 ∷ 114 ∷ 117 ∷ 99 ∷ 116 ∷ []
-
-abbrev pub ENUM : List ℕ
-ENUM = 101 ∷ 110 ∷ 117 ∷ 109 ∷ []
 
 -- the word that must stand here, or 11
 abbrev pub named! : Word → Reader (List ℕ)
@@ -218,9 +155,6 @@ dataType = do
   pure (record { kind = k; name = n })
 
 -- ## Generics (parse/generics.rs; GenericParams): ' : = < > , are 39, 58, 61, 60, 62 and 44
-
-abbrev pub CONST : List ℕ
-CONST = 99 ∷ 111 ∷ 110 ∷ 115 ∷ 116 ∷ []
 
 -- an ident as a parameter's name, or a refusal: n at what stands there, or at p where nothing does
 abbrev pub parameterName : ℕ → ℕ → Reader (List ℕ)
@@ -299,9 +233,6 @@ generics row (leaf r us) = cond (isPunct 60 r) (from role.angle row us (every (p
 
 -- ## The where clause (GenericConstraints; WhereClause)
 
-abbrev pub WHERE : List ℕ
-WHERE = 119 ∷ 104 ∷ 101 ∷ 114 ∷ 101 ∷ []
-
 abbrev pub clause : Reader Trees
 clause row end = took end [] end
 clause row (group d ts us) = took end [] (group d ts us)
@@ -365,18 +296,6 @@ variantFields row end = took unit [] end
 variantFields row (leaf r us) = took unit [] (leaf r us)
 variantFields row (group d ts us) =
     cond (eqb d 123) (enclosed namedFields row ts us) (cond (eqb d 40) (enclosed tupleFields row ts us) (refuse 19 row))
-
--- the worth of decimal digits
-abbrev pub worthFrom : ℕ → List ℕ → ℕ
-worthFrom n [] = n
-worthFrom n (b ∷ bs) = worthFrom (n * 10 + (b - 48)) bs
-
-abbrev pub worth : List ℕ → ℕ
-worth t = worthFrom 0 t
-
--- digits alone, worth at most the largest i64
-unfoldable pub negatable : List ℕ → Bool
-negatable t = all digit t && leb (worth t) 9223372036854775807
 
 -- after `-`
 abbrev pub negativeValue : Reader Value

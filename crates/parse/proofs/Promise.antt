@@ -1,0 +1,94 @@
+-- The answer of the reader of declarations keeps the promise on roles.
+use mathlib.Core.Path.{_≡_, refl, ap, _∙_, sym, subst}
+use mathlib.Core.Bool.{Bool, true, false, cond, true≢false, false≢true}
+use mathlib.Core.List.{List, [], _∷_, _++_}
+use Prim.Native.Nat.{ℕ, _+_, _-_, _≤_, _<_}
+use native.Mathlib.Omega.{arith}
+use borrow.Author.Tests.{ltb-true, ltb-false}
+use lib.Dec.{ltb}
+use lib.ListN.{length, replicate, length-append, length-replicate}
+use Rattle.token_list.specs.Check as list
+use Rattle.token_list.specs.Stream.{Trees, size, at, rowsAt}
+use Rattle.token_list.proofs.Passed.{passed-list}
+use Rattle.parse.specs.Role as role
+use Rattle.parse.specs.Grammar.{Obeys, everything}
+use Rattle.parse.specs.Declaration.{Declaration}
+use Rattle.parse.specs.Took.{Took, took, refuse}
+use Rattle.parse.specs.Reading.{item}
+use Rattle.parse.specs.Answer.{Answer, declared, refused, itemAnswer, checkedAnswer, answer, buffer, accepts}
+use Rattle.parse.specs.Promise.{stream, Assignment, OneEach, SingleAssignment}
+use Rattle.parse.proofs.Conserved.{conserved, Conserved, item-conserving}
+use Rattle.parse.proofs.GrammarSound.{obeys-sound}
+use Rattle.parse.proofs.GrammarComplete.{Read, obeys-complete}
+use Rattle.parse.proofs.GrammarRoles.{obeys-roles}
+
+-- ## Assignments of a stream
+
+pub obeys-unique : {ts : Trees} (rs qs : List ℕ) → Obeys everything ts rs → Obeys everything ts qs → rs ≡ qs
+obeys-unique rs qs h k = go (obeys-complete h) (obeys-complete k)
+  where
+    go : {ts : Trees} → Read ts rs → Read ts qs → rs ≡ qs
+    go a b =
+        let same : took (a .declaration) (a .taken) (a .rest) ≡ took (b .declaration) (b .taken) (b .rest) = sym (a .reading) ∙ b .reading in
+        let t : a .taken ≡ b .taken = cc same in
+        let u : a .rest ≡ b .rest = cc same in
+        a .roles ∙ (λ i. t i ++ replicate (size (u i)) role.left-over) ∙ sym (b .roles)
+
+pub obeys-length : {ts : Trees} (rs : List ℕ) → Obeys everything ts rs → length rs ≡ size ts
+obeys-length {ts} rs h =
+    let a = obeys-complete h in
+    let k = conserved (subst (Conserved ts) (a .reading) (item-conserving 0 ts)) in
+    ap length (a .roles) ∙ omega (arith, length-append (a .taken) (replicate (size (a .rest)) role.left-over), length-replicate (size (a .rest)) role.left-over)
+
+never : {d : Declaration} {rs : List ℕ} {us : Trees} {n p : ℕ} → took d rs us ≡ refuse n p → ⊥
+never e = let z : _≡_ {A = ℕ} 0 1 = cc in omega arith
+
+-- ## Lists
+
+module _ (s : List ℕ) where
+  one-each : (k : ℕ) → list.check s ≡ list.Answer.passed k → (roles : List ℕ) → Assignment s roles → OneEach s roles
+  one-each k e roles o = let p = passed-list s k e in record { counted = obeys-length roles o ∙ p .size ∙ sym (p .count); named = obeys-roles everything o }
+
+  module _ (n : ℕ) where
+    -- nothing is accepted
+    refusing : (m p : ℕ) → ((k : ℕ) → list.check s ≡ list.Answer.passed k → k ≤ n → (roles : List ℕ) → Assignment s roles → ⊥)
+        → SingleAssignment s n (accepts (refused m p)) (buffer n (refused m p))
+    refusing m p h =
+        record {
+          exactly = λ k e l. ((λ f. absurd (false≢true f)), (λ o. absurd (h k e l (o .0) (o .1))));
+          unique = obeys-unique;
+          each = one-each;
+          filled = λ f. absurd (false≢true f);
+          cleared = λ f. refl;
+        }
+
+    accepting : (k : ℕ) (d : Declaration) (rs : List ℕ) → list.check s ≡ list.Answer.passed k → k ≤ n → Assignment s rs → SingleAssignment s n (accepts (declared d rs)) (buffer n (declared d rs))
+    accepting k d rs e l o =
+        let c = one-each k e rs o in
+        let p = passed-list s k e in
+        let fits : length rs ≤ n = omega (arith, c .counted, p .count) in
+        record {
+          exactly = λ j f i. ((λ t. (rs, o)), (λ t. refl));
+          unique = obeys-unique;
+          each = one-each;
+          filled = λ f. (rs, o, c, fits, refl);
+          cleared = λ f. absurd (true≢false f);
+        }
+
+    by-item : (k : ℕ) → list.check s ≡ list.Answer.passed k → k ≤ n → (t : Took Declaration) → item 0 (stream s) ≡ t → SingleAssignment s n (accepts (itemAnswer t)) (buffer n (itemAnswer t))
+    by-item k e l (took d rs us) i = accepting k d (rs ++ replicate (size us) role.left-over) e l (obeys-sound i)
+    by-item k e l (refuse m p) i = refusing m p (λ j f g roles o. let a = obeys-complete o in never (sym (a .reading) ∙ i))
+
+    by-room : (k : ℕ) → list.check s ≡ list.Answer.passed k → (b : Bool) → ltb n k ≡ b
+        → SingleAssignment s n (accepts (cond b (refused 8 list.END) (itemAnswer (item 0 (stream s))))) (buffer n (cond b (refused 8 list.END) (itemAnswer (item 0 (stream s)))))
+    by-room k e true l = refusing 8 list.END (λ j f i roles o. let q : j ≡ k = cc (sym f ∙ e) in omega (arith, ltb-true n k l))
+    by-room k e false l = by-item k e (ltb-false n k l) (item 0 (stream s)) refl
+
+    by-check : (a : list.Answer) → list.check s ≡ a → SingleAssignment s n (accepts (checkedAnswer s n a)) (buffer n (checkedAnswer s n a))
+    by-check (list.Answer.refused m p) e = refusing m p (λ j f i roles o. let q = sym f ∙ e in let z : _≡_ {A = ℕ} 0 1 = cc in omega arith)
+    by-check (list.Answer.passed k) e = by-room k e (ltb n k) refl
+
+    -- the whole answer and the whole buffer, as they are defined
+    pub promise : SingleAssignment s n (accepts (answer s n)) (buffer n (answer s n))
+    unfolding answer
+    promise = by-check (list.check s) refl
