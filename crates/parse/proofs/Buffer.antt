@@ -27,7 +27,7 @@ pub fill-start : (l : List ℕ) (from v : ℕ) → l ≡ sets l from (replicate 
 fill-start l from v = let z : 0 ≡ from - from = omega arith in ap (λ (n : ℕ). sets l from (replicate n v)) z
 
 pub fill-step : (l : List ℕ) (from i v : ℕ) → from ≤ i
-  → set (sets l from (replicate (i - from) v)) i v ≡ sets l from (replicate (i + 1 - from) v)
+    → set (sets l from (replicate (i - from) v)) i v ≡ sets l from (replicate (i + 1 - from) v)
 fill-step l from i v h =
     let a : i + 1 - from ≡ suc (i - from) = omega arith in
     let b : from + (i - from) ≡ i = omega arith in

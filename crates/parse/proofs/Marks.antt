@@ -40,12 +40,12 @@ module _ (s : List ℕ) (c : Cursor) (inList : InList s c) (t : Token) (l : Leaf
 
       pub mark-idle : (b0 b1 : List ℕ) → b1 ≡ set b0 (c .row) 3 → isPunct 35 (rowOf s q) ≡ true → Belonged s c d b0 b1 here (attributes (d .row) (stream s d))
       mark-idle b0 b1 w f =
-          record
-            { roles = 3 ∷ []
-            ; moved = leaf-taken attributes s c inList (λ x. Unit) t l d b0 b1 3 p w
-            ; some = omega arith
-            ; same = after-mark _ (n .here) ∙ chosen _ _ _ f ∙ sym (ap (onward (3 ∷ [])) ((λ i. attributes (below i) (n .here i)) ∙ chosen _ _ _ f))
-            }
+          record {
+            roles = 3 ∷ [];
+            moved = leaf-taken attributes s c inList (λ x. Unit) t l d b0 b1 3 p w;
+            some = omega arith;
+            same = after-mark _ (n .here) ∙ chosen _ _ _ f ∙ sym (ap (onward (3 ∷ [])) ((λ i. attributes (below i) (n .here i)) ∙ chosen _ _ _ f));
+          }
 
     module _ (q : Token) (k : InList s d) (g : GroupAt s (d .at) q) where
       abbrev ins : Trees
@@ -58,14 +58,14 @@ module _ (s : List ℕ) (c : Cursor) (inList : InList s c) (t : Token) (l : Leaf
       mark-wrong f = after-mark _ (group-stream s d q k g) ∙ passed-over _ _ _ (ne-eqb _ _ f) ∙ ap (refuse 12) (sym below)
 
       pub mark-group : (b0 b1 b2 : List ℕ) (x : Cursor) → q .mark ≡ 91 → b1 ≡ set b0 (c .row) 1 → Moved s d x (copied 2 ins) aft b1 b2
-        → Belonged s c x b0 b2 here (attributes (x .row) (stream s x))
+          → Belonged s c x b0 b2 here (attributes (x .row) (stream s x))
       mark-group b0 b1 b2 x f w m =
           let h : length (copied 2 ins) ≡ whole ins = length-replicate (whole ins) 2 in
           let r : c .row + 1 + whole ins ≡ x .row = omega (arith, m .row, h, below) in
           let n = moved-on (leaf-taken attributes s c inList (λ x. Unit) t l d b0 b1 1 p w) m in
-          record
-            { roles = 1 ∷ copied 2 ins
-            ; moved = record { inList = n .inList; row = n .row; forth = n .forth; here = refl; outer = n .outer; roles = n .roles }
-            ; some = omega arith
-            ; same = after-mark _ (group-stream s d q k g) ∙ chosen _ _ _ (eq-eqb _ _ f) ∙ (λ i. onward (1 ∷ copied 2 ins) (attributes (r i) (sym (m .here) i)))
-            }
+          record {
+            roles = 1 ∷ copied 2 ins;
+            moved = record { inList = n .inList; row = n .row; forth = n .forth; here = refl; outer = n .outer; roles = n .roles };
+            some = omega arith;
+            same = after-mark _ (group-stream s d q k g) ∙ chosen _ _ _ (eq-eqb _ _ f) ∙ (λ i. onward (1 ∷ copied 2 ins) (attributes (r i) (sym (m .here) i)));
+          }

@@ -1,7 +1,7 @@
 -- Laws on the readers' contract: one law for each way to put readers together.
 use mathlib.Core.Path.{_≡_, refl, ap, _∙_, sym, subst, subst⁻¹}
 use mathlib.Core.Bool.{Bool, true, false, _&&_, false≢true}
-use mathlib.Core.List.{List, [], _∷_, _++_, append-assoc}
+use mathlib.Core.List.{List, [], _∷_, _++_, append-assoc, append-nil}
 use Prim.Native.Nat.{ℕ, zero, suc, _+_, _-_, _≤_, _<_}
 use native.Mathlib.Omega.{arith}
 use lib.Dec.{eqb}
@@ -13,9 +13,9 @@ use Rattle.token_list.specs.Contract.{InList, TokenAt, LeafAt, GroupAt, Skipped
 use Rattle.token_list.specs.declared.stream.Peeked.{Peeked}
 use Rattle.token_list.specs.declared.check.Cursor.{Cursor}
 use Rattle.token_list.specs.declared.stream.Token.{Token}
-use Rattle.parse.specs.Took.{Took, took, refuse, Reader, onward, after, _>>=_, placeOf}
-use Rattle.parse.specs.Reading.{copied, whole, lone, isPunct, isIdent, isWord, textOf, Word, missing, found}
-use Rattle.parse.specs.Contract.{Moved, Said, on, no, Meets, stands, refuses, refusal, stream, pastOf, Belonged, TextOf, wordShown, wordSaid}
+use Rattle.parse.specs.Took.{Took, took, refuse, Reader, onward, after, _>>=_, placeOf, pure}
+use Rattle.parse.specs.Reading.{copied, whole, lone, isPunct, isIdent, isWord, textOf, Word, missing, found, Ending, kept}
+use Rattle.parse.specs.Contract.{Moved, Said, on, no, Meets, stands, refuses, refusal, any, stream, pastOf, Belonged, TextOf, wordShown, wordSaid}
 use Rattle.parse.specs.declared.utils.Word.{Word as WordAt}
 use Rattle.parse.specs.declared.utils.MaybeWord.{MaybeWord}
 use Rattle.parse.specs.declared.utils.MaybeWord.the-variants as words
@@ -30,16 +30,16 @@ pub moved-none : (s : List ℕ) (c : Cursor) (b : List ℕ) → InList s c → M
 moved-none s c b i = record { inList = i; row = omega arith; forth = omega arith; here = refl; outer = refl; roles = refl }
 
 pub moved-on : {s : List ℕ} {a b c : Cursor} {rs qs : List ℕ} {us vs : Trees} {b0 b1 b2 : List ℕ}
-  → Moved s a b rs us b0 b1 → Moved s b c qs vs b1 b2 → Moved s a c (rs ++ qs) vs b0 b2
+    → Moved s a b rs us b0 b1 → Moved s b c qs vs b1 b2 → Moved s a c (rs ++ qs) vs b0 b2
 moved-on {s} {a} {b} {c} {rs} {qs} {us} {vs} {b0} {b1} {b2} m n =
-    record
-      { inList = n .inList
-      ; row = omega (arith, m .row, n .row, length-append rs qs)
-      ; forth = omega (arith, m .forth, n .forth, length-append rs qs)
-      ; here = n .here
-      ; outer = n .outer ∙ m .outer
-      ; roles = n .roles ∙ (λ i. sets (m .roles i) (m .row i) qs) ∙ sym (sets-append b0 (a .row) rs qs)
-      }
+    record {
+      inList = n .inList;
+      row = omega (arith, m .row, n .row, length-append rs qs);
+      forth = omega (arith, m .forth, n .forth, length-append rs qs);
+      here = n .here;
+      outer = n .outer ∙ m .outer;
+      roles = n .roles ∙ (λ i. sets (m .roles i) (m .row i) qs) ∙ sym (sets-append b0 (a .row) rs qs);
+    }
 
 module _ (s : List ℕ) (c : Cursor) (t : Token) (i : InList s c) where
   pub past-fits : TokenAt s (c .at) t → (c .row < length s) × (c .at + 1 ≤ t .next)
@@ -47,42 +47,42 @@ module _ (s : List ℕ) (c : Cursor) (t : Token) (i : InList s c) where
 
   pub past-in : TokenAt s (c .at) t → InList s (pastOf c t)
   past-in k =
-      record
-        { counted = omega (arith, i .counted, k .start, k .text, k .next)
-        ; within = k .within
-        ; whole = k .whole
-        }
+      record {
+        counted = omega (arith, i .counted, k .start, k .text, k .next);
+        within = k .within;
+        whole = k .whole;
+      }
 
   pub leaf-moved : (b : List ℕ) (r : ℕ) → LeafAt s (c .at) t → Moved s c (pastOf c t) (r ∷ []) (stream s (pastOf c t)) b (set b (c .row) r)
   leaf-moved b r l =
-      record
-        { inList = past-in (l .token)
-        ; row = omega arith
-        ; forth = omega (arith, past-fits (l .token))
-        ; here = refl
-        ; outer = sym (l .outer)
-        ; roles = refl
-        }
+      record {
+        inList = past-in (l .token);
+        row = omega arith;
+        forth = omega (arith, past-fits (l .token));
+        here = refl;
+        outer = sym (l .outer);
+        roles = refl;
+      }
 
   pub group-follows : GroupAt s (c .at) t → follows (at s (t .next) .outer) ≡ true
   group-follows g = ap follows (g .outer)
 
   -- past a whole group, every row with the role r
   pub group-moved : (b : List ℕ) (r : ℕ) (d : Cursor) → GroupAt s (c .at) t → Skipped s (pastOf c t) d
-    → Moved s c d (copied r (at s (t .next) .here)) (head (at s (t .next) .outer)) b (sets b (c .row) (replicate (d .row - c .row) r))
+      → Moved s c d (copied r (at s (t .next) .here)) (head (at s (t .next) .outer)) b (sets b (c .row) (replicate (d .row - c .row) r))
   group-moved b r d g k =
       let w = whole (at s (t .next) .here) in
       let n : d .row ≡ c .row + w = omega (arith, k .row) in
       let l : length (copied r (at s (t .next) .here)) ≡ w = length-replicate w r in
       let z : d .row - c .row ≡ w = omega (arith, n) in
-      record
-        { inList = k .inList
-        ; row = omega (arith, n, l)
-        ; forth = omega (arith, k .forth, l, past-fits (g .token))
-        ; here = sym (ap head (k .streams))
-        ; outer = ap others (sym (k .streams) ∙ g .outer)
-        ; roles = ap (λ (x : ℕ). sets b (c .row) (replicate x r)) z
-        }
+      record {
+        inList = k .inList;
+        row = omega (arith, n, l);
+        forth = omega (arith, k .forth, l, past-fits (g .token));
+        here = sym (ap head (k .streams));
+        outer = ap others (sym (k .streams) ∙ g .outer);
+        roles = ap (λ (x : ℕ). sets b (c .row) (replicate x r)) z;
+      }
 
   -- what the group's streams are
   pub group-stream : GroupAt s (c .at) t → stream s c ≡ group (t .mark) (at s (t .next) .here) (head (at s (t .next) .outer))
@@ -110,20 +110,20 @@ pub meets-stay : {A : Type 0} (s : List ℕ) (c : Cursor) (b : List ℕ) (sh : A
 meets-stay s c b sh a i h = stands (moved-none s c b i) h
 
 pub meets-onward : {A : Type 0} {s : List ℕ} {c d : Cursor} {rs : List ℕ} {us : Trees} {b0 b1 b2 : List ℕ} {sh : A → Type 0} {x : Said} {t : Took A}
-  → Moved s c d rs us b0 b1 → Meets s d b1 b2 sh x t → Meets s c b0 b2 sh x (onward rs t)
+    → Moved s c d rs us b0 b1 → Meets s d b1 b2 sh x t → Meets s c b0 b2 sh x (onward rs t)
 meets-onward m (stands n h) = stands (moved-on m n) h
 meets-onward m refuses = refuses
 
 -- a reader, and then another from where it stopped
 pub meets-then : {A B : Type 0} {s : List ℕ} {c d : Cursor} {b0 b1 b2 : List ℕ} {sh : A → Type 0} {sh2 : B → Type 0} {x : Said} {t : Took A}
-  (f : A → Reader B) → Meets s c b0 b1 sh (on d) t → ((a : A) → sh a → Meets s d b1 b2 sh2 x (f a (d .row) (stream s d)))
-  → Meets s c b0 b2 sh2 x (after (c .row) t f)
+    (f : A → Reader B) → Meets s c b0 b1 sh (on d) t → ((a : A) → sh a → Meets s d b1 b2 sh2 x (f a (d .row) (stream s d)))
+    → Meets s c b0 b2 sh2 x (after (c .row) t f)
 meets-then {s = s} {c} {d} {b0} {b1} {b2} {sh} {sh2} {x} f (stands {a = a} {rs = rs} {us = us} m h) k =
     meets-onward m (subst (λ u. Meets s d b1 b2 sh2 x (f a (c .row + length rs) u)) (m .here) (subst (λ r. Meets s d b1 b2 sh2 x (f a r (stream s d))) (m .row) (k a h)))
 
 -- a reader that refuses
 pub meets-no : {A B : Type 0} {s : List ℕ} {c : Cursor} {b0 b1 b2 : List ℕ} {sh : A → Type 0} {sh2 : B → Type 0} {n p : ℕ} {t : Took A}
-  (f : A → Reader B) → Meets s c b0 b1 sh (no n p) t → Meets s c b0 b2 sh2 (no n p) (after (c .row) t f)
+    (f : A → Reader B) → Meets s c b0 b1 sh (no n p) t → Meets s c b0 b2 sh2 (no n p) (after (c .row) t f)
 meets-no f refuses = refuses
 
 -- what stands at a cursor, by the answer that was given
@@ -162,20 +162,20 @@ module _ {A : Type 0} (m : Reader A) (s : List ℕ) (c : Cursor) (inList : InLis
 
     -- it takes the token and goes on
     pub meets-from : (b2 : List ℕ) (x : Said) (k : Reader A) → m (c .row) (leaf (rowOf s t) (at s (t .next) .here)) ≡ onward (r ∷ []) (k (c .row + 1) (at s (t .next) .here))
-      → Meets s d b1 b2 sh x (k (d .row) (stream s d)) → Meets s c b0 b2 sh x (m (c .row) (stream s c))
+        → Meets s d b1 b2 sh x (k (d .row) (stream s d)) → Meets s c b0 b2 sh x (m (c .row) (stream s c))
     meets-from b2 x k f g =
         meets-as (ap (m (c .row)) (l .here) ∙ f ∙ ap (λ (y : Cursor). onward (r ∷ []) (k (y .row) (stream s y))) (sym e)) (meets-onward leaf-taken g)
 
   module _ (t : Token) (g : GroupAt s (c .at) t) (d : Cursor) (b0 b1 rs : List ℕ) (moved : Moved s c d rs (head (at s (t .next) .outer)) b0 b1) where
     -- it takes the group
     pub meets-group : (a : A) → m (c .row) (group (t .mark) (at s (t .next) .here) (head (at s (t .next) .outer))) ≡ took a rs (head (at s (t .next) .outer)) → sh a
-      → Meets s c b0 b1 sh (on d) (m (c .row) (stream s c))
+        → Meets s c b0 b1 sh (on d) (m (c .row) (stream s c))
     meets-group a k h = meets-as (ap (m (c .row)) (group-stream s c t inList g) ∙ k) (stands moved h)
 
     -- it takes the group and goes on
     pub meets-group-from : (b2 : List ℕ) (x : Said) (k : Reader A)
-      → m (c .row) (group (t .mark) (at s (t .next) .here) (head (at s (t .next) .outer))) ≡ onward rs (k (c .row + length rs) (head (at s (t .next) .outer)))
-      → Meets s d b1 b2 sh x (k (d .row) (stream s d)) → Meets s c b0 b2 sh x (m (c .row) (stream s c))
+        → m (c .row) (group (t .mark) (at s (t .next) .here) (head (at s (t .next) .outer))) ≡ onward rs (k (c .row + length rs) (head (at s (t .next) .outer)))
+        → Meets s d b1 b2 sh x (k (d .row) (stream s d)) → Meets s c b0 b2 sh x (m (c .row) (stream s c))
     meets-group-from b2 x k f n =
         meets-as
         (ap (m (c .row)) (group-stream s c t inList g) ∙ f ∙ (λ i. onward rs (k (sym (moved .row) i) (sym (moved .here) i))))
@@ -185,12 +185,12 @@ module _ {A : Type 0} (m : Reader A) (s : List ℕ) (c : Cursor) (inList : InLis
 pub leaf-skipped : (s : List ℕ) (c d : Cursor) (t : Token) → LeafAt s (c .at) t → Skipped s (pastOf c t) d → Skipped s c d
 leaf-skipped s c d t l k =
     let z = ap size (l .here) in
-    record
-      { inList = k .inList
-      ; forth = omega (arith, k .forth, z, l .token .start, l .token .text, l .token .next)
-      ; row = omega (arith, k .row, z)
-      ; streams = l .outer ∙ k .streams
-      }
+    record {
+      inList = k .inList;
+      forth = omega (arith, k .forth, z, l .token .start, l .token .text, l .token .next);
+      row = omega (arith, k .row, z);
+      streams = l .outer ∙ k .streams;
+    }
 
 lone-not : (p : Row → Bool) (r : Row) (us : Trees) → p r ≡ false → lone p (leaf r us) ≡ false
 lone-not p r end e = e
@@ -227,21 +227,21 @@ going-start s c b t i = record { taken = []; moved = moved-none s c b i; same = 
 
 pub going-more : {A : Type 0} {s : List ℕ} {from c d : Cursor} {b0 b1 b2 : List ℕ} {t u v : Took A} → Going s from b0 c b1 t u → Belonged s c d b1 b2 u v → Going s from b0 d b2 t v
 going-more {v = v} k g =
-    record
-      { taken = k .taken ++ g .roles
-      ; moved = moved-on (k .moved) (g .moved)
-      ; same = k .same ∙ ap (onward (k .taken)) (g .same) ∙ onward-append (k .taken) (g .roles) v
-      }
+    record {
+      taken = k .taken ++ g .roles;
+      moved = moved-on (k .moved) (g .moved);
+      same = k .same ∙ ap (onward (k .taken)) (g .same) ∙ onward-append (k .taken) (g .roles) v;
+    }
 
 pub going-ends : {A : Type 0} {s : List ℕ} {from c : Cursor} {b0 b1 b2 : List ℕ} {t u : Took A} {sh : A → Type 0} (a : A)
-  → Going s from b0 c b1 t u → u ≡ took a [] (stream s c) → b2 ≡ b1 → sh a → Meets s from b0 b2 sh (on c) t
+    → Going s from b0 c b1 t u → u ≡ took a [] (stream s c) → b2 ≡ b1 → sh a → Meets s from b0 b2 sh (on c) t
 going-ends {s = s} {from} {c} {b0} {b1} {t = t} {sh = sh} a k e q h =
     subst⁻¹ (λ b. Meets s from b0 b sh (on c) t) q
     (meets-as (k .same ∙ ap (onward (k .taken)) e) (meets-onward (k .moved) (meets-stay s c b1 sh a (k .moved .inList) h)))
 
 -- the last part of it meets what is left
 pub going-meets : {A : Type 0} {s : List ℕ} {from c : Cursor} {b0 b1 b2 : List ℕ} {t u : Took A} {sh : A → Type 0} {x : Said}
-  → Going s from b0 c b1 t u → Meets s c b1 b2 sh x u → Meets s from b0 b2 sh x t
+    → Going s from b0 c b1 t u → Meets s c b1 b2 sh x u → Meets s from b0 b2 sh x t
 going-meets k m = meets-as (k .same) (meets-onward (k .moved) m)
 
 pub going-length : {A : Type 0} {s : List ℕ} {from c : Cursor} {b0 b1 : List ℕ} {t u : Took A} → Going s from b0 c b1 t u → length b1 ≡ length b0
@@ -251,8 +251,8 @@ going-length k = ap length (k .moved .roles) ∙ simp length-sets
 
 module _ {B : Type 0} (f : Word → Reader B) {s : List ℕ} {c : Cursor} {b0 b1 b2 : List ℕ} {sh : B → Type 0} {x : Said} {t : Took Word} where
   pub meets-word : (w : WordAt) → Meets s c b0 b1 (wordShown s (words.Found w)) (on (w .next)) t
-    → ((text : List ℕ) → TextOf s (w .token) text → Meets s (w .next) b1 b2 sh x (f (found text (w .row)) (w .next .row) (stream s (w .next))))
-    → Meets s c b0 b2 sh x (after (c .row) t f)
+      → ((text : List ℕ) → TextOf s (w .token) text → Meets s (w .next) b1 b2 sh x (f (found text (w .row)) (w .next .row) (stream s (w .next))))
+      → Meets s c b0 b2 sh x (after (c .row) t f)
   meets-word w m k = meets-then f m (λ a h. subst⁻¹ (λ (y : Word). Meets s (w .next) b1 b2 sh x (f y (w .next .row) (stream s (w .next)))) (h .2) (k (h .0) (h .1)))
 
   pub meets-missing : Meets s c b0 b1 (wordShown s words.Missing) (on c) t → Meets s c b1 b2 sh x (f missing (c .row) (stream s c)) → Meets s c b0 b2 sh x (after (c .row) t f)
@@ -260,7 +260,7 @@ module _ {B : Type 0} (f : Word → Reader B) {s : List ℕ} {c : Cursor} {b0 b1
 
 -- a refusal at what stands at the cursor
 pub meets-wrong : {A : Type 0} {s : List ℕ} {c : Cursor} {b0 b1 : List ℕ} {sh : A → Type 0} (r : Refusal) (n : ℕ)
-  → (r .number ≡ n) × (r .place ≡ placeOf (c .row) (stream s c)) → Meets s c b0 b1 sh (refusal r) (refuse n (placeOf (c .row) (stream s c)))
+    → (r .number ≡ n) × (r .place ≡ placeOf (c .row) (stream s c)) → Meets s c b0 b1 sh (refusal r) (refuse n (placeOf (c .row) (stream s c)))
 meets-wrong {s = s} {c} {b0} {b1} {sh} r n e = meets-say (λ i. no (sym (e .0) i) (sym (e .1) i)) refuses
 
 -- ## Readers in a row may be bracketed otherwise
@@ -297,3 +297,20 @@ say-word {s} {c} {b0} {b1} {t} e m = subst (λ (p : MaybeWord). Meets s c b0 b1 
 
 pub word-within : {s : List ℕ} {c : Cursor} {b0 b1 : List ℕ} {t : Took Word} (w : WordAt) → Meets s c b0 b1 (wordShown s (words.Found w)) (on (w .next)) t → w .token .end ≤ length s
 word-within w (stands m h) = h .1 .within
+
+-- what a reader answered, by its own enum
+pub say : {R A : Type 0} (sh : R → A → Type 0) (f : R → Said) {s : List ℕ} {c : Cursor} {b0 b1 : List ℕ} {t : Took A} {p q : R}
+  → p ≡ q → Meets s c b0 b1 (sh p) (f p) t → Meets s c b0 b1 (sh q) (f q) t
+say {R} sh f {s} {c} {b0} {b1} {t} e m = subst (λ (x : R). Meets s c b0 b1 (sh x) (f x) t) e m
+
+-- the value made into another
+pub meets-map : {A B : Type 0} {s : List ℕ} {c : Cursor} {b0 b1 : List ℕ} {sh : A → Type 0} {sh2 : B → Type 0} {x : Said} {t : Took A} (row : ℕ) (f : A → B)
+  → ((a : A) → sh a → sh2 (f a)) → Meets s c b0 b1 sh x t → Meets s c b0 b1 sh2 x (after row t (λ a. pure (f a)))
+meets-map {s = s} {c} {b0} {b1} {sh2 = sh2} row f g (stands {d = d} {a = a} {rs = rs} {us = us} m h) =
+    subst⁻¹ (λ (qs : List ℕ). Meets s c b0 b1 sh2 (on d) (took (f a) qs us)) (append-nil rs) (stands m (g a h))
+meets-map row f g refuses = refuses
+
+-- a run with what it holds
+pub meets-kept : {s : List ℕ} {c : Cursor} {b0 b1 : List ℕ} {sh : Ending → Type 0} {x : Said} {t : Took Ending} (ts : Trees) → Meets s c b0 b1 sh x t → Meets s c b0 b1 any x (kept ts t)
+meets-kept ts (stands m h) = stands m tt
+meets-kept ts refuses = refuses

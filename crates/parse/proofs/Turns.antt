@@ -17,7 +17,7 @@ use Rattle.parse.specs.Contract.{Moved, stream, pastOf, Belonged}
 use Rattle.parse.proofs.Meeting.{leaf-taken, group-stream, Going, going-start}
 
 pub judge-of : (st : Stops) (depth : ℕ) (m : Bool) (s : List ℕ) (i : ℕ) (t : Token) → TokenAt s i t
-  → judge st depth m (rowOf s t) ≡ cond (eqb (t .kind) 112) (judgePunct st depth m (t .mark)) (belongs depth false)
+    → judge st depth m (rowOf s t) ≡ cond (eqb (t .kind) 112) (judgePunct st depth m (t .mark)) (belongs depth false)
 judge-of st depth m s i t k = ap (λ (b : ℕ). cond (eqb (t .kind) 112) (judgePunct st depth m b) (belongs depth false)) (sym (k .mark))
 
 -- a token takes the depth up by one at most
@@ -33,7 +33,7 @@ deepened st depth m r =
     (eqb (first (r .text)) 44 && (eqb depth 0 && st .comma))
   where
     go : (p a o c z x k : Bool)
-      → depthOf (cond p (cond a (belongs depth false) (cond o (belongs (depth + 1) false) (cond c (cond z (cond x (ends atAngle) unopened) (belongs (depth - 1) false)) (cond k (ends atComma) (belongs depth (eqb (first (r .text)) 45)))))) (belongs depth false)) ≤ depth + 1
+        → depthOf (cond p (cond a (belongs depth false) (cond o (belongs (depth + 1) false) (cond c (cond z (cond x (ends atAngle) unopened) (belongs (depth - 1) false)) (cond k (ends atComma) (belongs depth (eqb (first (r .text)) 45)))))) (belongs depth false)) ≤ depth + 1
     go false a o c z x k = omega arith
     go true true o c z x k = omega arith
     go true false true c z x k = omega arith
@@ -66,20 +66,20 @@ module _ (st : Stops) (r : ℕ) (s : List ℕ) (c : Cursor) (inList : InList s c
 
   module _ (t : Token) (l : LeafAt s (c .at) t) where
     leaf-judged : (v : Verdict) → judge st depth m (rowOf s t) ≡ v
-      → here ≡ judged v (λ e n. onward (r ∷ []) (runFrom st r e n (c .row + 1) (at s (t .next) .here))) (leaf (rowOf s t) (at s (t .next) .here)) (c .row)
+        → here ≡ judged v (λ e n. onward (r ∷ []) (runFrom st r e n (c .row + 1) (at s (t .next) .here))) (leaf (rowOf s t) (at s (t .next) .here)) (c .row)
     leaf-judged v q =
         ap (runFrom st r depth m (c .row)) (l .here)
         ∙ ap (λ (x : Verdict). judged x (λ e n. onward (r ∷ []) (runFrom st r e n (c .row + 1) (at s (t .next) .here))) (leaf (rowOf s t) (at s (t .next) .here)) (c .row)) q
 
     pub turn-leaf : (d : Cursor) (b0 b1 : List ℕ) (e : ℕ) (n : Bool) → d ≡ pastOf c t → b1 ≡ set b0 (c .row) r → judge st depth m (rowOf s t) ≡ belongs e n
-      → Belonged s c d b0 b1 here (runFrom st r e n (d .row) (stream s d))
+        → Belonged s c d b0 b1 here (runFrom st r e n (d .row) (stream s d))
     turn-leaf d b0 b1 e n p q v =
-        record
-          { roles = r ∷ []
-          ; moved = leaf-taken (runFrom st r depth m) s c inList (λ x. Unit) t l d b0 b1 r p q
-          ; some = omega arith
-          ; same = leaf-judged (belongs e n) v ∙ ap (λ (y : Cursor). onward (r ∷ []) (runFrom st r e n (y .row) (stream s y))) (sym p)
-          }
+        record {
+          roles = r ∷ [];
+          moved = leaf-taken (runFrom st r depth m) s c inList (λ x. Unit) t l d b0 b1 r p q;
+          some = omega arith;
+          same = leaf-judged (belongs e n) v ∙ ap (λ (y : Cursor). onward (r ∷ []) (runFrom st r e n (y .row) (stream s y))) (sym p);
+        }
 
     pub turn-leaf-ends : (x : Ending) → judge st depth m (rowOf s t) ≡ ends x → here ≡ took x [] (stream s c)
     turn-leaf-ends x v = leaf-judged (ends x) v ∙ ap (took x []) (sym (l .here))
@@ -95,22 +95,22 @@ module _ (st : Stops) (r : ℕ) (s : List ℕ) (c : Cursor) (inList : InList s c
     aft = head (at s (t .next) .outer)
 
     group-judged : (v : Verdict) → judgeGroup st depth (t .mark) ≡ v
-      → here ≡ judged v (λ e n. onward (copied r ins) (runFrom st r e n (c .row + whole ins) aft)) (group (t .mark) ins aft) (c .row)
+        → here ≡ judged v (λ e n. onward (copied r ins) (runFrom st r e n (c .row + whole ins) aft)) (group (t .mark) ins aft) (c .row)
     group-judged v q =
         ap (runFrom st r depth m (c .row)) (group-stream s c t inList g)
         ∙ ap (λ (x : Verdict). judged x (λ e n. onward (copied r ins) (runFrom st r e n (c .row + whole ins) aft)) (group (t .mark) ins aft) (c .row)) q
 
     pub turn-group : (d : Cursor) (b0 b1 : List ℕ) (e : ℕ) (n : Bool) → Moved s c d (copied r ins) aft b0 b1 → judgeGroup st depth (t .mark) ≡ belongs e n
-      → Belonged s c d b0 b1 here (runFrom st r e n (d .row) (stream s d))
+        → Belonged s c d b0 b1 here (runFrom st r e n (d .row) (stream s d))
     turn-group d b0 b1 e n k v =
         let w : length (copied r ins) ≡ whole ins = length-replicate (whole ins) r in
         let q : c .row + whole ins ≡ d .row = omega (arith, w, k .row) in
-        record
-          { roles = copied r ins
-          ; moved = record { inList = k .inList; row = k .row; forth = k .forth; here = refl; outer = k .outer; roles = k .roles }
-          ; some = omega (arith, w)
-          ; same = group-judged (belongs e n) v ∙ (λ i. onward (copied r ins) (runFrom st r e n (q i) (sym (k .here) i)))
-          }
+        record {
+          roles = copied r ins;
+          moved = record { inList = k .inList; row = k .row; forth = k .forth; here = refl; outer = k .outer; roles = k .roles };
+          some = omega (arith, w);
+          same = group-judged (belongs e n) v ∙ (λ i. onward (copied r ins) (runFrom st r e n (q i) (sym (k .here) i)));
+        }
 
     pub turn-group-ends : (x : Ending) → judgeGroup st depth (t .mark) ≡ ends x → here ≡ took x [] (stream s c)
     turn-group-ends x v = group-judged (ends x) v ∙ ap (took x []) (sym (group-stream s c t inList g))

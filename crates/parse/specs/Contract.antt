@@ -10,7 +10,7 @@ use Rattle.token_list.specs.Contract.{InList, Skipped}
 use Rattle.token_list.specs.declared.check.Cursor.{Cursor}
 use Rattle.token_list.specs.declared.check.Refusal.{Refusal}
 use Rattle.token_list.specs.declared.stream.Token.{Token}
-use Rattle.parse.specs.Took.{Took, took, refuse, Reader, onward, _>>=_}
+use Rattle.parse.specs.Took.{Took, took, refuse, Reader, onward, pure, _>>=_}
 use Rattle.parse.specs.Reading as reading
 use Rattle.parse.specs.declared.utils.Step.{Step}
 use Rattle.parse.specs.declared.utils.Step.the-variants as steps
@@ -33,9 +33,14 @@ use Rattle.parse.specs.declared.data_type.Worded.{Worded}
 use Rattle.parse.specs.declared.data_type.Worded.the-variants as wordeds
 use Rattle.parse.specs.declared.data_type.Headed.{Headed}
 use Rattle.parse.specs.declared.data_type.Headed.the-variants as heads
+use Rattle.parse.specs.declared.generics.Named.{Named}
+use Rattle.parse.specs.declared.generics.Named.the-variants as nameds
+use Rattle.parse.specs.declared.generics.ParameterStep.{ParameterStep}
+use Rattle.parse.specs.declared.generics.ParameterStep.the-variants as parameters
+use Rattle.parse.specs.declared.generics.Counted.{Counted}
+use Rattle.parse.specs.declared.generics.Counted.the-variants as counts
 use Rattle.parse.specs.declared.attributes.Marked.{Marked}
 use Rattle.parse.specs.declared.attributes.Marked.the-variants as marks
-
 
 -- ## Every reader's contract
 
@@ -169,3 +174,67 @@ headSaid (heads.Refused r) = refusal r
 abbrev pub headShown : List ℕ → Headed → reading.Head → Type 0
 headShown s (heads.At h) v = (kindOf (h .kind) ≡ v .kind) × TextOf s (h .name) (v .name)
 headShown s (heads.Refused r) v = ⊥
+
+-- ## The answers of generics
+
+abbrev pub namedSaid : Named → Said
+namedSaid (nameds.At t d) = on d
+namedSaid (nameds.Refused r) = refusal r
+
+abbrev pub namedShown : List ℕ → Named → List ℕ → Type 0
+namedShown s (nameds.At t d) v = TextOf s t v
+namedShown s (nameds.Refused r) v = ⊥
+
+abbrev pub isLifetime : declaration.Parameter → Bool
+isLifetime (declaration.lifetime n b) = true
+isLifetime (declaration.constant n t) = false
+isLifetime (declaration.type n b d) = false
+
+abbrev pub parameterText : declaration.Parameter → List ℕ
+parameterText (declaration.lifetime n b) = n
+parameterText (declaration.constant n t) = n
+parameterText (declaration.type n b d) = n
+
+-- what is told of a parameter: whether it is a lifetime, and its name
+pub record ParameterOf (s : List ℕ) (lifetime : Bool) (name : Token) (a : declaration.Parameter) : Type 0 where
+  pub kind : lifetime ≡ isLifetime a
+  pub text : TextOf s name (parameterText a)
+
+abbrev pub TypeNamed : List ℕ → declaration.Parameter → Type 0
+TypeNamed n a = (isLifetime a ≡ false) × (parameterText a ≡ n)
+
+abbrev pub parameterSaid : ParameterStep → Said
+parameterSaid (parameters.One p) = on (p .next)
+parameterSaid (parameters.Done d) = on d
+parameterSaid (parameters.Refused r) = refusal r
+
+abbrev pub parameterShown : List ℕ → ParameterStep → reading.Maybe declaration.Parameter → Type 0
+parameterShown s (parameters.One p) v = (a : declaration.Parameter) × (v ≡ reading.one a) × ParameterOf s (p .lifetime) (p .name) a
+parameterShown s (parameters.Done d) v = v ≡ reading.done
+parameterShown s (parameters.Refused r) v = ⊥
+
+-- a lifetime or a const, after its `'` or `const`
+abbrev pub parameterMade : Bool → List ℕ → Trees → declaration.Parameter
+parameterMade true n b = declaration.lifetime n b
+parameterMade false n b = declaration.constant n b
+
+abbrev pub namedParameter : ℕ → ℕ → Bool → Reader (reading.Maybe declaration.Parameter)
+namedParameter n p l = reading.parameterName n p >>= (λ x. (reading.marked-run 58 >>= λ b. pure (parameterMade l x b))) >>= reading.comma
+
+abbrev pub afterQuote : ℕ → Reader (reading.Maybe declaration.Parameter)
+afterQuote quote = reading.lifetimeAfter quote >>= reading.comma
+
+abbrev pub afterConst : Reader (reading.Maybe declaration.Parameter)
+afterConst = reading.constantAfter >>= reading.comma
+
+abbrev pub afterName : List ℕ → Reader (reading.Maybe declaration.Parameter)
+afterName n = reading.typeAfter n >>= reading.comma
+
+-- how many things were read
+abbrev pub countSaid : Counted → Said
+countSaid (counts.At d n) = on d
+countSaid (counts.Refused r) = refusal r
+
+abbrev pub countShown : {A : Type 0} → Counted → List A → Type 0
+countShown (counts.At d n) v = n ≡ length v
+countShown (counts.Refused r) v = ⊥

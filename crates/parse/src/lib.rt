@@ -2,5 +2,6 @@
 // reads a declaration into role bytes, or refuses.
 pub mod attributes;
 pub mod data_type;
+pub mod generics;
 pub mod utils;
 pub mod visibility;

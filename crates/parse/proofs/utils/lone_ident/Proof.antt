@@ -73,12 +73,13 @@ returns-6 : tie.Need-returns-6
 returns-6 c =
     let l = meeting.peeked _ _ (c .before .before .before .before .before .before .before .before .before .before .peek .ensures) (c .before .before .before .before .before .before .before .before .t .given .1) in
     let n = meeting.peeked _ _ (c .before .before .before .peek2 .ensures) (c .before .enum-told5 .given .1) in
-    let a = c .before .before .before .before .before .before .before .before .before .before .before .before .args in
-    (ap (reading.lone reading.isIdent) (meeting.leaf-then _ _ _ _ _ l (c .before .before .before .before .past .ensures) n) ∙ eq-eqb _ _ (c .before .before .before .before .before .if1 .left),
-    record { bytes = ap reading.textOf (l .here); within = meeting.token-within _ _ _ (l .token) },
-    c .before .before .before .before .before .if1 .left,
-    refl,
-    meeting.leaf-skipped (a .s .now) (a .inside) (c .skip .result) (c .before .before .before .before .before .before .before .before .t .given .0 .0) l (subst (λ (x : Cursor). Skipped (a .s .now) x (c .skip .result)) (c .before .before .before .before .past .ensures) (c .skip .ensures)))
+    let a = c .before .before .before .before .before .before .before .before .before .before .before .before .args in (
+      ap (reading.lone reading.isIdent) (meeting.leaf-then _ _ _ _ _ l (c .before .before .before .before .past .ensures) n) ∙ eq-eqb _ _ (c .before .before .before .before .before .if1 .left),
+      record { bytes = ap reading.textOf (l .here); within = meeting.token-within _ _ _ (l .token) },
+      c .before .before .before .before .before .if1 .left,
+      refl,
+      meeting.leaf-skipped (a .s .now) (a .inside) (c .skip .result) (c .before .before .before .before .before .before .before .before .t .given .0 .0) l (subst (λ (x : Cursor). Skipped (a .s .now) x (c .skip .result)) (c .before .before .before .before .past .ensures) (c .skip .ensures)),
+    )
 
 pub lone-ident-spec : {M : Type 1} → statement M
 lone-ident-spec =

@@ -5,7 +5,6 @@ use Rattle.parse.specs.declared.utils.Stops.{Stops}
 use Rattle.token_list.specs.declared.check.Cursor.{Cursor}
 use lib.ListN.{length}
 use Prim.Native.Nat.{ℕ, _-_}
-
 use mathlib.Core.List.{List}
 use Rattle.parse.proofs.Meeting as meeting
 use Rattle.parse.specs.Contract as contract

@@ -73,9 +73,10 @@ returns-2 : tie.Need-returns-2
 returns-2 c =
     let l = meeting.peeked _ _ ((c .before .before .before .before .before .before .before .before .before .before .before .peek) .ensures) ((c .before .before .before .before .before .before .before .before .before .t) .given .1) in
     let a = (c .before .before .before .before .before .before .before .before .before .before .before .before .before .before .args) in
-    let v = turns.judge-of (stopsOf (a .stops)) (a .depth) (a .minus) _ _ _ (l .token) ∙ sym ((c .before .before .before .before .before .before .before .judge) .ensures) ∙ ap verdictOf ((c .before .before .before .before .before .e) .given .1) in
-    (turns.turn-leaf (stopsOf (a .stops)) (a .role) (a .s .now) (a .c) ((c .before .before .before .before .before .before .before .before .before .before .before .before .before .before .pre) .0) (a .depth) (a .minus) ((c .before .before .before .before .before .before .before .before .before .t) .given .0 .0) l ((c .before .before .take-token) .result) (a .roles .now) _ ((c .before .before .before .before .before .e) .given .0 .0) ((c .before .before .before .before .before .e) .given .0 .1 .0) ((c .before .before .take-token) .ensures .0) ((c .before .before .take-token) .ensures .1) v,
-    deeper-past (a .s .now) (a .c) ((c .before .before .take-token) .result) ((c .before .before .before .before .before .before .before .before .before .t) .given .0 .0) (a .depth) ((c .before .before .before .before .before .e) .given .0 .0) ((c .before .before .before .before .before .before .before .before .before .before .before .before .before .before .pre) .0) (l .token) ((c .before .before .before .before .before .before .before .before .before .before .before .before .before .before .pre) .1) ((c .before .before .take-token) .ensures .0) (turns.deep-after (stopsOf (a .stops)) (a .depth) ((c .before .before .before .before .before .e) .given .0 .0) (a .minus) ((c .before .before .before .before .before .e) .given .0 .1 .0) (rowOf (a .s .now) ((c .before .before .before .before .before .before .before .before .before .t) .given .0 .0)) v))
+    let v = turns.judge-of (stopsOf (a .stops)) (a .depth) (a .minus) _ _ _ (l .token) ∙ sym ((c .before .before .before .before .before .before .before .judge) .ensures) ∙ ap verdictOf ((c .before .before .before .before .before .e) .given .1) in (
+      turns.turn-leaf (stopsOf (a .stops)) (a .role) (a .s .now) (a .c) ((c .before .before .before .before .before .before .before .before .before .before .before .before .before .before .pre) .0) (a .depth) (a .minus) ((c .before .before .before .before .before .before .before .before .before .t) .given .0 .0) l ((c .before .before .take-token) .result) (a .roles .now) _ ((c .before .before .before .before .before .e) .given .0 .0) ((c .before .before .before .before .before .e) .given .0 .1 .0) ((c .before .before .take-token) .ensures .0) ((c .before .before .take-token) .ensures .1) v,
+      deeper-past (a .s .now) (a .c) ((c .before .before .take-token) .result) ((c .before .before .before .before .before .before .before .before .before .t) .given .0 .0) (a .depth) ((c .before .before .before .before .before .e) .given .0 .0) ((c .before .before .before .before .before .before .before .before .before .before .before .before .before .before .pre) .0) (l .token) ((c .before .before .before .before .before .before .before .before .before .before .before .before .before .before .pre) .1) ((c .before .before .take-token) .ensures .0) (turns.deep-after (stopsOf (a .stops)) (a .depth) ((c .before .before .before .before .before .e) .given .0 .0) (a .minus) ((c .before .before .before .before .before .e) .given .0 .1 .0) (rowOf (a .s .now) ((c .before .before .before .before .before .before .before .before .before .t) .given .0 .0)) v),
+    )
 
 returns-3 : tie.Need-returns-3
 returns-3 c =
@@ -96,9 +97,10 @@ returns-5 : tie.Need-returns-5
 returns-5 c =
     let g = meeting.peeked _ _ ((c .before .before .before .before .before .before .before .before .before .before .before .peek) .ensures) ((c .before .before .before .before .before .before .before .before .before .t2) .given .1) in
     let a = (c .before .before .before .before .before .before .before .before .before .before .before .before .before .before .args) in
-    let v = sym ((c .before .before .before .before .before .before .before .judge-group) .ensures) ∙ ap verdictOf ((c .before .before .before .before .before .e3) .given .1) in
-    (turns.turn-group (stopsOf (a .stops)) (a .role) (a .s .now) (a .c) ((c .before .before .before .before .before .before .before .before .before .before .before .before .before .before .pre) .0) (a .depth) (a .minus) ((c .before .before .before .before .before .before .before .before .before .t2) .given .0 .0) g ((c .before .before .take-group) .result) (a .roles .now) _ ((c .before .before .before .before .before .e3) .given .0 .0) ((c .before .before .before .before .before .e3) .given .0 .1 .0) ((c .before .before .take-group) .ensures) v,
-    omega (arith, turns.deep-after-group (stopsOf (a .stops)) (a .depth) ((c .before .before .before .before .before .e3) .given .0 .0) ((c .before .before .before .before .before .before .before .before .before .t2) .given .0 .0 .mark) ((c .before .before .before .before .before .e3) .given .0 .1 .0) v, (c .before .before .before .before .before .before .before .before .before .before .before .before .before .before .pre) .1, (c .before .before .take-group) .ensures .forth))
+    let v = sym ((c .before .before .before .before .before .before .before .judge-group) .ensures) ∙ ap verdictOf ((c .before .before .before .before .before .e3) .given .1) in (
+      turns.turn-group (stopsOf (a .stops)) (a .role) (a .s .now) (a .c) ((c .before .before .before .before .before .before .before .before .before .before .before .before .before .before .pre) .0) (a .depth) (a .minus) ((c .before .before .before .before .before .before .before .before .before .t2) .given .0 .0) g ((c .before .before .take-group) .result) (a .roles .now) _ ((c .before .before .before .before .before .e3) .given .0 .0) ((c .before .before .before .before .before .e3) .given .0 .1 .0) ((c .before .before .take-group) .ensures) v,
+      omega (arith, turns.deep-after-group (stopsOf (a .stops)) (a .depth) ((c .before .before .before .before .before .e3) .given .0 .0) ((c .before .before .before .before .before .before .before .before .before .t2) .given .0 .0 .mark) ((c .before .before .before .before .before .e3) .given .0 .1 .0) v, (c .before .before .before .before .before .before .before .before .before .before .before .before .before .before .pre) .1, (c .before .before .take-group) .ensures .forth),
+    )
 
 returns-6 : tie.Need-returns-6
 returns-6 c =

@@ -1,0 +1,92 @@
+use Rattle.parse.specs.Took.{Reader, pure, _>>=_}
+use Rattle.parse.specs.Declaration.{Parameter}
+use Rattle.token_list.specs.declared.stream.Token.{Token}
+use Rattle.token_list.specs.Stream.{Trees}
+use Prim.Native.Nat.{ℕ}
+use mathlib.Core.List.{List}
+use Rattle.parse.proofs.Meeting as meeting
+use Rattle.parse.specs.Contract as contract
+use Rattle.parse.specs.Reading as reading
+use Rattle.token_list.proofs.Texts.{chosen, passed-over, and-last, and-fails}
+use Rattle.token_list.specs.Contract.{InList}
+use borrow.Author.Tests.{eq-eqb, ne-eqb, not-true, not-false}
+use native.Mathlib.Omega.{arith}
+use mathlib.Core.Bool.{Bool, true, false}
+use mathlib.Core.Path.{_≡_, refl, sym, _∙_, ap, subst, subst⁻¹}
+use borrow.Author.Needs.{needs}
+use Rattle.parse.proofs.generics.named_parameter.Statement.{statement}
+use Rattle.parse.proofs.generics.named_parameter.Tie as tie
+
+abbrev last : Bool → List ℕ → Trees → Reader (reading.Maybe Parameter)
+last l x b = pure (contract.parameterMade l x b) >>= reading.comma
+
+abbrev made : Bool → List ℕ → Reader Parameter
+made l x = reading.marked-run 58 >>= λ b. pure (contract.parameterMade l x b)
+
+abbrev rest : Bool → List ℕ → Reader (reading.Maybe Parameter)
+rest l x = made l x >>= reading.comma
+
+made-as : (s : List ℕ) (l : Bool) (name : Token) (x : List ℕ) (b : Trees) → contract.TextOf s name x → contract.ParameterOf s l name (contract.parameterMade l x b)
+made-as s true name x b h = record { kind = refl; text = h }
+made-as s false name x b h = record { kind = refl; text = h }
+
+parameter-name-requires : tie.Need-parameter-name-requires
+parameter-name-requires c κs = search needs
+
+enum-known-r : tie.Need-enum-known-r
+enum-known-r c = search needs
+
+enum-known-name : tie.Need-enum-known-name
+enum-known-name c = search needs
+
+marked-run-requires : tie.Need-marked-run-requires
+marked-run-requires c κs = meeting.landed (meeting.say (contract.namedShown ((c .before .before .before .before .before .before .before .before .before .before .args) .s .now)) contract.namedSaid ((c .before .before .name) .given .1) ((c .before .before .before .before .before .before .parameter-name) .ensures))
+
+enum-known-r-2 : tie.Need-enum-known-r-2
+enum-known-r-2 c = search needs
+
+enum-known-e : tie.Need-enum-known-e
+enum-known-e c = search needs
+
+finished-requires : tie.Need-finished-requires
+finished-requires c κs = meeting.landed (meeting.say (λ x. contract.any) contract.stepSaid ((c .before .before .e) .given .1) ((c .before .before .before .before .before .before .marked-run) .ensures))
+
+same-length : tie.Need-same-length
+same-length c = search needs
+
+returns : tie.Need-returns
+returns c = meeting.meets-as (meeting.after-assoc ((c .before .before .before .before .before .before .before .before .before .args) .c .row) (reading.parameterName ((c .before .before .before .before .before .before .before .before .before .args) .number) ((c .before .before .before .before .before .before .before .before .before .args) .or) ((c .before .before .before .before .before .before .before .before .before .args) .c .row) (contract.stream ((c .before .before .before .before .before .before .before .before .before .args) .s .now) ((c .before .before .before .before .before .before .before .before .before .args) .c))) (made ((c .before .before .before .before .before .before .before .before .before .args) .lifetime)) reading.comma) (meeting.meets-no (rest ((c .before .before .before .before .before .before .before .before .before .args) .lifetime)) (meeting.say (contract.namedShown ((c .before .before .before .before .before .before .before .before .before .args) .s .now)) contract.namedSaid ((c .before .r) .given .1) ((c .before .before .before .before .before .parameter-name) .ensures)))
+
+same-length-2 : tie.Need-same-length-2
+same-length-2 c = search needs
+
+returns-2 : tie.Need-returns-2
+returns-2 c =
+    let d = (c .before .before .before .before .before .before .before .before .name) .given .0 .1 .0 in
+    meeting.meets-as (meeting.after-assoc ((c .before .before .before .before .before .before .before .before .before .before .before .before .before .before .before .before .args) .c .row) (reading.parameterName ((c .before .before .before .before .before .before .before .before .before .before .before .before .before .before .before .before .args) .number) ((c .before .before .before .before .before .before .before .before .before .before .before .before .before .before .before .before .args) .or) ((c .before .before .before .before .before .before .before .before .before .before .before .before .before .before .before .before .args) .c .row) (contract.stream ((c .before .before .before .before .before .before .before .before .before .before .before .before .before .before .before .before .args) .s .now) ((c .before .before .before .before .before .before .before .before .before .before .before .before .before .before .before .before .args) .c))) (made ((c .before .before .before .before .before .before .before .before .before .before .before .before .before .before .before .before .args) .lifetime)) reading.comma) (meeting.meets-then (rest ((c .before .before .before .before .before .before .before .before .before .before .before .before .before .before .before .before .args) .lifetime)) (meeting.say (contract.namedShown ((c .before .before .before .before .before .before .before .before .before .before .before .before .before .before .before .before .args) .s .now)) contract.namedSaid ((c .before .before .before .before .before .before .before .before .name) .given .1) ((c .before .before .before .before .before .before .before .before .before .before .before .before .parameter-name) .ensures)) (λ x h. meeting.meets-as (meeting.after-assoc (d .row) (reading.marked-run 58 (d .row) (contract.stream ((c .before .before .before .before .before .before .before .before .before .before .before .before .before .before .before .before .args) .s .now) d)) (λ b. pure (contract.parameterMade ((c .before .before .before .before .before .before .before .before .before .before .before .before .before .before .before .before .args) .lifetime) x b)) reading.comma) (meeting.meets-no (last ((c .before .before .before .before .before .before .before .before .before .before .before .before .before .before .before .before .args) .lifetime) x) (meeting.say (λ x. contract.any) contract.stepSaid ((c .before .r2) .given .1) ((c .before .before .before .before .before .marked-run) .ensures)))))
+
+same-length-3 : tie.Need-same-length-3
+same-length-3 c = search needs
+
+returns-3 : tie.Need-returns-3
+returns-3 c =
+    let d = (c .before .before .before .before .before .before .before .before .before .before .before .before .name) .given .0 .1 .0 in
+    meeting.meets-as (meeting.after-assoc ((c .before .before .before .before .before .before .before .before .before .before .before .before .before .before .before .before .before .before .before .before .args) .c .row) (reading.parameterName ((c .before .before .before .before .before .before .before .before .before .before .before .before .before .before .before .before .before .before .before .before .args) .number) ((c .before .before .before .before .before .before .before .before .before .before .before .before .before .before .before .before .before .before .before .before .args) .or) ((c .before .before .before .before .before .before .before .before .before .before .before .before .before .before .before .before .before .before .before .before .args) .c .row) (contract.stream ((c .before .before .before .before .before .before .before .before .before .before .before .before .before .before .before .before .before .before .before .before .args) .s .now) ((c .before .before .before .before .before .before .before .before .before .before .before .before .before .before .before .before .before .before .before .before .args) .c))) (made ((c .before .before .before .before .before .before .before .before .before .before .before .before .before .before .before .before .before .before .before .before .args) .lifetime)) reading.comma) (meeting.meets-then (rest ((c .before .before .before .before .before .before .before .before .before .before .before .before .before .before .before .before .before .before .before .before .args) .lifetime)) (meeting.say (contract.namedShown ((c .before .before .before .before .before .before .before .before .before .before .before .before .before .before .before .before .before .before .before .before .args) .s .now)) contract.namedSaid ((c .before .before .before .before .before .before .before .before .before .before .before .before .name) .given .1) ((c .before .before .before .before .before .before .before .before .before .before .before .before .before .before .before .before .parameter-name) .ensures)) (λ x h. meeting.meets-as (meeting.after-assoc (d .row) (reading.marked-run 58 (d .row) (contract.stream ((c .before .before .before .before .before .before .before .before .before .before .before .before .before .before .before .before .before .before .before .before .args) .s .now) d)) (λ b. pure (contract.parameterMade ((c .before .before .before .before .before .before .before .before .before .before .before .before .before .before .before .before .before .before .before .before .args) .lifetime) x b)) reading.comma) (meeting.meets-then (last ((c .before .before .before .before .before .before .before .before .before .before .before .before .before .before .before .before .before .before .before .before .args) .lifetime) x) (meeting.say (λ x. contract.any) contract.stepSaid ((c .before .before .before .before .before .e) .given .1) ((c .before .before .before .before .before .before .before .before .before .marked-run) .ensures)) (λ b u. meeting.meets-then reading.comma (meeting.meets-stay _ _ _ (contract.ParameterOf ((c .before .before .before .before .before .before .before .before .before .before .before .before .before .before .before .before .before .before .before .before .args) .s .now) ((c .before .before .before .before .before .before .before .before .before .before .before .before .before .before .before .before .before .before .before .before .args) .lifetime) ((c .before .before .before .before .before .before .before .before .before .before .before .before .name) .given .0 .0)) _ (meeting.landed (meeting.say (λ x. contract.any) contract.stepSaid ((c .before .before .before .before .before .e) .given .1) ((c .before .before .before .before .before .before .before .before .before .marked-run) .ensures))) (made-as ((c .before .before .before .before .before .before .before .before .before .before .before .before .before .before .before .before .before .before .before .before .args) .s .now) ((c .before .before .before .before .before .before .before .before .before .before .before .before .before .before .before .before .before .before .before .before .args) .lifetime) ((c .before .before .before .before .before .before .before .before .before .before .before .before .name) .given .0 .0) x b h)) (λ a k. (c .before .before .finished) .ensures a k)))))
+
+pub named-parameter-spec : {M : Type 1} → statement M
+named-parameter-spec =
+    tie.close
+    (tie.spec
+    parameter-name-requires
+    enum-known-r
+    enum-known-name
+    marked-run-requires
+    enum-known-r-2
+    enum-known-e
+    finished-requires
+    same-length
+    returns
+    same-length-2
+    returns-2
+    same-length-3
+    returns-3)
