@@ -11,4 +11,4 @@ pub mod Judge
 pub mod Turns
 pub mod Marks
 pub mod Heads
-pub mod Rounds
+pub mod Loops

@@ -1,4 +1,4 @@
-use Rattle.parse.proofs.Rounds.{Rounded, rounds-start, rounds-more, rounds-done, rounds-refused, rounds-length}
+use Rattle.parse.proofs.Loops.{Rounded, rounds-start, rounds-more, rounds-done, rounds-refused, rounds-length}
 use Rattle.parse.proofs.Conserved as conserved
 use lib.ListN.{length}
 use Prim.Native.Nat.{ℕ, _-_}
