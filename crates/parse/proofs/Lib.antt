@@ -1,4 +1,5 @@
 -- Laws on the definitions, which the proofs of the functions cite.
+pub mod Rounds
 pub mod Conserved
 pub mod GrammarSound
 pub mod GrammarComplete
