@@ -8,3 +8,4 @@ pub mod GrammarComplete
 pub mod GrammarRoles
 pub mod Promise
 pub mod Examples
+pub mod GrammarWider
