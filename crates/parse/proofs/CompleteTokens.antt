@@ -103,7 +103,8 @@ judging depth minus k lt gt co z cm ang mi =
     (belongs depth false)
 
 module _ (st : Stops) (depth : ℕ) (q : Row) where
-  judged-by : {k lt gt co z cm ang : Bool} (minus : Bool) → eqb (q .kind) 112 ≡ k → eqb (first (q .text)) 60 ≡ lt → eqb (first (q .text)) 62 ≡ gt → eqb (first (q .text)) 44 ≡ co
+  judged-by : {k lt gt co z cm ang : Bool} (minus : Bool) → eqb (q .kind) 112 ≡ k → eqb (first (q .text)) 60 ≡ lt → eqb (first (q .text)) 62 ≡ gt
+      → eqb (first (q .text)) 44 ≡ co
       → eqb depth 0 ≡ z → st .comma ≡ cm → st .angle ≡ ang → r.judge st depth minus q ≡ judging depth minus k lt gt co z cm ang (eqb (first (q .text)) 45)
   judged-by minus a b c d e f h = λ i. judging depth minus (a i) (b i) (c i) (d i) (e i) (f i) (h i) (eqb (first (q .text)) 45)
 
@@ -121,8 +122,10 @@ module _ (st : Stops) (depth : ℕ) (q : Row) where
   judge-angle e z h = let p = punct-parts 62 q e in judged-by false (p .0) (eqb-other (first (q .text)) 62 60 (p .1) refl) (p .1) refl z refl h
 
   judge-comma : (minus : Bool) → isPunct 44 q ≡ true → eqb depth 0 ≡ true → st .comma ≡ true → r.judge st depth minus q ≡ ends r.atComma
-  judge-comma true e z h = let p = punct-parts 44 q e in judged-by true (p .0) (eqb-other (first (q .text)) 44 60 (p .1) refl) (eqb-other (first (q .text)) 44 62 (p .1) refl) (p .1) z h refl
-  judge-comma false e z h = let p = punct-parts 44 q e in judged-by false (p .0) (eqb-other (first (q .text)) 44 60 (p .1) refl) (eqb-other (first (q .text)) 44 62 (p .1) refl) (p .1) z h refl
+  judge-comma true e z h =
+      let p = punct-parts 44 q e in judged-by true (p .0) (eqb-other (first (q .text)) 44 60 (p .1) refl) (eqb-other (first (q .text)) 44 62 (p .1) refl) (p .1) z h refl
+  judge-comma false e z h =
+      let p = punct-parts 44 q e in judged-by false (p .0) (eqb-other (first (q .text)) 44 60 (p .1) refl) (eqb-other (first (q .text)) 44 62 (p .1) refl) (p .1) z h refl
 
   judge-token : (minus : Bool) → g.ordinary st depth q ≡ true → r.judge st depth minus q ≡ belongs depth (isPunct 45 q)
   judge-token minus = go minus (eqb (q .kind) 112) (eqb (first (q .text)) 60) (eqb (first (q .text)) 62) (eqb (first (q .text)) 44) (eqb depth 0) (st .comma)
@@ -146,10 +149,12 @@ module _ (st : Stops) (n : ℕ) where
   run-step depth minus q us row j h =
       same-as (ap (λ (v : Verdict). r.judged v (λ e m. onward (n ∷ []) (r.runFrom st n e m (row + 1) us)) (leaf q us) row) j) (onward-taken (n ∷ []) h)
 
-  run-ends : (depth : ℕ) (minus : Bool) (q : Row) (us : Trees) (row : ℕ) {e : Ending} → r.judge st depth minus q ≡ ends e → Taken Any (r.runFrom st n depth minus row (leaf q us)) [] (leaf q us)
+  run-ends : (depth : ℕ) (minus : Bool) (q : Row) (us : Trees) (row : ℕ) {e : Ending} → r.judge st depth minus q ≡ ends e
+      → Taken Any (r.runFrom st n depth minus row (leaf q us)) [] (leaf q us)
   run-ends depth minus q us row {e = e} j = taken-as e [] (leaf q us) tt (ap (λ (v : Verdict). r.judged v (λ e m. onward (n ∷ []) (r.runFrom st n e m (row + 1) us)) (leaf q us) row) j)
 
-  pub runFrom-complete : {depth : ℕ} {minus : Bool} {ts us : Trees} {rs : List ℕ} → g.Run everything st n depth minus ts us rs → (row : ℕ) → Taken Any (r.runFrom st n depth minus row ts) rs us
+  pub runFrom-complete : {depth : ℕ} {minus : Bool} {ts us : Trees} {rs : List ℕ} → g.Run everything st n depth minus ts us rs → (row : ℕ)
+      → Taken Any (r.runFrom st n depth minus row ts) rs us
   runFrom-complete (g.Run.arrow {depth = depth} {q = q} {us = us} e h) row = run-step depth true q us row (judge-arrow st depth q e) (runFrom-complete h (row + 1))
   runFrom-complete (g.Run.deeper {depth = depth} {minus = minus} {q = q} {us = us} e h) row = run-step depth minus q us row (judge-deeper st depth q minus e) (runFrom-complete h (row + 1))
   runFrom-complete (g.Run.back {depth = depth} {q = q} {us = us} e z h) row = run-step depth false q us row (judge-back st depth q e z) (runFrom-complete h (row + 1))
@@ -259,7 +264,8 @@ kindOf-taken enum t p row us e =
 abbrev after-kind : Kind → Reader r.Head
 after-kind k = r.word role.item-name >>= λ v. r.named! v >>= λ n. pure (record { kind = k; name = n })
 
-pub dataType-complete : {ts us : Trees} {rs : List ℕ} (k : Kind) → g.Head everything (isWord (kindWord k)) ts us rs → Takes (λ (h : r.Head). h .kind ≡ k) r.dataType ts us rs
+pub dataType-complete : {ts us : Trees} {rs : List ℕ} (k : Kind) → g.Head everything (isWord (kindWord k)) ts us rs
+    → Takes (λ (h : r.Head). h .kind ≡ k) r.dataType ts us rs
 dataType-complete k (g.Head.head {us = us} {vs = vs} {bs = bs} a b) =
     and-then (word-complete (isWord (kindWord k)) (λ t. same t (kindWord k)) (λ q e. and-parts (isIdent q) (same (q .text) (kindWord k)) e) a) kinds
   where
@@ -268,4 +274,5 @@ dataType-complete k (g.Head.head {us = us} {vs = vs} {bs = bs} a b) =
 
     kinds : (w : Word) → Found (λ t. same t (kindWord k)) w → Takes (λ (h : r.Head). h .kind ≡ k) (r.kindOf w >>= after-kind) us vs bs
     kinds missing e = absurd e
-    kinds (found t p) e = and-then {P = λ l. l ≡ k} {m = r.kindOf (found t p)} {rs = []} (record { from = λ row. taken-as k [] us refl (kindOf-taken k t p row us e) }) named
+    kinds (found t p) e =
+        and-then {P = λ l. l ≡ k} {m = r.kindOf (found t p)} {rs = []} (record { from = λ row. taken-as k [] us refl (kindOf-taken k t p row us e) }) named

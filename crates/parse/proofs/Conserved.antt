@@ -30,7 +30,8 @@ punctIf-conserving b n row end = nothing-taken
 punctIf-conserving b n row (leaf q us) = choice (r.isPunct b q) (one-row n q us) nothing-taken
 punctIf-conserving b n row (group d ts us) = nothing-taken
 
-judged-conserved : (v : Verdict) {go : ℕ → Bool → Took Ending} (ts : Trees) (row : ℕ) → ((e : ℕ) (m : Bool) → Conserved ts (go e m)) → Conserved ts (r.judged v go ts row)
+judged-conserved : (v : Verdict) {go : ℕ → Bool → Took Ending} (ts : Trees) (row : ℕ) → ((e : ℕ) (m : Bool) → Conserved ts (go e m))
+    → Conserved ts (r.judged v go ts row)
 judged-conserved (belongs e m) ts row c = c e m
 judged-conserved (ends e) ts row c = nothing-taken
 judged-conserved unopened ts row c = refused
@@ -91,7 +92,8 @@ named!-conserving (found t p) row ts = nothing-taken
 
 pub kindOf-conserving : (w : Word) → Conserving (r.kindOf w)
 kindOf-conserving missing = λ row ts. refused
-kindOf-conserving (found t p) = reader-choice (same t r.STRUCT) (pure-conserving struct) (reader-choice (same t r.ENUM) (pure-conserving enum) (λ row ts. refused))
+kindOf-conserving (found t p) =
+    reader-choice (same t r.STRUCT) (pure-conserving struct) (reader-choice (same t r.ENUM) (pure-conserving enum) (λ row ts. refused))
 
 pub dataType-conserving : Conserving r.dataType
 dataType-conserving =
@@ -138,12 +140,14 @@ parameter-round angle row ts = shorter-round (omega arith) (parameter-shorter an
 pub generics-conserving : Conserving r.generics
 generics-conserving row end = nothing-taken
 generics-conserving row (group d ts us) = nothing-taken
-generics-conserving row (leaf q us) = choice (r.isPunct 60 q) (from-conserved role.angle row q us (every-conserving (r.parameter row) (parameter-round row))) nothing-taken
+generics-conserving row (leaf q us) =
+    choice (r.isPunct 60 q) (from-conserved role.angle row q us (every-conserving (r.parameter row) (parameter-round row))) nothing-taken
 
 pub clause-conserving : Conserving r.clause
 clause-conserving row end = nothing-taken
 clause-conserving row (group d ts us) = nothing-taken
-clause-conserving row (leaf q us) = choice (r.isWord r.WHERE q) (from-conserved role.where-word row q us (run-conserving r.clauseStops role.where-run)) nothing-taken
+clause-conserving row (leaf q us) =
+    choice (r.isWord r.WHERE q) (from-conserved role.where-word row q us (run-conserving r.clauseStops role.where-run)) nothing-taken
 
 -- ## Fields
 
@@ -171,7 +175,8 @@ pub judge-comma : (q : Row) (e : Ending) → r.judge r.fieldStops 0 false q ≡ 
 judge-comma q e = go (eqb (q .kind) 112) (eqb (first (q .text)) 60) (eqb (first (q .text)) 62) (eqb (first (q .text)) 44)
   where
     go : (k lt gt co : Bool)
-        → cond k (cond lt (belongs 1 false) (cond gt unopened (cond (co && true) (ends r.atComma) (belongs 0 (eqb (first (q .text)) 45))))) (belongs 0 false) ≡ ends e → (k && co) ≡ true
+        → cond k (cond lt (belongs 1 false) (cond gt unopened (cond (co && true) (ends r.atComma) (belongs 0 (eqb (first (q .text)) 45))))) (belongs 0 false) ≡ ends e
+        → (k && co) ≡ true
     go true true gt co x = cc
     go true false true co x = cc
     go true false false true x = refl
@@ -188,7 +193,8 @@ tail-leaf : (row : ℕ) (q : Row) (us : Trees) (v : Verdict) (go : ℕ → Bool 
 tail-leaf row q us (belongs e m) go j k = after-shorter row r.comma (kept-shorter (leaf q us) (k e m)) comma-conserving
 tail-leaf row q us (ends e) go j k = taken-comma (r.isPunct 44 q) (judge-comma q e j)
   where
-    taken-comma : (b : Bool) → b ≡ true → Shorter (size (leaf q us)) (leaf q us) (after row (took end [] (leaf q us)) (λ t row us'. after row (cond b (took true (role.separator ∷ []) us) (took false [] (leaf q us))) (λ c. pure (one t))))
+    taken-comma : (b : Bool) → b ≡ true
+        → Shorter (size (leaf q us)) (leaf q us) (after row (took end [] (leaf q us)) (λ t row us'. after row (cond b (took true (role.separator ∷ []) us) (took false [] (leaf q us))) (λ c. pure (one t))))
     taken-comma true f = shorter (role.separator ∷ []) us (omega arith) (omega arith)
     taken-comma false f = absurd (false≢true f)
 tail-leaf row q us unopened go j k = refused
@@ -282,13 +288,16 @@ word-shorter : {A : Type 0} (n : ℕ) (f : List ℕ → Reader A) → ((t : List
 word-shorter n f k row end = refused
 word-shorter n f k row (leaf q us) = go (r.isIdent q)
   where
-    go : (b : Bool) → Shorter (least (leaf q us)) (leaf q us) (after row (cond b (took (found (q .text) row) (n ∷ []) us) (took missing [] (leaf q us))) (λ w. r.named! w >>= f))
+    go : (b : Bool)
+        → Shorter (least (leaf q us)) (leaf q us) (after row (cond b (took (found (q .text) row) (n ∷ []) us) (took missing [] (leaf q us))) (λ w. r.named! w >>= f))
     go true = onward-shorter {us = us} (n ∷ []) (omega arith) (omega arith) (onward-conserved {us = us} [] (omega arith) (k (q .text) _ us))
     go false = refused
 word-shorter n f k row (group d ts us) = go (r.lone r.isIdent ts)
   where
-    go : (b : Bool) → Shorter (least (group d ts us)) (group d ts us) (after row (cond b (took (found (r.textOf ts) (row + 1)) (r.copied n ts) us) (took missing [] (group d ts us))) (λ w. r.named! w >>= f))
-    go true = onward-shorter {us = us} (r.copied n ts) (omega (arith, copied-length n ts)) (omega arith) (onward-conserved {us = us} [] (omega arith) (k (r.textOf ts) _ us))
+    go : (b : Bool)
+        → Shorter (least (group d ts us)) (group d ts us) (after row (cond b (took (found (r.textOf ts) (row + 1)) (r.copied n ts) us) (took missing [] (group d ts us))) (λ w. r.named! w >>= f))
+    go true =
+        onward-shorter {us = us} (r.copied n ts) (omega (arith, copied-length n ts)) (omega arith) (onward-conserved {us = us} [] (omega arith) (k (r.textOf ts) _ us))
     go false = refused
 
 -- a variant's parts after its name

@@ -34,7 +34,8 @@ punctIf-taken {b} (g.Mark.absent {ts = ts} e) row = none ts e
     none (leaf q us) e = passed-over (isPunct b q) _ _ e
     none (group d ts us) e = refl
 
-pub punctIf-complete : {b : ℕ} {t : Bool} {ts us : Trees} {rs : List ℕ} → g.Mark everything b t ts us rs → Takes (λ x. x ≡ t) (r.punctIf b role.separator) ts us rs
+pub punctIf-complete : {b : ℕ} {t : Bool} {ts us : Trees} {rs : List ℕ} → g.Mark everything b t ts us rs
+    → Takes (λ x. x ≡ t) (r.punctIf b role.separator) ts us rs
 punctIf-complete {t = t} {us = us} {rs = rs} h = record { from = λ row. taken-as t rs us refl (punctIf-taken h row) }
 
 -- the mark stands or not, and what is read then
@@ -66,7 +67,8 @@ comma-complete : {A : Type 0} {t : Bool} {us vs : Trees} {cs : List ℕ} (a : A)
 comma-complete a m = and-pure (λ t. one a) (punctIf-complete m) (λ x e. tt)
 
 -- the first row of a parameter
-from-complete : {A : Type 0} {P : A → Type 0} {m : Reader A} {us vs : Trees} {rs : List ℕ} (n row : ℕ) → Takes P m us vs rs → Taken P (r.from n row us m) (n ∷ rs) vs
+from-complete : {A : Type 0} {P : A → Type 0} {m : Reader A} {us vs : Trees} {rs : List ℕ} (n row : ℕ) → Takes P m us vs rs
+    → Taken P (r.from n row us m) (n ∷ rs) vs
 from-complete n row h = onward-taken (n ∷ []) (h .from (row + 1))
 
 parameterName-complete : (n k : ℕ) (p : Row) (us : Trees) → isIdent p ≡ true → Takes Any (r.parameterName n k) (leaf p us) us (role.parameter-name ∷ [])
@@ -80,15 +82,19 @@ type-chosen angle row q us e f =
     ∙ passed-over (isWord CONST q) _ _ e
     ∙ chosen (isIdent q) _ _ f
 
-lifetimeAfter-complete : (quote : ℕ) (p : Row) {us vs : Trees} {rs : List ℕ} → isIdent p ≡ true → g.Bound everything us vs rs → Takes Any (r.lifetimeAfter quote) (leaf p us) vs (role.parameter-name ∷ rs)
-lifetimeAfter-complete quote p {us} f b = and-then (parameterName-complete 24 quote p us f) (λ n y. and-pure (Parameter.lifetime n) (bound-complete b) (λ x y. tt))
+lifetimeAfter-complete : (quote : ℕ) (p : Row) {us vs : Trees} {rs : List ℕ} → isIdent p ≡ true → g.Bound everything us vs rs
+    → Takes Any (r.lifetimeAfter quote) (leaf p us) vs (role.parameter-name ∷ rs)
+lifetimeAfter-complete quote p {us} f b =
+    and-then (parameterName-complete 24 quote p us f) (λ n y. and-pure (Parameter.lifetime n) (bound-complete b) (λ x y. tt))
 
-constantAfter-complete : (p : Row) {us vs : Trees} {rs : List ℕ} → isIdent p ≡ true → g.Bound everything us vs rs → Takes Any r.constantAfter (leaf p us) vs (role.parameter-name ∷ rs)
+constantAfter-complete : (p : Row) {us vs : Trees} {rs : List ℕ} → isIdent p ≡ true → g.Bound everything us vs rs
+    → Takes Any r.constantAfter (leaf p us) vs (role.parameter-name ∷ rs)
 constantAfter-complete p {us} f b = and-then (parameterName-complete 27 65535 p us f) (λ n y. and-pure (Parameter.constant n) (bound-complete b) (λ x y. tt))
 
 module _ (n : List ℕ) where
   typeAfter-plain : {us : Trees} → starts (isPunct 58) us ≡ false → starts (isPunct 61) us ≡ false → Takes Any (r.typeAfter n) us us []
-  typeAfter-plain {us} h k = mark-then {f = r.typeRuns n} {b = 58} {t = false} {us = us} (g.Mark.absent h) (and-pure (Parameter.type n end) (marked-run-none k) (λ x y. tt))
+  typeAfter-plain {us} h k =
+      mark-then {f = r.typeRuns n} {b = 58} {t = false} {us = us} (g.Mark.absent h) (and-pure (Parameter.type n end) (marked-run-none k) (λ x y. tt))
 
   typeAfter-bounded : (c : Row) {us vs : Trees} {rs : List ℕ} → isPunct 58 c ≡ true → g.Run everything parameterStops role.bound 0 false us vs rs
       → Takes Any (r.typeAfter n) (leaf c us) vs (role.separator ∷ rs)
@@ -101,10 +107,12 @@ module _ (n : List ℕ) where
       mark-then {f = r.typeRuns n} {b = 58} {t = false} {us = leaf c us} (g.Mark.absent (punct-other 61 58 c i refl))
       (and-pure (Parameter.type n end) (marked-run-some {b = 61} {c = c} i h) (λ x y. tt))
 
-and-comma : {A : Type 0} {t : Bool} {m : Reader A} {ts us vs : Trees} {rs cs : List ℕ} → Takes Any m ts us rs → g.Mark everything 44 t us vs cs → Takes Another (m >>= r.comma) ts vs (rs ++ cs)
+and-comma : {A : Type 0} {t : Bool} {m : Reader A} {ts us vs : Trees} {rs cs : List ℕ} → Takes Any m ts us rs → g.Mark everything 44 t us vs cs
+    → Takes Another (m >>= r.comma) ts vs (rs ++ cs)
 and-comma h k = and-then h (λ a y. comma-complete a k)
 
-parameter-complete : {t : Bool} {ts us vs : Trees} {ps cs : List ℕ} (angle : ℕ) → g.Parameter everything ts us ps → g.Mark everything 44 t us vs cs → (row : ℕ) → Taken Another (r.parameter angle row ts) (ps ++ cs) vs
+parameter-complete : {t : Bool} {ts us vs : Trees} {ps cs : List ℕ} (angle : ℕ) → g.Parameter everything ts us ps → g.Mark everything 44 t us vs cs
+    → (row : ℕ) → Taken Another (r.parameter angle row ts) (ps ++ cs) vs
 parameter-complete angle (g.Parameter.lifetime {q = q} {p = p} e f b) m row =
     same-as (chosen (isPunct 39 q) _ _ e) (from-complete role.parameter-name row (and-comma (lifetimeAfter-complete row p f b) m))
 parameter-complete angle (g.Parameter.constant {q = q} {p = p} e f b u) m row =
@@ -122,7 +130,8 @@ parameter-complete angle (g.Parameter.defaulted {q = q} {c = c} {us = us} e f i 
 
 module _ {A : Type 0} (m : Reader (Maybe A)) (rd : c.Rounding m) where
   every-last : {ts us : Trees} {rs : List ℕ} → Takes Last m ts us rs → Takes Any (every m) ts us rs
-  every-last {ts} {us} {rs} h = with-roles (append-nil rs) (record { from = λ row. same-as (c.every-step m rd row ts) (and-then {f = more (every m)} h go .from row) })
+  every-last {ts} {us} {rs} h =
+      with-roles (append-nil rs) (record { from = λ row. same-as (c.every-step m rd row ts) (and-then {f = more (every m)} h go .from row) })
     where
       go : (x : Maybe A) → Last x → Takes Any (more (every m) x) us us []
       go done e = pure-takes [] us tt
@@ -163,15 +172,18 @@ clause-complete (g.Clause.clause {q = q} e h u) =
 
 -- ## Fields
 
-fieldAfter-complete : (n : List ℕ) (c : Row) {t : Bool} {vs ws xs : Trees} {rs cs : List ℕ} → isPunct 58 c ≡ true → g.Run everything fieldStops role.type 0 false vs ws rs
+fieldAfter-complete : (n : List ℕ) (c : Row) {t : Bool} {vs ws xs : Trees} {rs cs : List ℕ} → isPunct 58 c ≡ true
+    → g.Run everything fieldStops role.type 0 false vs ws rs
     → g.Mark everything 44 t ws xs cs → Takes Another (r.fieldAfter n) (leaf c vs) xs (role.separator ∷ (rs ++ cs))
 fieldAfter-complete n c {vs = vs} i j m =
     mark-then {f = λ t. r.must 23 t >>= λ u. r.run fieldStops role.type >>= λ f. r.comma (record { name = n; type = f })} {b = 58} {t = true} {us = vs} (g.Mark.present {q = c} i)
     (and-then {m = r.must 23 true} (pure-takes {P = Any} tt vs tt) (λ z y. and-then (run-complete fieldStops role.type j) (λ f y. comma-complete {A = Field} (record { name = n; type = f }) m)))
 
-fieldStart-complete : (q c : Row) {t : Bool} {vs ws xs : Trees} {rs cs : List ℕ} → isIdent q ≡ true → isPunct 58 c ≡ true → g.Run everything fieldStops role.type 0 false vs ws rs
+fieldStart-complete : (q c : Row) {t : Bool} {vs ws xs : Trees} {rs cs : List ℕ} → isIdent q ≡ true → isPunct 58 c ≡ true
+    → g.Run everything fieldStops role.type 0 false vs ws rs
     → g.Mark everything 44 t ws xs cs → Takes Another r.fieldStart (leaf q (leaf c vs)) xs (role.field-name ∷ role.separator ∷ (rs ++ cs))
-fieldStart-complete q c e i j m = record { from = λ row. same-as (chosen (isIdent q) _ _ e) (from-complete role.field-name row (fieldAfter-complete (q .text) c i j m)) }
+fieldStart-complete q c e i j m =
+    record { from = λ row. same-as (chosen (isIdent q) _ _ e) (from-complete role.field-name row (fieldAfter-complete (q .text) c i j m)) }
 
 namedField-complete : {ts us : Trees} {rs : List ℕ} → g.NamedField everything ts us rs → Takes Another r.namedField ts us rs
 namedField-complete (g.NamedField.field {q = q} {c = c} a v e i j u m) =
@@ -199,7 +211,8 @@ tupleFields-complete (g.TupleFields.next {ts = ts} e h k) =
 
 -- ## Variants and bodies
 
-closing-complete : {A : Type 0} {P : A → Type 0} {t : Took A} {rs : List ℕ} (us : Trees) → Taken P t rs end → Taken P (r.closing us t) (role.delimiter ∷ rs ++ role.delimiter ∷ []) us
+closing-complete : {A : Type 0} {P : A → Type 0} {t : Took A} {rs : List ℕ} (us : Trees) → Taken P t rs end
+    → Taken P (r.closing us t) (role.delimiter ∷ rs ++ role.delimiter ∷ []) us
 closing-complete us h = record { value = h .value; holds = h .holds; equal = ap (r.closing us) (h .equal) }
 
 named-complete : {ts : Trees} {rs : List ℕ} → g.NamedFields everything ts rs → Takes Any r.namedFields ts end rs
@@ -219,7 +232,8 @@ variantFields-complete (g.VariantFields.named {d = d} {us = us} e h) =
     record { from = λ row. same-as (chosen (eqb d 123) _ _ e) (closing-complete us (named-complete h .from (row + 1))) }
 variantFields-complete (g.VariantFields.tuple {d = d} {us = us} e h) =
     record {
-      from = λ row. same-as (passed-over (eqb d 123) _ _ (eqb-other d 40 123 e refl) ∙ chosen (eqb d 40) _ _ e) (closing-complete us (tuple-complete h .from (row + 1)));
+      from =
+          λ row. same-as (passed-over (eqb d 123) _ _ (eqb-other d 40 123 e refl) ∙ chosen (eqb d 40) _ _ e) (closing-complete us (tuple-complete h .from (row + 1)));
     }
 
 value-taken : {ts us : Trees} {rs : List ℕ} → g.Value everything ts us rs → (row : ℕ) → Taken Any (r.valueIf row ts) rs us
@@ -234,7 +248,8 @@ value-taken (g.Value.negative {e = e} {m = m} {q = q} {us = us} a b k d) row =
     ∙ ap (onward (role.value ∷ [])) (chosen (isLiteral q) _ _ k ∙ chosen (negatable (q .text)) _ _ d)))
 
 -- without a value: a `,` or the end of the group follows
-no-value : {t : Bool} {ws xs : Trees} {cs : List ℕ} → g.Mark everything 44 t ws xs cs → (t || isEnd xs) ≡ true → (row : ℕ) → r.valueIf row ws ≡ took absent [] ws
+no-value : {t : Bool} {ws xs : Trees} {cs : List ℕ} → g.Mark everything 44 t ws xs cs → (t || isEnd xs) ≡ true → (row : ℕ)
+    → r.valueIf row ws ≡ took absent [] ws
 no-value (g.Mark.present {q = q} e) p row = passed-over (isPunct 61 q) _ _ (punct-other 44 61 q e refl) ∙ chosen (isPunct 44 q) _ _ e
 no-value (g.Mark.absent {ts = ts} e) p row = at-end ts p
   where
@@ -279,7 +294,8 @@ structBody-complete (g.StructBody.named {d = d} {us = us} e h) =
     record { from = λ row. same-as (chosen (eqb d 123) _ _ e) (closing-complete us (and-pure Body.fields (named-complete h) (λ x y. tt) .from (row + 1))) }
 structBody-complete (g.StructBody.tuple {d = d} {us = us} e h) =
     record {
-      from = λ row. same-as (passed-over (eqb d 123) _ _ (eqb-other d 40 123 e refl) ∙ chosen (eqb d 40) _ _ e) (closing-complete us (and-pure Body.fields (tuple-complete h) (λ x y. tt) .from (row + 1)));
+      from =
+          λ row. same-as (passed-over (eqb d 123) _ _ (eqb-other d 40 123 e refl) ∙ chosen (eqb d 40) _ _ e) (closing-complete us (and-pure Body.fields (tuple-complete h) (λ x y. tt) .from (row + 1)));
     }
 
 pub enumBody-complete : {ts us : Trees} {rs : List ℕ} → g.EnumBody everything ts us rs → Takes Any r.enumBody ts us rs
@@ -293,7 +309,8 @@ abbrev itemRest : r.Head → Reader Declaration
 itemRest h =
     r.generics >>= λ p. r.clause >>= λ c. r.bodyOf (h .kind) >>= λ b. pure (record { kind = h .kind; name = h .name; parameters = p; clause = c; body = b })
 
-item-then : {ts₀ ts₁ ts₂ ts₃ ts₄ ts₅ ts₆ : Trees} {ks bs cs ds es fs : List ℕ} (k : Kind) → g.Attributes everything ts₀ ts₁ ks → g.Visibility everything ts₁ ts₂ bs
+item-then : {ts₀ ts₁ ts₂ ts₃ ts₄ ts₅ ts₆ : Trees} {ks bs cs ds es fs : List ℕ} (k : Kind) → g.Attributes everything ts₀ ts₁ ks
+    → g.Visibility everything ts₁ ts₂ bs
     → g.Head everything (isWord (kindWord k)) ts₂ ts₃ cs → g.Generics everything ts₃ ts₄ ds → g.Clause everything ts₄ ts₅ es → Takes Any (r.bodyOf k) ts₅ ts₆ fs
     → Takes Any r.item ts₀ ts₆ (ks ++ (bs ++ (cs ++ (ds ++ (es ++ fs)))))
 item-then {ts₃ = ts₃} {ts₅ = ts₅} {ts₆ = ts₆} {ds = ds} {es = es} {fs = fs} k a b c d e f =

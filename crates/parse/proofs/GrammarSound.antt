@@ -27,7 +27,8 @@ punctIf-sound b row (group d ts us) = met [] (group d ts us) (g.Mark.absent refl
 -- a mark that may stand, with its run
 pub data Marked (b : ℕ) : Trees → List ℕ → Trees → Type 0 where
   none : {ts : Trees} → starts (isPunct b) ts ≡ false → Marked b ts [] ts
-  some : {c : Row} {us vs : Trees} {rs : List ℕ} → isPunct b c ≡ true → g.Run everything parameterStops role.bound 0 false us vs rs → Marked b (leaf c us) (role.separator ∷ rs) vs
+  some : {c : Row} {us vs : Trees} {rs : List ℕ} → isPunct b c ≡ true → g.Run everything parameterStops role.bound 0 false us vs rs
+      → Marked b (leaf c us) (role.separator ∷ rs) vs
 
 weaken : {A : Type 0} {N M : A → List ℕ → Trees → Type 0} {t : Took A} → Meets N t → ((a : A) (rs : List ℕ) (us : Trees) → N a rs us → M a rs us) → Meets M t
 weaken (met rs us h) k = met rs us (k _ rs us h)
@@ -36,7 +37,8 @@ weaken refused k = refused
 marked-run-sound : (b row : ℕ) (ts : Trees) → Meets (λ x rs us. Marked b ts rs us) (r.marked-run b row ts)
 marked-run-sound b row ts = after-met row (punctIf-sound b row ts) go
   where
-    go : {ts : Trees} (t : Bool) (rs : List ℕ) (us : Trees) → g.Mark everything b t ts us rs → (row : ℕ) → Meets (λ x qs vs. Marked b ts (rs ++ qs) vs) (r.runIf t parameterStops role.bound row us)
+    go : {ts : Trees} (t : Bool) (rs : List ℕ) (us : Trees) → g.Mark everything b t ts us rs → (row : ℕ)
+        → Meets (λ x qs vs. Marked b ts (rs ++ qs) vs) (r.runIf t parameterStops role.bound row us)
     go true rs us (g.Mark.present e) row = weaken (run-sound parameterStops role.bound row us) (λ x qs vs h. some e h)
     go false rs us (g.Mark.absent e) row = met [] us (none e)
 
@@ -48,7 +50,8 @@ bound-of (some e h) = g.Bound.bound e h
 data Commaed {A : Type 0} (P : List ℕ → Trees → Type 0) : Maybe A → List ℕ → Trees → Type 0 where
   commaed : {t : Bool} {a : A} {us vs : Trees} {rs cs : List ℕ} → P rs us → g.Mark everything 44 t us vs cs → Commaed P (one a) (rs ++ cs) vs
 
-comma-sound : {A : Type 0} (P : List ℕ → Trees → Type 0) (a : A) (rs : List ℕ) (us : Trees) → P rs us → (row : ℕ) → Meets (λ m qs vs. Commaed P m (rs ++ qs) vs) (r.comma a row us)
+comma-sound : {A : Type 0} (P : List ℕ → Trees → Type 0) (a : A) (rs : List ℕ) (us : Trees) → P rs us → (row : ℕ)
+    → Meets (λ m qs vs. Commaed P m (rs ++ qs) vs) (r.comma a row us)
 comma-sound P a rs us h row = after-met row (punctIf-sound 44 row us) (λ t cs vs m row. met [] vs (rw append-nil (commaed h m)))
 
 data ParameterName : Trees → List ℕ → Trees → Type 0 where
@@ -66,14 +69,17 @@ module _ (q : Row) where
   lifetime-sound : (quote row : ℕ) (us : Trees) → isPunct 39 q ≡ true → Meets (λ x rs vs. Named us rs vs) (r.lifetimeAfter quote row us)
   lifetime-sound quote row us e = after-met row (parameterName-sound 24 quote row us) go
     where
-      go : {us : Trees} (n rs : List ℕ) (vs : Trees) → ParameterName us rs vs → (row : ℕ) → Meets (λ x qs ws. Named us (rs ++ qs) ws) ((r.marked-run 58 >>= λ b. pure (Parameter.lifetime n b)) row vs)
+      go : {us : Trees} (n rs : List ℕ) (vs : Trees) → ParameterName us rs vs → (row : ℕ)
+          → Meets (λ x qs ws. Named us (rs ++ qs) ws) ((r.marked-run 58 >>= λ b. pure (Parameter.lifetime n b)) row vs)
       go n rs vs (name f) row = after-met row (marked-run-sound 58 row vs) (λ b qs ws h row. met [] ws (rw append-nil (g.Parameter.lifetime e f (bound-of h))))
 
   constant-sound : (row : ℕ) (us : Trees) → isWord CONST q ≡ true → Meets (λ x rs vs. Named us rs vs) (r.constantAfter row us)
   constant-sound row us e = after-met row (parameterName-sound 27 65535 row us) go
     where
-      go : {us : Trees} (n rs : List ℕ) (vs : Trees) → ParameterName us rs vs → (row : ℕ) → Meets (λ x qs ws. Named us (rs ++ qs) ws) ((r.marked-run 58 >>= λ b. pure (Parameter.constant n b)) row vs)
-      go n rs vs (name f) row = after-met row (marked-run-sound 58 row vs) (λ b qs ws h row. met [] ws (rw append-nil (g.Parameter.constant e f (bound-of h) refl)))
+      go : {us : Trees} (n rs : List ℕ) (vs : Trees) → ParameterName us rs vs → (row : ℕ)
+          → Meets (λ x qs ws. Named us (rs ++ qs) ws) ((r.marked-run 58 >>= λ b. pure (Parameter.constant n b)) row vs)
+      go n rs vs (name f) row =
+          after-met row (marked-run-sound 58 row vs) (λ b qs ws h row. met [] ws (rw append-nil (g.Parameter.constant e f (bound-of h) refl)))
 
   type-sound : (row : ℕ) (us : Trees) (n : List ℕ) → isWord CONST q ≡ false → isIdent q ≡ true → Meets (λ x rs vs. Named us rs vs) (r.typeAfter n row us)
   type-sound row us n e f = after-met row (punctIf-sound 58 row us) go
@@ -82,12 +88,15 @@ module _ (q : Row) where
       default a rs vs (none b) = g.Parameter.plain e f a b
       default a rs vs (some b h) = g.Parameter.defaulted e f b h refl
 
-      go : {us : Trees} (t : Bool) (rs : List ℕ) (vs : Trees) → g.Mark everything 58 t us vs rs → (row : ℕ) → Meets (λ x qs ws. Named us (rs ++ qs) ws) (r.typeRuns n t row vs)
-      go true rs vs (g.Mark.present a) row = after-met row (run-sound parameterStops role.bound row vs) (λ x qs ws h row. met [] ws (rw append-nil (g.Parameter.bounded e f a h)))
+      go : {us : Trees} (t : Bool) (rs : List ℕ) (vs : Trees) → g.Mark everything 58 t us vs rs → (row : ℕ)
+          → Meets (λ x qs ws. Named us (rs ++ qs) ws) (r.typeRuns n t row vs)
+      go true rs vs (g.Mark.present a) row =
+          after-met row (run-sound parameterStops role.bound row vs) (λ x qs ws h row. met [] ws (rw append-nil (g.Parameter.bounded e f a h)))
       go false rs vs (g.Mark.absent a) row = after-met row (marked-run-sound 61 row vs) (λ x qs ws h row. met [] ws (rw append-nil (default a qs ws h)))
 
 data ParameterRead : Trees → Maybe Parameter → List ℕ → Trees → Type 0 where
-  another : {t : Bool} {a : Parameter} {ts us vs : Trees} {ps cs : List ℕ} → g.Parameter everything ts us ps → g.Mark everything 44 t us vs cs → ParameterRead ts (one a) (ps ++ cs) vs
+  another : {t : Bool} {a : Parameter} {ts us vs : Trees} {ps cs : List ℕ} → g.Parameter everything ts us ps → g.Mark everything 44 t us vs cs
+      → ParameterRead ts (one a) (ps ++ cs) vs
   last : {q : Row} {us : Trees} → isPunct 62 q ≡ true → ParameterRead (leaf q us) done (role.angle ∷ []) us
 
 parameter-read : (angle row : ℕ) (ts : Trees) → Meets (ParameterRead ts) (r.parameter angle row ts)
@@ -128,7 +137,8 @@ parameters-sound angle = every-sound (r.parameter angle) ParameterRead (λ ts rs
     final : (ts : Trees) (rs : List ℕ) (us : Trees) → ParameterRead ts done rs us → g.Parameters everything ts us rs
     final ts rs us (last e) = g.Parameters.close e
 
-    following : (ts us vs : Trees) (a : Parameter) (rs qs : List ℕ) → ParameterRead ts (one a) rs us → g.Parameters everything us vs qs → g.Parameters everything ts vs (rs ++ qs)
+    following : (ts us vs : Trees) (a : Parameter) (rs qs : List ℕ) → ParameterRead ts (one a) rs us → g.Parameters everything us vs qs
+        → g.Parameters everything ts vs (rs ++ qs)
     following ts us vs a rs qs (another h m) k = g.Parameters.next h m refl refl k
 
 pub generics-sound : (row : ℕ) (ts : Trees) → Meets (λ x rs us. g.Generics everything ts us rs) (r.generics row ts)
@@ -163,10 +173,12 @@ module _ (ts us : Trees) (ks : List ℕ) (h : g.Attributes everything ts us ks) 
           (λ f qs xs j row. after-met row (punctIf-sound 44 row xs) (λ t cs ys m row. met [] ys (rw append-nil (another (g.NamedField.field h i e c j refl m))))))
       go i false rs ws m row = refused
 
-  fieldStart-read : (bs : List ℕ) (vs : Trees) → g.Visibility everything us vs bs → (row : ℕ) → Meets (λ m qs ws. FieldRead ts m (ks ++ (bs ++ qs)) ws) (r.fieldStart row vs)
+  fieldStart-read : (bs : List ℕ) (vs : Trees) → g.Visibility everything us vs bs → (row : ℕ)
+      → Meets (λ m qs ws. FieldRead ts m (ks ++ (bs ++ qs)) ws) (r.fieldStart row vs)
   fieldStart-read bs end i row = met {a = done} [] end (rw append-nil (last h i))
   fieldStart-read bs (group d vs ws) i row = refused
-  fieldStart-read bs (leaf q vs) i row = choice (isIdent q) (λ e. onward-still (role.field-name ∷ []) (fieldAfter-read bs q vs i e (q .text) (row + 1))) (λ e. refused)
+  fieldStart-read bs (leaf q vs) i row =
+      choice (isIdent q) (λ e. onward-still (role.field-name ∷ []) (fieldAfter-read bs q vs i e (q .text) (row + 1))) (λ e. refused)
 
 namedField-read : (row : ℕ) (ts : Trees) → Meets (FieldRead ts) (r.namedField row ts)
 namedField-read row ts =
@@ -178,7 +190,8 @@ namedFields-sound = every-sound r.namedField FieldRead (λ ts rs us. g.NamedFiel
     final : (ts : Trees) (rs : List ℕ) (us : Trees) → FieldRead ts done rs us → g.NamedFields everything ts rs
     final ts rs us (last h i) = g.NamedFields.last h i refl
 
-    following : (ts us vs : Trees) (a : Field) (rs qs : List ℕ) → FieldRead ts (one a) rs us → g.NamedFields everything us qs → g.NamedFields everything ts (rs ++ qs)
+    following : (ts us vs : Trees) (a : Field) (rs qs : List ℕ) → FieldRead ts (one a) rs us → g.NamedFields everything us qs
+        → g.NamedFields everything ts (rs ++ qs)
     following ts us vs a rs qs (another h) k = g.NamedFields.next h k
 
 data TypeRead : Trees → Maybe Trees → List ℕ → Trees → Type 0 where
@@ -208,7 +221,8 @@ tupleFields-sound = every-sound r.tupleField TypeRead (λ ts rs us. g.TupleField
 
 -- ## Variants and bodies
 
-pure-met : {A B : Type 0} {P : List ℕ → Trees → Type 0} {t : Took A} (row : ℕ) (f : A → B) → Meets (λ x rs us. P rs us) t → Meets (λ x rs us. P rs us) (after row t (λ a. pure (f a)))
+pure-met : {A B : Type 0} {P : List ℕ → Trees → Type 0} {t : Took A} (row : ℕ) (f : A → B) → Meets (λ x rs us. P rs us) t
+    → Meets (λ x rs us. P rs us) (after row t (λ a. pure (f a)))
 pure-met row f (met rs us h) = met (rs ++ []) us (rw append-nil h)
 pure-met row f refused = refused
 
@@ -245,7 +259,8 @@ negativeValue-read e m a b row (group d ts us) = refused
 negativeValue-read e m a b row (leaf q us) =
     choice (isLiteral q) (λ c. choice (negatable (q .text)) (λ d. met (role.value ∷ []) us (some (g.Value.negative a b c d))) (λ d. refused)) (λ c. refused)
 
-discriminant-read : (e : Row) → isPunct 61 e ≡ true → (row : ℕ) (ts : Trees) → Meets (λ v rs us. ValueRead (leaf e ts) v (role.separator ∷ rs) us) (r.discriminant row ts)
+discriminant-read : (e : Row) → isPunct 61 e ≡ true → (row : ℕ) (ts : Trees)
+    → Meets (λ v rs us. ValueRead (leaf e ts) v (role.separator ∷ rs) us) (r.discriminant row ts)
 discriminant-read e a row end = refused
 discriminant-read e a row (group d ts us) = refused
 discriminant-read e a row (leaf q us) =
@@ -267,8 +282,10 @@ parted : {t : Bool} {ws xs : Trees} {cs : List ℕ} → g.Mark everything 44 t w
 parted (g.Mark.present e) p = refl
 parted (g.Mark.absent {ts = ts} e) p = sym (ap (λ (b : Bool). b || isEnd ts) e) ∙ p
 
-variant-of : {t : Bool} {v : Value} {ts us vs ws xs ys : Trees} {ks bs fs es cs : List ℕ} → g.Attributes everything ts us ks → g.Word everything isIdent role.variant-name us vs bs
-    → g.VariantFields everything vs ws fs → ValueRead ws v es xs → g.Mark everything 44 t xs ys cs → g.Variant everything ts ys (ks ++ (bs ++ (fs ++ (es ++ cs))))
+variant-of : {t : Bool} {v : Value} {ts us vs ws xs ys : Trees} {ks bs fs es cs : List ℕ} → g.Attributes everything ts us ks
+    → g.Word everything isIdent role.variant-name us vs bs
+    → g.VariantFields everything vs ws fs → ValueRead ws v es xs → g.Mark everything 44 t xs ys cs
+    → g.Variant everything ts ys (ks ++ (bs ++ (fs ++ (es ++ cs))))
 variant-of h i j (none p) m = g.Variant.plain h i j m (parted m p)
 variant-of h i j (some k) m = g.Variant.valued h i j k m refl refl
 
@@ -291,7 +308,8 @@ variants-sound = every-sound r.variant VariantRead (λ ts rs us. g.Variants ever
     final : (ts : Trees) (rs : List ℕ) (us : Trees) → VariantRead ts done rs us → g.Variants everything ts rs
     final ts rs us last = g.Variants.last
 
-    following : (ts us vs : Trees) (a : Variant) (rs qs : List ℕ) → VariantRead ts (one a) rs us → g.Variants everything us qs → g.Variants everything ts (rs ++ qs)
+    following : (ts us vs : Trees) (a : Variant) (rs qs : List ℕ) → VariantRead ts (one a) rs us → g.Variants everything us qs
+        → g.Variants everything ts (rs ++ qs)
     following ts us vs a rs qs (another e h) k = g.Variants.next e h k
 
 -- a body, and for a struct whether it is a tuple's
@@ -324,7 +342,8 @@ bodyOf-sound enum = enumBody-sound
 
 -- ## The item
 
-item-of : {ts₀ ts₁ ts₂ ts₃ ts₄ ts₅ ts₆ : Trees} {ks bs cs ds es fs : List ℕ} (k : Kind) → g.Attributes everything ts₀ ts₁ ks → g.Visibility everything ts₁ ts₂ bs
+item-of : {ts₀ ts₁ ts₂ ts₃ ts₄ ts₅ ts₆ : Trees} {ks bs cs ds es fs : List ℕ} (k : Kind) → g.Attributes everything ts₀ ts₁ ks
+    → g.Visibility everything ts₁ ts₂ bs
     → g.Head everything (isWord (kindWord k)) ts₂ ts₃ cs → g.Generics everything ts₃ ts₄ ds → g.Clause everything ts₄ ts₅ es → BodyRead k ts₅ ts₆ fs
     → (tuple : Bool) × g.Item everything tuple ts₀ ts₆ (ks ++ (bs ++ (cs ++ (ds ++ (es ++ fs)))))
 item-of struct a b c d e (ofStruct {tuple = tuple} f) = (tuple, g.Item.struct a b c d e f)
@@ -340,5 +359,7 @@ item-sound row ts =
     (λ w es ts₅ e row. after-met row (bodyOf-sound (h .kind) row ts₅) (λ z fs ts₆ f row. met [] ts₆ (rw append-nil (item-of (h .kind) a b c d e f))))))))
 
 -- what the reader of declarations takes obeys, with the rows after it left over
-pub obeys-sound : {ts us : Trees} {d : Declaration} {rs : List ℕ} → r.item 0 ts ≡ took d rs us → g.Obeys everything ts (rs ++ replicate (size us) role.left-over)
-obeys-sound {ts} {us} e = let i = met-by (subst (Meets (λ x rs us. (tuple : Bool) × g.Item everything tuple ts us rs)) e (item-sound 0 ts)) in g.Obeys.obeys (i .1) (g.LeftOver.rows refl)
+pub obeys-sound : {ts us : Trees} {d : Declaration} {rs : List ℕ} → r.item 0 ts ≡ took d rs us
+    → g.Obeys everything ts (rs ++ replicate (size us) role.left-over)
+obeys-sound {ts} {us} e =
+    let i = met-by (subst (Meets (λ x rs us. (tuple : Bool) × g.Item everything tuple ts us rs)) e (item-sound 0 ts)) in g.Obeys.obeys (i .1) (g.LeftOver.rows refl)

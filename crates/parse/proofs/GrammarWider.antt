@@ -62,7 +62,8 @@ module _ (fewer more : Difference → Bool) (wider : (d : Difference) → fewer 
 
   parameters : {ts us : Trees} {rs : List ℕ} → g.Parameters fewer ts us rs → g.Parameters more ts us rs
   parameters (g.Parameters.close e) = g.Parameters.close e
-  parameters (g.Parameters.next h m u v k) = g.Parameters.next (parameter h) (mark m) (unless g.comma-after-parameter _ u) (unless g.parameter-order _ v) (parameters k)
+  parameters (g.Parameters.next h m u v k) =
+      g.Parameters.next (parameter h) (mark m) (unless g.comma-after-parameter _ u) (unless g.parameter-order _ v) (parameters k)
 
   generics : {ts us : Trees} {rs : List ℕ} → g.Generics fewer ts us rs → g.Generics more ts us rs
   generics (g.Generics.none e) = g.Generics.none e

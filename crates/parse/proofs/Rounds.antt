@@ -30,7 +30,8 @@ pub onward-conserved : {A : Type 0} {ts us : Trees} {t : Took A} (rs : List ℕ)
 onward-conserved rs e (taken qs vs f) = taken (rs ++ qs) vs (omega (arith, length-append rs qs))
 onward-conserved rs e refused = refused
 
-pub after-conserved : {A B : Type 0} {ts : Trees} {t : Took A} (row : ℕ) (f : A → Reader B) → Conserved ts t → ((a : A) → Conserving (f a)) → Conserved ts (after row t f)
+pub after-conserved : {A B : Type 0} {ts : Trees} {t : Took A} (row : ℕ) (f : A → Reader B) → Conserved ts t → ((a : A) → Conserving (f a))
+    → Conserved ts (after row t f)
 after-conserved row f (taken {a = a} rs us e) k = onward-conserved rs e (k a _ us)
 after-conserved row f refused k = refused
 
@@ -72,15 +73,18 @@ pub data Shorter {A : Type 0} (b : ℕ) (ts : Trees) : Took A → Type 0 where
   shorter : {a : A} (rs : List ℕ) (us : Trees) → length rs + size us ≡ size ts → size us < b → Shorter b ts (took a rs us)
   refused : {n p : ℕ} → Shorter b ts (refuse n p)
 
-pub onward-shorter : {A : Type 0} {b : ℕ} {ts us : Trees} {t : Took A} (rs : List ℕ) → length rs + size us ≡ size ts → size us < b → Conserved us t → Shorter b ts (onward rs t)
+pub onward-shorter : {A : Type 0} {b : ℕ} {ts us : Trees} {t : Took A} (rs : List ℕ) → length rs + size us ≡ size ts → size us < b → Conserved us t
+    → Shorter b ts (onward rs t)
 onward-shorter rs e h (taken qs vs f) = shorter (rs ++ qs) vs (omega (arith, length-append rs qs)) (omega arith)
 onward-shorter rs e h refused = refused
 
-pub onward-still : {A : Type 0} {b c : ℕ} {ts us : Trees} {t : Took A} (rs : List ℕ) → length rs + size us ≡ size ts → c ≤ b → Shorter c us t → Shorter b ts (onward rs t)
+pub onward-still : {A : Type 0} {b c : ℕ} {ts us : Trees} {t : Took A} (rs : List ℕ) → length rs + size us ≡ size ts → c ≤ b → Shorter c us t
+    → Shorter b ts (onward rs t)
 onward-still rs e h (shorter qs vs f g) = shorter (rs ++ qs) vs (omega (arith, length-append rs qs)) (omega arith)
 onward-still rs e h refused = refused
 
-pub after-shorter : {A B : Type 0} {b : ℕ} {ts : Trees} {t : Took A} (row : ℕ) (f : A → Reader B) → Shorter b ts t → ((a : A) → Conserving (f a)) → Shorter b ts (after row t f)
+pub after-shorter : {A B : Type 0} {b : ℕ} {ts : Trees} {t : Took A} (row : ℕ) (f : A → Reader B) → Shorter b ts t → ((a : A) → Conserving (f a))
+    → Shorter b ts (after row t f)
 after-shorter row f (shorter {a = a} rs us e h) k = onward-shorter rs e h (k a _ us)
 after-shorter row f refused k = refused
 
@@ -88,7 +92,8 @@ after-shorter row f refused k = refused
 abbrev pub least : Trees → ℕ
 least ts = max (size ts) 1
 
-pub after-still : {A B : Type 0} {ts : Trees} {t : Took A} (row : ℕ) (f : A → Reader B) → Conserved ts t → ((a : A) (row : ℕ) (us : Trees) → Shorter (least us) us (f a row us)) → Shorter (least ts) ts (after row t f)
+pub after-still : {A B : Type 0} {ts : Trees} {t : Took A} (row : ℕ) (f : A → Reader B) → Conserved ts t
+    → ((a : A) (row : ℕ) (us : Trees) → Shorter (least us) us (f a row us)) → Shorter (least ts) ts (after row t f)
 after-still row f (taken {a = a} rs us e) k = onward-still rs e (omega arith) (k a _ us)
 after-still row f refused k = refused
 
@@ -129,7 +134,8 @@ onward-round rs e (another qs vs f g) = another (rs ++ qs) vs (omega (arith, len
 onward-round rs e (finished qs vs f) = finished (rs ++ qs) vs (omega (arith, length-append rs qs))
 onward-round rs e refused = refused
 
-pub after-round : {A B : Type 0} {ts : Trees} {t : Took A} (row : ℕ) (f : A → Reader (Maybe B)) → Conserved ts t → ((a : A) → Rounding (f a)) → Round ts (after row t f)
+pub after-round : {A B : Type 0} {ts : Trees} {t : Took A} (row : ℕ) (f : A → Reader (Maybe B)) → Conserved ts t → ((a : A) → Rounding (f a))
+    → Round ts (after row t f)
 after-round row f (taken {a = a} rs us e) k = onward-round rs e (k a _ us)
 after-round row f refused k = refused
 
@@ -148,7 +154,8 @@ module _ {A : Type 0} (m : Reader (Maybe A)) (rd : Rounding m) where
   fuel (suc n) (suc k) row ts h i = after-same (rounds n m) (rounds k m) row ts (m row ts) (rd row ts) (λ row us l. fuel n k row us (omega arith) (omega arith))
 
   pub every-step : (row : ℕ) (ts : Trees) → every m row ts ≡ after row (m row ts) (more (every m))
-  every-step row ts = after-same (rounds (size ts) m) (every m) row ts (m row ts) (rd row ts) (λ row us l. fuel (size ts) (suc (size us)) row us l (omega arith))
+  every-step row ts =
+      after-same (rounds (size ts) m) (every m) row ts (m row ts) (rd row ts) (λ row us l. fuel (size ts) (suc (size us)) row us l (omega arith))
 
   rounds-conserving : (n : ℕ) → Conserving (rounds n m)
   rounds-conserving zero row ts = refused

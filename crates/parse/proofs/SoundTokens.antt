@@ -47,14 +47,16 @@ after-met row refused k = refused
 -- ## Runs
 
 module _ (st : Stops) (n depth : ℕ) (q : Row) (us : Trees) where
-  ordinary-by : {k lt gt co z cm : Bool} → eqb (q .kind) 112 ≡ k → eqb (first (q .text)) 60 ≡ lt → eqb (first (q .text)) 62 ≡ gt → eqb (first (q .text)) 44 ≡ co → eqb depth 0 ≡ z → st .comma ≡ cm
+  ordinary-by : {k lt gt co z cm : Bool} → eqb (q .kind) 112 ≡ k → eqb (first (q .text)) 60 ≡ lt → eqb (first (q .text)) 62 ≡ gt
+      → eqb (first (q .text)) 44 ≡ co → eqb depth 0 ≡ z → st .comma ≡ cm
       → g.ordinary st depth q ≡ not (k && lt || k && gt || k && co && (z && cm))
   ordinary-by a b c d e f = λ i. not (a i && b i || a i && c i || a i && d i && (e i && f i))
 
   -- a token that is neither `<` nor `>`
   run-rest : (minus co z cm : Bool) (row : ℕ) (go : ℕ → Bool → Took Ending)
       → ((e : ℕ) (m : Bool) → Meets (λ x rs vs. g.Run everything st n e m us vs rs) (go e m))
-      → eqb (q .kind) 112 ≡ true → eqb (first (q .text)) 60 ≡ false → eqb (first (q .text)) 62 ≡ false → eqb (first (q .text)) 44 ≡ co → eqb depth 0 ≡ z → st .comma ≡ cm
+      → eqb (q .kind) 112 ≡ true → eqb (first (q .text)) 60 ≡ false → eqb (first (q .text)) 62 ≡ false → eqb (first (q .text)) 44 ≡ co
+      → eqb depth 0 ≡ z → st .comma ≡ cm
       → Meets (λ x rs vs. g.Run everything st n depth minus (leaf q us) vs rs)
       (r.judged (cond (co && (z && cm)) (ends r.atComma) (belongs depth (eqb (first (q .text)) 45))) (λ e m. onward (n ∷ []) (go e m)) (leaf q us) row)
   run-rest minus co z cm row go ih a b c d e f = by co z cm d e f
@@ -65,7 +67,8 @@ module _ (st : Stops) (n depth : ℕ) (q : Row) (us : Trees) where
           onward-met (n ∷ []) (ih depth (eqb (first (q .text)) 45))
           (λ y rs vs t. g.Run.token (ordinary-by a b c d e f ∙ ap not x) (subst (λ (m : Bool). g.Run everything st n depth m us vs rs) (sym (and-last _ _ a)) t))
 
-      by : (co z cm : Bool) → eqb (first (q .text)) 44 ≡ co → eqb depth 0 ≡ z → st .comma ≡ cm → Meets (λ x rs vs. g.Run everything st n depth minus (leaf q us) vs rs)
+      by : (co z cm : Bool) → eqb (first (q .text)) 44 ≡ co → eqb depth 0 ≡ z → st .comma ≡ cm
+          → Meets (λ x rs vs. g.Run everything st n depth minus (leaf q us) vs rs)
           (r.judged (cond (co && (z && cm)) (ends r.atComma) (belongs depth (eqb (first (q .text)) 45))) (λ e m. onward (n ∷ []) (go e m)) (leaf q us) row)
       by true true true d e f = met [] (leaf q us) (g.Run.comma (and-both _ _ a d) e f)
       by true true false d e f = belonging d e f refl
@@ -78,11 +81,13 @@ module _ (st : Stops) (n depth : ℕ) (q : Row) (us : Trees) where
   run-leaf minus row go ih =
       by (eqb (q .kind) 112) minus (eqb (first (q .text)) 60) (eqb (first (q .text)) 62) (eqb (first (q .text)) 44) (eqb depth 0) (st .comma) (st .angle) refl refl refl refl refl refl refl
     where
-      by : (k minus lt gt co z cm ang : Bool) → eqb (q .kind) 112 ≡ k → eqb (first (q .text)) 60 ≡ lt → eqb (first (q .text)) 62 ≡ gt → eqb (first (q .text)) 44 ≡ co → eqb depth 0 ≡ z → st .comma ≡ cm → st .angle ≡ ang
+      by : (k minus lt gt co z cm ang : Bool) → eqb (q .kind) 112 ≡ k → eqb (first (q .text)) 60 ≡ lt → eqb (first (q .text)) 62 ≡ gt
+          → eqb (first (q .text)) 44 ≡ co → eqb depth 0 ≡ z → st .comma ≡ cm → st .angle ≡ ang
           → Meets (λ x rs vs. g.Run everything st n depth minus (leaf q us) vs rs)
           (r.judged (cond k (cond (minus && gt) (belongs depth false) (cond lt (belongs (depth + 1) false) (cond gt (cond z (cond ang (ends r.atAngle) unopened) (belongs (depth - 1) false)) (cond (co && (z && cm)) (ends r.atComma) (belongs depth (eqb (first (q .text)) 45)))))) (belongs depth false))
           (λ e m. onward (n ∷ []) (go e m)) (leaf q us) row)
-      by false minus lt gt co z cm ang a b c d e f h = onward-met (n ∷ []) (ih depth false) (λ x rs vs t. g.Run.token (ordinary-by a b c d e f) (subst (λ (m : Bool). g.Run everything st n depth m us vs rs) (sym (and-fails _ _ a)) t))
+      by false minus lt gt co z cm ang a b c d e f h =
+          onward-met (n ∷ []) (ih depth false) (λ x rs vs t. g.Run.token (ordinary-by a b c d e f) (subst (λ (m : Bool). g.Run everything st n depth m us vs rs) (sym (and-fails _ _ a)) t))
       by true true lt true co z cm ang a b c d e f h = onward-met (n ∷ []) (ih depth false) (λ x rs vs t. g.Run.arrow (and-both _ _ a c) t)
       by true true true false co z cm ang a b c d e f h = onward-met (n ∷ []) (ih (depth + 1) false) (λ x rs vs t. g.Run.deeper (and-both _ _ a b) t)
       by true true false false co z cm ang a b c d e f h = run-rest true co z cm row go ih a b c d e f
@@ -103,9 +108,11 @@ module _ (st : Stops) (n depth : ℕ) (us : Trees) where
       by true e = met [] (group d ts us) (g.Run.stop e)
       by false e = onward-met (copied n ts) (ih depth false) (λ x rs vs t. g.Run.inside e t)
 
-pub runFrom-sound : (st : Stops) (n depth : ℕ) (minus : Bool) (row : ℕ) (ts : Trees) → Meets (λ x rs us. g.Run everything st n depth minus ts us rs) (r.runFrom st n depth minus row ts)
+pub runFrom-sound : (st : Stops) (n depth : ℕ) (minus : Bool) (row : ℕ) (ts : Trees)
+    → Meets (λ x rs us. g.Run everything st n depth minus ts us rs) (r.runFrom st n depth minus row ts)
 runFrom-sound st n depth minus row end = met [] end (g.Run.ended refl)
-runFrom-sound st n depth minus row (leaf q us) = run-leaf st n depth q us minus row (λ e m. r.runFrom st n e m (row + 1) us) (λ e m. runFrom-sound st n e m (row + 1) us)
+runFrom-sound st n depth minus row (leaf q us) =
+    run-leaf st n depth q us minus row (λ e m. r.runFrom st n e m (row + 1) us) (λ e m. runFrom-sound st n e m (row + 1) us)
 runFrom-sound st n depth minus row (group d ts us) =
     run-group st n depth us minus d ts row (λ e m. r.runFrom st n e m (row + r.whole ts) us) (λ e m. runFrom-sound st n e m (row + r.whole ts) us)
 
@@ -133,7 +140,8 @@ mutual
   marked-sound row q (leaf p us) e =
       choice (isPunct 35 p) (λ f. onward-met (role.idle-mark ∷ []) (marked-sound (row + 1) p us f) (λ x rs vs h. g.Attributes.idle refl e f h)) (λ f. refused)
 
-scopeAfter-sound : (row : ℕ) (q : Row) (us : Trees) → isWord PUB q ≡ true → Meets (λ x rs vs. g.Visibility everything (leaf q us) vs (role.visibility ∷ rs)) (r.scopeAfter row us)
+scopeAfter-sound : (row : ℕ) (q : Row) (us : Trees) → isWord PUB q ≡ true
+    → Meets (λ x rs vs. g.Visibility everything (leaf q us) vs (role.visibility ∷ rs)) (r.scopeAfter row us)
 scopeAfter-sound row q end e = met [] end (g.Visibility.plain e refl)
 scopeAfter-sound row q (leaf p us) e = met [] (leaf p us) (g.Visibility.plain e refl)
 scopeAfter-sound row q (group d ts us) e =
@@ -175,7 +183,8 @@ lone-word w (leaf q end) e f = and-both _ _ e f
 lone-word w (leaf q (leaf p us)) e f = absurd (false≢true e)
 lone-word w (leaf q (group d ts us)) e f = absurd (false≢true e)
 
-word-word : {n p : ℕ} {t : List ℕ} {ts us : Trees} {rs : List ℕ} (w : List ℕ) → WordRead n ts (found t p) rs us → same t w ≡ true → g.Word everything (isWord w) n ts us rs
+word-word : {n p : ℕ} {t : List ℕ} {ts us : Trees} {rs : List ℕ} (w : List ℕ) → WordRead n ts (found t p) rs us → same t w ≡ true
+    → g.Word everything (isWord w) n ts us rs
 word-word w (ident e) f = g.Word.ident (and-both _ _ e f)
 word-word w (wrapped {ts = ts} e) f = g.Word.wrapped refl (lone-word w ts e f)
 
@@ -207,7 +216,8 @@ kindOf-read t p row ts = go (same t STRUCT) (same t ENUM) refl refl
 pub dataType-sound : (row : ℕ) (ts : Trees) → Meets (λ (h : r.Head) rs us. g.Head everything (isWord (kindWord (h .kind))) ts us rs) (r.dataType row ts)
 dataType-sound row ts = after-met row (word-read role.item-word row ts) go
   where
-    named : (w t : List ℕ) (p : ℕ) (rs : List ℕ) (us : Trees) → WordRead role.item-word ts (found t p) rs us → (k : Kind) (qs : List ℕ) (vs : Trees) → KindRead t us k qs vs → (row : ℕ)
+    named : (w t : List ℕ) (p : ℕ) (rs : List ℕ) (us : Trees) → WordRead role.item-word ts (found t p) rs us → (k : Kind) (qs : List ℕ) (vs : Trees)
+        → KindRead t us k qs vs → (row : ℕ)
         → Meets (λ (h : r.Head) ps ws. g.Head everything (isWord (kindWord (h .kind))) ts ws (rs ++ (qs ++ ps))) ((r.word role.item-name >>= λ v. r.named! v >>= λ n. pure (record { kind = k; name = n })) row vs)
     named w t p rs us h k qs vs (kind e) row =
         name-then role.item-name row vs (λ n ps ws i row. met [] ws (rw append-nil (g.Head.head (word-word (kindWord k) h e) i)))

@@ -1,5 +1,6 @@
 -- The role grammar (document 01, "Runs" and "Role grammar") as relations, one for each production, written without the reading.
 -- `N ts us rs` says: an N stands first in the stream ts, us is what is left after it, and rs are the roles of the rows between.
+-- What is optional and can stand is taken: each `none` and `absent` says of the rows that it cannot stand there.
 -- Productions are those of the Rust Reference 1.63. Bytes: `#` 35, `'` 39, `(` 40, `,` 44, `-` 45, `:` 58, `;` 59, `<` 60,
 -- `=` 61, `>` 62, `[` 91, `{` 123.
 use mathlib.Core.Path.{_≡_}
@@ -185,7 +186,7 @@ module _ (allowed : Difference → Bool) where
     generics : {q : Row} {us vs : Trees} {rs : List ℕ}
         → isPunct 60 q ≡ true → Parameters us vs rs → Generics (leaf q us) vs (role.angle ∷ rs)
 
-  -- ## `where`, then a run with stops `{` and `(`. WhereClause, which a `(` group does not end
+  -- ## `where`, then a run with stops `{` and `(`. WhereClause, which goes on to the `{` of the body
 
   pub data Clause : Trees → Trees → List ℕ → Type 0 where
     none : {ts : Trees} → starts (isWord WHERE) ts ≡ false → Clause ts ts []
@@ -212,7 +213,8 @@ module _ (allowed : Difference → Bool) where
 
   pub data TupleField : Trees → Trees → List ℕ → Type 0 where
     field : {comma : Bool} {ts us vs ws xs : Trees} {ks bs rs cs : List ℕ}
-        → Attributes ts us ks → Visibility us vs bs → Run fieldStops role.type 0 false vs ws rs → Unless empty-type (filled rs) → Mark 44 comma ws xs cs
+        → Attributes ts us ks → Visibility us vs bs
+        → Run fieldStops role.type 0 false vs ws rs → Unless empty-type (filled rs) → Mark 44 comma ws xs cs
         → TupleField ts xs (ks ++ (bs ++ (rs ++ cs)))
 
   -- TupleFields, to the end of their group: while tokens remain
