@@ -1,4 +1,4 @@
--- Laws on the definitions, which the proofs of the functions cite.
+-- Laws on the reading, the grammar, the role buffer and the contracts, which the proofs of the functions cite.
 pub mod Rounds
 pub mod Conserved
 pub mod SoundTokens
@@ -7,5 +7,11 @@ pub mod CompleteTokens
 pub mod GrammarComplete
 pub mod GrammarRoles
 pub mod Promise
-pub mod Examples
 pub mod GrammarWider
+pub mod Examples
+pub mod Buffer
+pub mod Meeting
+pub mod Judge
+pub mod Turns
+pub mod Marks
+pub mod Heads

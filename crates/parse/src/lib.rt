@@ -1,2 +1,6 @@
-// The parser of virtue 0.0.19 over token lists.
-pub fn nothing() {}
+// The parser of virtue 0.0.19, its modules parse/*.rs, over token lists. `item::new` is `Parse::new`: it
+// reads a declaration into role bytes, or refuses.
+pub mod attributes;
+pub mod data_type;
+pub mod utils;
+pub mod visibility;

@@ -147,7 +147,7 @@ pub record Inside (s : List ℕ) (c : Cursor) (i row depth : ℕ) : Type 0 where
   pub counted : row ≤ i
   pub deep : depth ≤ i + 1
   pub within : i ≤ length s
-  pub forth : c .at + 1 ≤ i + depth
+  pub forth : c .at + row ≤ i + c .row
   pub whole : allClosed (rowsAt s i) ≡ true
   pub left : drop depth (stack (at s i)) ≡ at s (c .at) .outer
   pub rows : row + pending depth (stack (at s i)) ≡ c .row + size (at s (c .at) .here) + 1
@@ -276,7 +276,7 @@ module _ (s : List ℕ) (c : Cursor) (f : follows (at s (c .at) .outer) ≡ true
   inside-done zero h n =
       record {
         inList = record { counted = n .counted; within = n .within; whole = n .whole };
-        forth = omega (arith, n .forth);
+        forth = omega (arith, n .forth, n .rows);
         row = omega (arith, n .rows);
         streams = sym (n .left);
       }

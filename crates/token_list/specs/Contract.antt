@@ -117,7 +117,7 @@ deeper k d = cond (eqb k 111) (d + 1) (cond (eqb k 99) (d - 1) d)
 -- from c to d, past the closing row of the group that c stands in
 pub record Skipped (s : List ℕ) (c d : Cursor) : Type 0 where
   pub inList : InList s d
-  pub forth : c .at < d .at
+  pub forth : c .at + size (at s (c .at) .here) + 1 ≤ d .at
   pub row : d .row ≡ c .row + size (at s (c .at) .here) + 1
   pub streams : at s (c .at) .outer ≡ at s (d .at) .here ∷ at s (d .at) .outer
 

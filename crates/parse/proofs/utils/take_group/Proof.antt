@@ -1,0 +1,40 @@
+use Rattle.parse.specs.Contract.{Moved}
+use Rattle.token_list.specs.declared.check.Cursor.{Cursor}
+use Rattle.token_list.specs.Contract.{Skipped}
+use Rattle.token_list.specs.Stream.{at, head}
+use Rattle.parse.proofs.Meeting as meeting
+use Rattle.parse.specs.Reading as reading
+use Rattle.token_list.proofs.Texts.{chosen, passed-over, and-last, and-fails}
+use Rattle.token_list.specs.Contract.{InList}
+use borrow.Author.Tests.{eq-eqb, ne-eqb, not-true, not-false}
+use native.Mathlib.Omega.{arith}
+use mathlib.Core.Bool.{true, false}
+use mathlib.Core.Path.{_≡_, refl, sym, _∙_, ap, subst, subst⁻¹}
+use borrow.Author.Needs.{needs}
+use Rattle.parse.proofs.utils.take_group.Statement.{statement}
+use Rattle.parse.proofs.utils.take_group.Tie as tie
+
+past-requires : tie.Need-past-requires
+past-requires c κs = (c .before .before .pre .0, c .before .before .pre .1 .token)
+
+skip-requires : tie.Need-skip-requires
+skip-requires c κs =
+    let a = c .before .before .before .args in
+    (meeting.past-in-of (a .s .now) (a .c) (c .past .result) (a .t) (c .past .ensures) (c .before .before .before .pre .0) (c .before .before .before .pre .1 .token), meeting.follows-of (a .s .now) (a .c) (c .past .result) (a .t) (c .past .ensures) (c .before .before .before .pre .0) (c .before .before .before .pre .1))
+
+fill-requires : tie.Need-fill-requires
+fill-requires c κs = search needs
+
+same-length : tie.Need-same-length
+same-length c = c .before .before .fill .kept .0
+
+returns : tie.Need-returns
+returns c =
+    let a = c .before .before .before .before .before .before .before .before .args in
+    let d = c .before .before .before .before .skip .result in
+    let k = subst (λ (x : Cursor). Skipped (a .s .now) x d) (c .before .before .before .before .before .past .ensures) (c .before .before .before .before .skip .ensures) in
+    subst⁻¹ (λ b. Moved (a .s .now) (a .c) d (reading.copied (a .role) (at (a .s .now) (a .t .next) .here)) (head (at (a .s .now) (a .t .next) .outer)) (a .roles .now) b) (c .before .before .fill .ensures) (meeting.group-moved (a .s .now) (a .c) (a .t) (c .before .before .before .before .before .before .before .before .pre .0) (a .roles .now) (a .role) d (c .before .before .before .before .before .before .before .before .pre .1) k)
+
+pub take-group-spec : {M : Type 1} → statement M
+take-group-spec =
+    tie.close (tie.spec past-requires skip-requires fill-requires same-length returns)

@@ -1,0 +1,88 @@
+// Attributes (virtue's parse/attributes.rs).
+use crate::utils::Step;
+use crate::utils::is_punct;
+use crate::utils::mark;
+use crate::utils::past;
+use crate::utils::take_group;
+use token_list::check::Cursor;
+use token_list::check::END;
+use token_list::check::Refusal;
+use token_list::stream::Peeked;
+use token_list::stream::peek;
+ghost use Rattle.token_list.specs.Contract.{InList};
+ghost use Rattle.parse.specs.Reading.{attributes};
+ghost use Rattle.parse.specs.Contract.{Meets, any, stream, stepSaid, AttributeRead};
+
+// One `#`: an attribute or an idle mark was taken, none stands here, or a refusal.
+pub enum Marked {
+    On(Cursor),
+    Done,
+    Refused(Refusal),
+}
+
+// One `#` with its group, or an idle one.
+pub fn attribute(s: &[u8], c: Cursor, roles: &mut [u8]) -> Marked
+    requires { ⌜ InList (now s) c ⌝ }
+    ensures { λ r. ⌜ AttributeRead (now (s .entry)) c (now (roles .entry)) (now (roles .exit)) r ⌝ }
+{
+    let row = c.row;
+    match peek(s, c) {
+        Peeked::Nothing => Marked::Done,
+        Peeked::Group(_) => Marked::Done,
+        Peeked::Leaf(t) => {
+            if !is_punct(t, b'#') {
+                return Marked::Done;
+            }
+            let next = past(s, c, t);
+            let below = next.row;
+            match peek(s, next) {
+                Peeked::Nothing => Marked::Refused(Refusal {
+                    number: 13,
+                    place: END,
+                }),
+                Peeked::Leaf(q) => {
+                    if !is_punct(q, b'#') {
+                        return Marked::Refused(Refusal {
+                            number: 13,
+                            place: below,
+                        });
+                    }
+                    mark(roles, row, 3);
+                    Marked::On(next)
+                }
+                Peeked::Group(g) => {
+                    if g.mark != b'[' {
+                        return Marked::Refused(Refusal {
+                            number: 12,
+                            place: below,
+                        });
+                    }
+                    mark(roles, row, 1);
+                    let after = take_group(s, next, g, roles, 2);
+                    Marked::On(after)
+                }
+            }
+        }
+    }
+}
+
+// As many attributes as stand there (virtue's Attribute::try_take).
+pub fn try_take(s: &[u8], from: Cursor, roles: &mut [u8]) -> Step
+    requires { ⌜ InList (now s) from ⌝ }
+    ensures { λ r. ⌜ Meets (now (s .entry)) from (now (roles .entry)) (now (roles .exit)) any (stepSaid r) (attributes (from .row) (stream (now (s .entry)) from)) ⌝ }
+{
+    let mut c = from;
+    loop {
+        match attribute(s, c, roles) {
+            Marked::On(next) => {
+                c = next;
+            }
+            Marked::Done => {
+                return Step::At(c);
+            }
+            Marked::Refused(r) => {
+                return Step::Refused(r);
+            }
+        }
+    }
+}

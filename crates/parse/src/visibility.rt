@@ -1,0 +1,110 @@
+// Visibility (virtue's parse/visibility.rs).
+use crate::utils::MaybeWord;
+use crate::utils::ident_eq;
+use crate::utils::lone_ident;
+use crate::utils::past;
+use crate::utils::take_group;
+use crate::utils::take_token;
+use token_list::check::Cursor;
+use token_list::stream::Peeked;
+use token_list::stream::Token;
+use token_list::stream::peek;
+ghost use mathlib.Core.Path.{_≡_};
+ghost use Prim.Native.Nat.{_≤_};
+ghost use lib.ListN.{length};
+ghost use Rattle.token_list.specs.Contract.{InList, rowOf};
+ghost use Rattle.parse.specs.Reading.{scopeWord, scoped, scopeAfter, anyScope, visibility};
+ghost use Rattle.parse.specs.Contract.{Meets, on, any, stream};
+
+// crate, self, super or in
+pub fn is_scope_word(s: &[u8], t: Token) -> bool
+    requires { ⌜ t .end ≤ length (now s) ⌝ }
+    ensures { λ r. ⌜ r ≡ scopeWord (rowOf (now (s .entry)) t) ⌝ }
+{
+    if ident_eq(s, t, b"crate") {
+        return true;
+    }
+    if ident_eq(s, t, b"self") {
+        return true;
+    }
+    if ident_eq(s, t, b"super") {
+        return true;
+    }
+    ident_eq(s, t, b"in")
+}
+
+// Whether the stream at c begins with a word of a scope.
+pub fn is_scoped(s: &[u8], c: Cursor) -> bool
+    requires { ⌜ InList (now s) c ⌝ }
+    ensures { λ r. ⌜ r ≡ scoped (stream (now (s .entry)) c) ⌝ }
+{
+    match peek(s, c) {
+        Peeked::Nothing => false,
+        Peeked::Group(_) => false,
+        Peeked::Leaf(t) => is_scope_word(s, t),
+    }
+}
+
+// The scope that may follow a plain `pub`.
+pub fn scope_after(s: &[u8], c: Cursor, roles: &mut [u8]) -> Cursor
+    requires { ⌜ InList (now s) c ⌝ }
+    ensures { λ r. ⌜ Meets (now (s .entry)) c (now (roles .entry)) (now (roles .exit)) any (on r) (scopeAfter (c .row) (stream (now (s .entry)) c)) ⌝ }
+{
+    match peek(s, c) {
+        Peeked::Nothing => c,
+        Peeked::Leaf(_) => c,
+        Peeked::Group(t) => {
+            if t.mark != b'(' {
+                return c;
+            }
+            let inside = past(s, c, t);
+            if !is_scoped(s, inside) {
+                return c;
+            }
+            take_group(s, c, t, roles, 5)
+        }
+    }
+}
+
+// The group that may follow a wrapped `pub`.
+pub fn any_scope(s: &[u8], c: Cursor, roles: &mut [u8]) -> Cursor
+    requires { ⌜ InList (now s) c ⌝ }
+    ensures { λ r. ⌜ Meets (now (s .entry)) c (now (roles .entry)) (now (roles .exit)) any (on r) (anyScope (c .row) (stream (now (s .entry)) c)) ⌝ }
+{
+    match peek(s, c) {
+        Peeked::Nothing => c,
+        Peeked::Leaf(_) => c,
+        Peeked::Group(t) => take_group(s, c, t, roles, 5),
+    }
+}
+
+// Takes a visibility where one stands (virtue's Visibility::try_take).
+pub fn try_take(s: &[u8], c: Cursor, roles: &mut [u8]) -> Cursor
+    requires { ⌜ InList (now s) c ⌝ }
+    ensures { λ r. ⌜ Meets (now (s .entry)) c (now (roles .entry)) (now (roles .exit)) any (on r) (visibility (c .row) (stream (now (s .entry)) c)) ⌝ }
+{
+    match peek(s, c) {
+        Peeked::Nothing => c,
+        Peeked::Leaf(t) => {
+            if !ident_eq(s, t, b"pub") {
+                return c;
+            }
+            let next = take_token(s, c, t, roles, 4);
+            scope_after(s, next, roles)
+        }
+        Peeked::Group(t) => {
+            let inside = past(s, c, t);
+            match lone_ident(s, inside) {
+                MaybeWord::Missing => c,
+                MaybeWord::Found(w) => {
+                    let word = w.token;
+                    if !ident_eq(s, word, b"pub") {
+                        return c;
+                    }
+                    let next = take_group(s, c, t, roles, 4);
+                    any_scope(s, next, roles)
+                }
+            }
+        }
+    }
+}

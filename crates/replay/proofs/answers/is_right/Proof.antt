@@ -1,0 +1,30 @@
+use borrow.Author.Needs.{needs}
+use Rattle.replay.proofs.answers.is_right.Statement.{statement}
+use Rattle.replay.proofs.answers.is_right.Tie as tie
+
+enum-told : tie.Need-enum-told
+enum-told c = search needs
+
+enum-told-2 : tie.Need-enum-told-2
+enum-told-2 c = search needs
+
+is-check-requires : tie.Need-is-check-requires
+is-check-requires c κs = search needs
+
+enum-told-3 : tie.Need-enum-told-3
+enum-told-3 c = search needs
+
+returns : tie.Need-returns
+returns c = search needs
+
+returns-2 : tie.Need-returns-2
+returns-2 c =
+    rw (c .before .enum-told2 .given .1) (c .is-check .ensures)
+
+returns-3 : tie.Need-returns-3
+returns-3 c = search needs
+
+pub is-right-spec : {M : Type 1} → statement M
+is-right-spec =
+    tie.close
+    (tie.spec enum-told enum-told-2 is-check-requires enum-told-3 returns returns-2 returns-3)

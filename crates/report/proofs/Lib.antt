@@ -1,0 +1,2 @@
+-- Laws on the texts, which the proofs of the functions cite.
+pub mod Texts

@@ -1,0 +1,64 @@
+use Rattle.report.proofs.Texts.{joined}
+use native.Mathlib.Omega.{arith}
+use borrow.Author.Needs.{needs}
+use Rattle.report.proofs.check.put_answer.Statement.{statement}
+use Rattle.report.proofs.check.put_answer.Tie as tie
+
+enum-known-answer : tie.Need-enum-known-answer
+enum-known-answer c = search needs
+
+slice-aggregate-put-bytes : tie.Need-slice-aggregate-put-bytes
+slice-aggregate-put-bytes c = search needs
+
+put-bytes-requires : tie.Need-put-bytes-requires
+put-bytes-requires c κs = search needs
+
+put-number-requires : tie.Need-put-number-requires
+put-number-requires c κs = search needs
+
+put-byte-requires : tie.Need-put-byte-requires
+put-byte-requires c κs = search needs
+
+enum-known-answer-2 : tie.Need-enum-known-answer-2
+enum-known-answer-2 c = search needs
+
+put-refusal-requires : tie.Need-put-refusal-requires
+put-refusal-requires c κs = search needs
+
+same-length : tie.Need-same-length
+same-length c = search needs
+
+returns : tie.Need-returns
+returns c =
+    let e = c .before .before in
+    let n = e .before .before .before .before in
+    let t = n .before .before .before .before in
+    let m = t .before .before .before .before in (
+      rw (m .answer .given .1) (joined (t .put-bytes .ensures) (joined (n .put-number .ensures .0) (e .put-byte .ensures))),
+      omega (arith, t .put-bytes .ensures .next, n .put-number .ensures .1, e .put-byte .ensures .next),
+    )
+
+same-length-2 : tie.Need-same-length-2
+same-length-2 c = search needs
+
+returns-2 : tie.Need-returns-2
+returns-2 c =
+    let d = c .before .before in
+    let m = d .before .before .before in
+    (rw (m .answer2 .given .1) (d .put-refusal .ensures .0), d .put-refusal .ensures .1)
+
+pub put-answer-spec : {M : Type 1} → statement M
+put-answer-spec =
+    tie.close
+    (tie.spec
+    enum-known-answer
+    slice-aggregate-put-bytes
+    put-bytes-requires
+    put-number-requires
+    put-byte-requires
+    enum-known-answer-2
+    put-refusal-requires
+    same-length
+    returns
+    same-length-2
+    returns-2)

@@ -1,0 +1,156 @@
+use Rattle.report.proofs.Texts.{joined, kept, decimal-one, decimal-more, decimal-few}
+use Rattle.report.specs.Text.{decimal}
+use lib.ListN.{length, length-append}
+use mathlib.Core.List.{[], _∷_}
+use native.Mathlib.Omega.{arith}
+use mathlib.Core.Path.{ap}
+use Prim.Native.Nat.{ℕ, _+_, _/_, _%_, _<_}
+use borrow.Fn.Kinds.{In}
+use borrow.Fn.PlainCycle.{Measures, is, falls, and}
+use Rattle.report.proofs.put.put_number.Reads as put-number
+use Rattle.report.proofs.put.put_number.Kinds as put-number-kinds
+use Rattle.report.proofs.put.+put_number.Lts-put_number as put-number-lts
+use Rattle.report.proofs.put.put_byte.Reads as put-byte-reads
+use Rattle.report.proofs.put.+put_number.{statement}
+use Rattle.report.proofs.put.+put_number.Tie.{close}
+
+abbrev μ-put-number : Measures 1 put-number-kinds.ps ℕ
+μ-put-number κs a = a .1 .1 .0
+
+abbrev put-number-at : ℕ → In 1 put-number-kinds.ps
+put-number-at t =
+    and 1 put-number-kinds.ps (is 1 put-number-kinds.ps μ-put-number t) put-number.Pre
+
+abbrev put-number-below : ℕ → In 1 put-number-kinds.ps
+put-number-below t =
+    and 1 put-number-kinds.ps (falls 1 put-number-kinds.ps _<_ μ-put-number t) put-number.Pre
+
+put-number-cast-digit : (t : ℕ) → put-number-lts.Need-cast-digit (
+  put-byte-reads.Asked,
+  put-byte-reads.Learnt,
+  put-number-below t,
+  put-number.Post,
+) (put-number-at t) put-number.Post
+put-number-cast-digit t c = omega arith
+
+put-number-add-put-byte : (t : ℕ) → put-number-lts.Need-add-put-byte (
+  put-byte-reads.Asked,
+  put-byte-reads.Learnt,
+  put-number-below t,
+  put-number.Post,
+) (put-number-at t) put-number.Post
+put-number-add-put-byte t c = omega arith
+
+put-number-put-byte-requires : (t : ℕ) → put-number-lts.Need-put-byte-requires (
+  put-byte-reads.Asked,
+  put-byte-reads.Learnt,
+  put-number-below t,
+  put-number.Post,
+) (put-number-at t) put-number.Post
+put-number-put-byte-requires t c κs = omega (arith, c .before .before .before .pre .1)
+
+put-number-same-length : (t : ℕ) → put-number-lts.Need-same-length (
+  put-byte-reads.Asked,
+  put-byte-reads.Learnt,
+  put-number-below t,
+  put-number.Post,
+) (put-number-at t) put-number.Post
+put-number-same-length t c = kept (c .before .before .put-byte .ensures)
+
+put-number-returns : (t : ℕ) → put-number-lts.Need-returns (
+  put-byte-reads.Asked,
+  put-byte-reads.Learnt,
+  put-number-below t,
+  put-number.Post,
+) (put-number-at t) put-number.Post
+put-number-returns t c =
+    let d = c .before .before in
+    let a = d .before .before .before .before .args in (
+      rw (decimal-one (a .n) (d .before .before .if1 .taken)) (d .put-byte .ensures),
+      omega (arith, d .put-byte .ensures .next),
+    )
+
+put-number-put-number-requires : (t : ℕ) → put-number-lts.Need-put-number-requires (
+  put-byte-reads.Asked,
+  put-byte-reads.Learnt,
+  put-number-below t,
+  put-number.Post,
+) (put-number-at t) put-number.Post
+put-number-put-number-requires t c κs =
+    let a = c .before .before .before in
+    (omega (arith, a .pre .0), a .pre .1)
+
+put-number-cast-digit-2 : (t : ℕ) → put-number-lts.Need-cast-digit-2 (
+  put-byte-reads.Asked,
+  put-byte-reads.Learnt,
+  put-number-below t,
+  put-number.Post,
+) (put-number-at t) put-number.Post
+put-number-cast-digit-2 t c = omega arith
+
+put-number-add-put-byte-2 : (t : ℕ) → put-number-lts.Need-add-put-byte-2 (
+  put-byte-reads.Asked,
+  put-byte-reads.Learnt,
+  put-number-below t,
+  put-number.Post,
+) (put-number-at t) put-number.Post
+put-number-add-put-byte-2 t c = omega arith
+
+put-number-put-byte-requires-2 : (t : ℕ) → put-number-lts.Need-put-byte-requires-2 (
+  put-byte-reads.Asked,
+  put-byte-reads.Learnt,
+  put-number-below t,
+  put-number.Post,
+) (put-number-at t) put-number.Post
+put-number-put-byte-requires-2 t c κs =
+    let d = c .before .before .before in
+    let a = d .before .before .before .before in
+    let n = a .args .n in
+    let more = ap length (decimal-more n (d .before .before .if1 .left)) in
+    omega (arith, a .pre .1, d .put-number .ensures .0 .next, more, length-append (decimal (n / 10)) ((48 + n % 10) ∷ []), decimal-few n (omega arith))
+
+put-number-same-length-2 : (t : ℕ) → put-number-lts.Need-same-length-2 (
+  put-byte-reads.Asked,
+  put-byte-reads.Learnt,
+  put-number-below t,
+  put-number.Post,
+) (put-number-at t) put-number.Post
+put-number-same-length-2 t c =
+    kept (joined (c .before .before .before .before .before .before .put-number .ensures .0) (c .before .before .put-byte2 .ensures))
+
+put-number-returns-2 : (t : ℕ) → put-number-lts.Need-returns-2 (
+  put-byte-reads.Asked,
+  put-byte-reads.Learnt,
+  put-number-below t,
+  put-number.Post,
+) (put-number-at t) put-number.Post
+put-number-returns-2 t c =
+    let d = c .before .before .before .before .before .before in
+    let a = d .before .before .before .before in
+    let n = a .args .n in
+    let written = joined (d .put-number .ensures .0) (c .before .before .put-byte2 .ensures) in
+    let more = decimal-more n (d .before .before .if1 .left) in (
+      rw more written,
+      omega (arith, written .next, ap length more, decimal-few n (omega arith)),
+    )
+
+pub +put-number-spec : {M : Type 1} → statement M
++put-number-spec = close μ-put-number λ t. put-number-lts.spec (
+  put-byte-reads.Asked,
+  put-byte-reads.Learnt,
+  put-number-below t,
+  put-number.Post,
+)
+    (put-number-at t)
+    put-number.Post
+    (put-number-cast-digit t)
+    (put-number-add-put-byte t)
+    (put-number-put-byte-requires t)
+    (put-number-same-length t)
+    (put-number-returns t)
+    (put-number-put-number-requires t)
+    (put-number-cast-digit-2 t)
+    (put-number-add-put-byte-2 t)
+    (put-number-put-byte-requires-2 t)
+    (put-number-same-length-2 t)
+    (put-number-returns-2 t)

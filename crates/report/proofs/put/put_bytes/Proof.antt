@@ -1,0 +1,65 @@
+use Rattle.report.proofs.Texts.{nothing, joined, kept}
+use Rattle.report.specs.Contract.{Put}
+use lib.Seq.{take-suc, take-all, length-take-le}
+use lib.ListN.{length, take}
+use Prim.Native.Nat.{_-_, _≤_, _<_}
+use native.Mathlib.Omega.{arith}
+use native.Mathlib.Numerals.{add-one}
+use Rattle.report.proofs.put.put_bytes.Statement.{statement}
+use Rattle.report.proofs.put.put_bytes.Tie as tie
+
+abbrev Inv-loop : tie.InvT-loop
+Inv-loop out₀ at text i₀ end₀ out i end = (i ≤ length text) × Put out₀ out at end (take i text)
+
+abbrev μ-loop : tie.MeasureT-loop
+μ-loop out₀ at text i₀ end₀ out i end = length text - i
+
+loop-holds : tie.Need-loop-holds Inv-loop μ-loop
+loop-holds c = (omega arith, nothing _ _)
+
+shared-slice-read-put-byte : tie.Need-shared-slice-read-put-byte Inv-loop μ-loop
+shared-slice-read-put-byte c = omega arith
+
+put-byte-requires : tie.Need-put-byte-requires Inv-loop μ-loop
+put-byte-requires c κs =
+    let l = c .before .before .before in
+    let a = l .before .before .before .args in
+    omega (arith, l .loop .inv .1 .next, length-take-le (l .loop .i) (a .text .now) (l .loop .inv .0))
+
+add-i : tie.Need-add-i Inv-loop μ-loop
+add-i c = omega arith
+
+loop-less : tie.Need-loop-less Inv-loop μ-loop
+loop-less c = omega arith
+
+loop-again : tie.Need-loop-again Inv-loop μ-loop
+loop-again c =
+    let l = c .before .before .before .before .before .before in
+    let t = l .before .before .before .args .text .now in
+    let more : l .loop .i < length t = omega arith in (
+      omega arith,
+      rw (add-one, take-suc t (l .loop .i) 0) (joined (l .loop .inv .1) (c .before .before .put-byte .ensures)),
+    )
+
+same-length : tie.Need-same-length Inv-loop μ-loop
+same-length c = kept (c .before .loop .inv .1)
+
+returns : tie.Need-returns Inv-loop μ-loop
+returns c =
+    let t = c .before .before .before .before .args .text .now in
+    rw (take-all (c .before .loop .i) t (omega arith)) at (c .before .loop .inv .1)
+
+pub put-bytes-spec : {M : Type 1} → statement M
+put-bytes-spec =
+    tie.close
+    (tie.spec
+    Inv-loop
+    μ-loop
+    loop-holds
+    shared-slice-read-put-byte
+    put-byte-requires
+    add-i
+    loop-less
+    loop-again
+    same-length
+    returns)

@@ -1,0 +1,40 @@
+use Rattle.report.specs.Text.{placeText}
+use Rattle.token_list.specs.Check.{END}
+use borrow.Author.Tests.{eq-eqb, ne-eqb}
+use native.Mathlib.Omega.{arith}
+use borrow.Author.Needs.{needs}
+use Rattle.report.proofs.put.put_place.Statement.{statement}
+use Rattle.report.proofs.put.put_place.Tie as tie
+
+put-byte-requires : tie.Need-put-byte-requires
+put-byte-requires c κs = search needs
+
+same-length : tie.Need-same-length
+same-length c = search needs
+
+returns : tie.Need-returns
+unfolding placeText
+returns c =
+    let d = c .before .before in
+    let a = d .before .before .before .before .args in (
+      rw (eq-eqb (a .place) END (d .before .before .if1 .taken)) (d .put-byte .ensures),
+      omega (arith, d .put-byte .ensures .next),
+    )
+
+put-number-requires : tie.Need-put-number-requires
+put-number-requires c κs = search needs
+
+same-length-2 : tie.Need-same-length-2
+same-length-2 c = search needs
+
+returns-2 : tie.Need-returns-2
+unfolding placeText
+returns-2 c =
+    let d = c .before .before in
+    let a = d .before .before .before .before .args in
+    (rw (ne-eqb (a .place) END (d .before .before .if1 .left)) (d .put-number .ensures .0), d .put-number .ensures .1)
+
+pub put-place-spec : {M : Type 1} → statement M
+put-place-spec =
+    tie.close
+    (tie.spec put-byte-requires same-length returns put-number-requires same-length-2 returns-2)

@@ -1,0 +1,56 @@
+use Rattle.report.proofs.Texts.{joined}
+use Rattle.report.specs.Text.{refusalText}
+use native.Mathlib.Omega.{arith}
+use borrow.Author.Needs.{needs}
+use Rattle.report.proofs.put.put_refusal.Statement.{statement}
+use Rattle.report.proofs.put.put_refusal.Tie as tie
+
+slice-aggregate-put-bytes : tie.Need-slice-aggregate-put-bytes
+slice-aggregate-put-bytes c = search needs
+
+put-bytes-requires : tie.Need-put-bytes-requires
+put-bytes-requires c κs = search needs
+
+cast-put-number : tie.Need-cast-put-number
+cast-put-number c = search needs
+
+put-number-requires : tie.Need-put-number-requires
+put-number-requires c κs = search needs
+
+put-byte-requires : tie.Need-put-byte-requires
+put-byte-requires c κs = search needs
+
+put-place-requires : tie.Need-put-place-requires
+put-place-requires c κs = search needs
+
+put-byte-requires-2 : tie.Need-put-byte-requires-2
+put-byte-requires-2 c κs = search needs
+
+same-length : tie.Need-same-length
+same-length c = search needs
+
+returns : tie.Need-returns
+unfolding refusalText
+returns c =
+    let e = c .before .before in
+    let d = e .before .before .before .before in
+    let b = d .before .before .before .before in
+    let n = b .before .before .before .before in
+    let t = n .before .before .before .before .before in (
+      joined (t .put-bytes .ensures) (joined (n .put-number .ensures .0) (joined (b .put-byte .ensures) (joined (d .put-place .ensures .0) (e .put-byte2 .ensures)))),
+      omega (arith, t .put-bytes .ensures .next, n .put-number .ensures .1, b .put-byte .ensures .next, d .put-place .ensures .1, e .put-byte2 .ensures .next),
+    )
+
+pub put-refusal-spec : {M : Type 1} → statement M
+put-refusal-spec =
+    tie.close
+    (tie.spec
+    slice-aggregate-put-bytes
+    put-bytes-requires
+    cast-put-number
+    put-number-requires
+    put-byte-requires
+    put-place-requires
+    put-byte-requires-2
+    same-length
+    returns)

@@ -1,0 +1,34 @@
+// The report of the list check: `rows N`, or the refusal.
+use crate::put::put_byte;
+use crate::put::put_bytes;
+use crate::put::put_number;
+use crate::put::put_refusal;
+use token_list::check::Checked;
+use token_list::check::check;
+ghost use Prim.Native.Nat.{_≤_};
+ghost use Rattle.token_list.specs.Check.{check};
+ghost use Rattle.token_list.specs.Contract.{checked};
+ghost use Rattle.report.specs.Text.{answerText};
+ghost use Rattle.report.specs.Contract.{Put};
+
+fn put_answer(out: &mut [u8], answer: Checked) -> usize
+    ensures { λ r. ⌜ Put (now (out .entry)) (now (out .exit)) 0 r (answerText (checked answer)) ⌝ }
+    ensures { λ r. ⌜ r ≤ 64 ⌝ }
+{
+    match answer {
+        Checked::Passed(rows) => {
+            let word = put_bytes(out, 0, b"rows ");
+            let number = put_number(out, word, rows);
+            put_byte(out, number, b'\n')
+        }
+        Checked::Refused(refusal) => put_refusal(out, 0, refusal),
+    }
+}
+
+// Checks the list and writes the report at the start of out; answers its length, at most 64.
+pub fn report_check(list: &[u8], out: &mut [u8]) -> usize
+    ensures { λ r. ⌜ Put (now (out .entry)) (now (out .exit)) 0 r (answerText (check (now (list .entry)))) ⌝ }
+    ensures { λ r. ⌜ r ≤ 64 ⌝ }
+{
+    put_answer(out, check(list))
+}

@@ -1,0 +1,73 @@
+// Texts, numbers and refusals, written from a place of the output on. Each function answers where
+// the next text goes. What does not fit is left out, and counted all the same.
+use token_list::check::END;
+use token_list::check::Refusal;
+ghost use Prim.Native.Nat.{_+_, _^_, _≤_, _<_};
+ghost use mathlib.Core.List.{[], _∷_};
+ghost use lib.ListN.{length};
+ghost use Rattle.report.specs.Text.{decimal, placeText, refusalText};
+ghost use Rattle.report.specs.Contract.{Put};
+
+pub fn put_byte(out: &mut [u8], at: usize, b: u8) -> usize
+    requires { ⌜ at + 1 < 2 ^ 64 ⌝ }
+    ensures { λ r. ⌜ Put (now (out .entry)) (now (out .exit)) at r (b ∷ []) ⌝ }
+{
+    if at < out.len() {
+        out[at] = b;
+        return at + 1;
+    }
+    at + 1
+}
+
+pub fn put_bytes(out: &mut [u8], at: usize, text: &[u8]) -> usize
+    requires { ⌜ at + length (now text) < 2 ^ 64 ⌝ }
+    ensures { λ r. ⌜ Put (now (out .entry)) (now (out .exit)) at r (now (text .entry)) ⌝ }
+{
+    let mut i = 0;
+    let mut end = at;
+    while i < text.len() {
+        end = put_byte(out, end, text[i]);
+        i += 1;
+    }
+    end
+}
+
+// The decimal digits of n.
+pub fn put_number(out: &mut [u8], at: usize, n: usize) -> usize
+    requires { ⌜ at + 20 < 2 ^ 64 ⌝ }
+    ensures { λ r. ⌜ Put (now (out .entry)) (now (out .exit)) at r (decimal n) ⌝ }
+    ensures { λ r. ⌜ r ≤ at + 20 ⌝ }
+{
+    if n < 10 {
+        let digit = n as u8;
+        return put_byte(out, at, 48 + digit);
+    }
+    let end = put_number(out, at, n / 10);
+    let digit = (n % 10) as u8;
+    put_byte(out, end, 48 + digit)
+}
+
+// A place: its row, or `-` for the end mark.
+pub fn put_place(out: &mut [u8], at: usize, place: usize) -> usize
+    requires { ⌜ at + 20 < 2 ^ 64 ⌝ }
+    ensures { λ r. ⌜ Put (now (out .entry)) (now (out .exit)) at r (placeText place) ⌝ }
+    ensures { λ r. ⌜ r ≤ at + 20 ⌝ }
+{
+    if place == END {
+        return put_byte(out, at, b'-');
+    }
+    put_number(out, at, place)
+}
+
+// A refusal: the line `refused place`, and a line with its number and place.
+pub fn put_refusal(out: &mut [u8], at: usize, refusal: Refusal) -> usize
+    requires { ⌜ at + 64 < 2 ^ 64 ⌝ }
+    ensures { λ r. ⌜ Put (now (out .entry)) (now (out .exit)) at r (refusalText (refusal .number) (refusal .place)) ⌝ }
+    ensures { λ r. ⌜ r ≤ at + 64 ⌝ }
+{
+    let names = put_bytes(out, at, b"refused place\n");
+    let number = put_number(out, names, refusal.number as usize);
+    let space = put_byte(out, number, b' ');
+    let place = put_place(out, space, refusal.place);
+    put_byte(out, place, b'\n')
+}
