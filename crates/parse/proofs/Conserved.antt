@@ -1,5 +1,4 @@
--- Every reader gives each row that it takes one role: the roles and the rows that are left make up the stream. Readers that go
--- round take a row each time, so that the fuel of a round does not matter.
+-- Every reader of declarations gives each row that it takes one role, and what goes round takes a row each time.
 use mathlib.Core.Path.{_≡_, refl, ap, _∙_, sym, subst}
 use mathlib.Core.Bool.{Bool, true, false, cond, _&&_, _||_, false≢true}
 use mathlib.Core.List.{List, [], _∷_, _++_}
@@ -16,59 +15,8 @@ use Rattle.parse.specs.Declaration.{Kind, struct, enum, Parameter, Field
 use Rattle.parse.specs.Took.{Took, took, refuse, Reader, onward, after, _>>=_, pure, wrong}
 use Rattle.parse.specs.Reading as r
 use Rattle.parse.specs.Reading.{Maybe, done, one, Word, missing, found, Stops, Ending, Verdict, belongs, ends, unopened, rounds, every, more}
-
--- the roles of the rows that were taken, and the rows that are left
-pub data Conserved {A : Type 0} (ts : Trees) : Took A → Type 0 where
-  taken : {a : A} (rs : List ℕ) (us : Trees) → length rs + size us ≡ size ts → Conserved ts (took a rs us)
-  refused : {n p : ℕ} → Conserved ts (refuse n p)
-
-abbrev pub Conserving : {A : Type 0} → Reader A → Type 0
-Conserving m = (row : ℕ) (ts : Trees) → Conserved ts (m row ts)
-
-pub conserved : {A : Type 0} {ts : Trees} {a : A} {rs : List ℕ} {us : Trees} → Conserved ts (took a rs us) → length rs + size us ≡ size ts
-conserved (taken rs us e) = e
-
--- ## Sequences and choices
-
-pub onward-conserved : {A : Type 0} {ts us : Trees} {t : Took A} (rs : List ℕ) → length rs + size us ≡ size ts → Conserved us t → Conserved ts (onward rs t)
-onward-conserved rs e (taken qs vs f) = taken (rs ++ qs) vs (omega (arith, length-append rs qs))
-onward-conserved rs e refused = refused
-
-pub after-conserved : {A B : Type 0} {ts : Trees} {t : Took A} (row : ℕ) (f : A → Reader B) → Conserved ts t → ((a : A) → Conserving (f a)) → Conserved ts (after row t f)
-after-conserved row f (taken {a = a} rs us e) k = onward-conserved rs e (k a _ us)
-after-conserved row f refused k = refused
-
-pub bind : {A B : Type 0} {m : Reader A} {f : A → Reader B} → Conserving m → ((a : A) → Conserving (f a)) → Conserving (m >>= f)
-bind {f = f} c k row ts = after-conserved row f (c row ts) k
-
-pub pure-conserving : {A : Type 0} (a : A) → Conserving (pure a)
-pure-conserving a row ts = taken [] ts (omega arith)
-
-choice : {A : Type 0} {ts : Trees} (b : Bool) {t u : Took A} → Conserved ts t → Conserved ts u → Conserved ts (cond b t u)
-choice true c d = c
-choice false c d = d
-
-reader-choice : {A : Type 0} {m k : Reader A} (b : Bool) → Conserving m → Conserving k → Conserving (cond b m k)
-reader-choice true c d = c
-reader-choice false c d = d
-
-nothing-taken : {A : Type 0} {a : A} {ts : Trees} → Conserved ts (took a [] ts)
-nothing-taken {ts = ts} = taken [] ts (omega arith)
-
-from-conserved : {A : Type 0} {m : Reader A} (n row : ℕ) (q : Row) (us : Trees) → Conserving m → Conserved (leaf q us) (r.from n row us m)
-from-conserved n row q us c = onward-conserved {us = us} (n ∷ []) (omega arith) (c _ us)
-
-pub copied-length : (n : ℕ) (ts : Trees) → length (r.copied n ts) ≡ 1 + size ts + 1
-copied-length n ts = length-replicate (1 + size ts + 1) n
-
-copied-conserved : {A : Type 0} {t : Took A} (n d : ℕ) (ts us : Trees) → Conserved us t → Conserved (group d ts us) (onward (r.copied n ts) t)
-copied-conserved n d ts us c = onward-conserved {us = us} (r.copied n ts) (omega (arith, copied-length n ts)) c
-
-copied-alone : {A : Type 0} {a : A} (n d : ℕ) (ts us : Trees) → Conserved (group d ts us) (took a (r.copied n ts) us)
-copied-alone n d ts us = taken (r.copied n ts) us (omega (arith, copied-length n ts))
-
-one-row : {A : Type 0} {a : A} (n : ℕ) (q : Row) (us : Trees) → Conserved (leaf q us) (took a (n ∷ []) us)
-one-row n q us = taken (n ∷ []) us (omega arith)
+pub use Rattle.parse.proofs.Rounds.{Conserved, Conserving, conserved, onward-conserved, after-conserved, bind, pure-conserving, choice, reader-choice, nothing-taken, from-conserved, copied-length, copied-conserved, copied-alone, one-row, Shorter, onward-shorter, onward-still, after-shorter, least, after-still, shorter-choice, from-shorter, looser, Round, Rounding, round-conserved, shorter-round, round-choice, onward-round, after-round, Ended, ended-at, Last, Lasting, onward-last, after-last, bind-last, last-choice, closing-conserved, pure-after-ended, fuel, every-step, every-conserving, every-ended}
+use Rattle.parse.proofs.Rounds.{taken, shorter, another, finished, ended, last, refused}
 
 -- ## The readers
 
@@ -82,7 +30,8 @@ punctIf-conserving b n row end = nothing-taken
 punctIf-conserving b n row (leaf q us) = choice (r.isPunct b q) (one-row n q us) nothing-taken
 punctIf-conserving b n row (group d ts us) = nothing-taken
 
-judged-conserved : (v : Verdict) {go : ℕ → Bool → Took Ending} (ts : Trees) (row : ℕ) → ((e : ℕ) (m : Bool) → Conserved ts (go e m)) → Conserved ts (r.judged v go ts row)
+judged-conserved : (v : Verdict) {go : ℕ → Bool → Took Ending} (ts : Trees) (row : ℕ) → ((e : ℕ) (m : Bool) → Conserved ts (go e m))
+    → Conserved ts (r.judged v go ts row)
 judged-conserved (belongs e m) ts row c = c e m
 judged-conserved (ends e) ts row c = nothing-taken
 judged-conserved unopened ts row c = refused
@@ -143,7 +92,8 @@ named!-conserving (found t p) row ts = nothing-taken
 
 pub kindOf-conserving : (w : Word) → Conserving (r.kindOf w)
 kindOf-conserving missing = λ row ts. refused
-kindOf-conserving (found t p) = reader-choice (same t r.STRUCT) (pure-conserving struct) (reader-choice (same t r.ENUM) (pure-conserving enum) (λ row ts. refused))
+kindOf-conserving (found t p) =
+    reader-choice (same t r.STRUCT) (pure-conserving struct) (reader-choice (same t r.ENUM) (pure-conserving enum) (λ row ts. refused))
 
 pub dataType-conserving : Conserving r.dataType
 dataType-conserving =
@@ -175,39 +125,6 @@ typeRuns-conserving n false = bind (marked-run-conserving 61) (λ b. pure-conser
 pub typeAfter-conserving : (n : List ℕ) → Conserving (r.typeAfter n)
 typeAfter-conserving n = bind (punctIf-conserving 58 role.separator) (typeRuns-conserving n)
 
--- ## What is left is shorter than a bound
-
-pub data Shorter {A : Type 0} (b : ℕ) (ts : Trees) : Took A → Type 0 where
-  shorter : {a : A} (rs : List ℕ) (us : Trees) → length rs + size us ≡ size ts → size us < b → Shorter b ts (took a rs us)
-  refused : {n p : ℕ} → Shorter b ts (refuse n p)
-
-onward-shorter : {A : Type 0} {b : ℕ} {ts us : Trees} {t : Took A} (rs : List ℕ) → length rs + size us ≡ size ts → size us < b → Conserved us t → Shorter b ts (onward rs t)
-onward-shorter rs e h (taken qs vs f) = shorter (rs ++ qs) vs (omega (arith, length-append rs qs)) (omega arith)
-onward-shorter rs e h refused = refused
-
-onward-still : {A : Type 0} {b c : ℕ} {ts us : Trees} {t : Took A} (rs : List ℕ) → length rs + size us ≡ size ts → c ≤ b → Shorter c us t → Shorter b ts (onward rs t)
-onward-still rs e h (shorter qs vs f g) = shorter (rs ++ qs) vs (omega (arith, length-append rs qs)) (omega arith)
-onward-still rs e h refused = refused
-
-after-shorter : {A B : Type 0} {b : ℕ} {ts : Trees} {t : Took A} (row : ℕ) (f : A → Reader B) → Shorter b ts t → ((a : A) → Conserving (f a)) → Shorter b ts (after row t f)
-after-shorter row f (shorter {a = a} rs us e h) k = onward-shorter rs e h (k a _ us)
-after-shorter row f refused k = refused
-
--- an empty stream counts as one row, so that nothing may be taken from it
-abbrev least : Trees → ℕ
-least ts = max (size ts) 1
-
-after-still : {A B : Type 0} {ts : Trees} {t : Took A} (row : ℕ) (f : A → Reader B) → Conserved ts t → ((a : A) (row : ℕ) (us : Trees) → Shorter (least us) us (f a row us)) → Shorter (least ts) ts (after row t f)
-after-still row f (taken {a = a} rs us e) k = onward-still rs e (omega arith) (k a _ us)
-after-still row f refused k = refused
-
-shorter-choice : {A : Type 0} {n : ℕ} {ts : Trees} (b : Bool) {t u : Took A} → Shorter n ts t → Shorter n ts u → Shorter n ts (cond b t u)
-shorter-choice true c d = c
-shorter-choice false c d = d
-
-from-shorter : {A : Type 0} {m : Reader A} (n row : ℕ) (q : Row) (us : Trees) → Conserving m → Shorter (size (leaf q us)) (leaf q us) (r.from n row us m)
-from-shorter n row q us c = onward-shorter {us = us} (n ∷ []) (omega arith) (omega arith) (c _ us)
-
 parameter-shorter : (angle row : ℕ) (ts : Trees) → Shorter (size ts) ts (r.parameter angle row ts)
 parameter-shorter angle row end = refused
 parameter-shorter angle row (group d ts us) = refused
@@ -217,80 +134,20 @@ parameter-shorter angle row (leaf q us) =
     (shorter-choice (r.isWord r.CONST q) (from-shorter role.parameter-name row q us (bind constantAfter-conserving comma-conserving))
     (shorter-choice (r.isIdent q) (from-shorter role.parameter-name row q us (bind (typeAfter-conserving (q .text)) comma-conserving)) refused)))
 
--- ## Going round
-
--- a round takes a row at least, or it is the last
-pub data Round {A : Type 0} (ts : Trees) : Took (Maybe A) → Type 0 where
-  another : {a : A} (rs : List ℕ) (us : Trees) → length rs + size us ≡ size ts → size us < size ts → Round ts (took (one a) rs us)
-  finished : (rs : List ℕ) (us : Trees) → length rs + size us ≡ size ts → Round ts (took done rs us)
-  refused : {n p : ℕ} → Round ts (refuse n p)
-
-abbrev pub Rounding : {A : Type 0} → Reader (Maybe A) → Type 0
-Rounding m = (row : ℕ) (ts : Trees) → Round ts (m row ts)
-
-round-conserved : {A : Type 0} {ts : Trees} {t : Took (Maybe A)} → Round ts t → Conserved ts t
-round-conserved (another rs us e h) = taken rs us e
-round-conserved (finished rs us e) = taken rs us e
-round-conserved refused = refused
-
-pub shorter-round : {A : Type 0} {ts : Trees} {b : ℕ} {t : Took (Maybe A)} → b ≤ size ts → Shorter b ts t → Round ts t
-shorter-round h (shorter {a = one a} rs us e g) = another rs us e (omega arith)
-shorter-round h (shorter {a = done} rs us e g) = finished rs us e
-shorter-round h refused = refused
-
-round-choice : {A : Type 0} {ts : Trees} (b : Bool) {t u : Took (Maybe A)} → Round ts t → Round ts u → Round ts (cond b t u)
-round-choice true c d = c
-round-choice false c d = d
-
-pub onward-round : {A : Type 0} {ts us : Trees} {t : Took (Maybe A)} (rs : List ℕ) → length rs + size us ≡ size ts → Round us t → Round ts (onward rs t)
-onward-round rs e (another qs vs f g) = another (rs ++ qs) vs (omega (arith, length-append rs qs)) (omega arith)
-onward-round rs e (finished qs vs f) = finished (rs ++ qs) vs (omega (arith, length-append rs qs))
-onward-round rs e refused = refused
-
-pub after-round : {A B : Type 0} {ts : Trees} {t : Took A} (row : ℕ) (f : A → Reader (Maybe B)) → Conserved ts t → ((a : A) → Rounding (f a)) → Round ts (after row t f)
-after-round row f (taken {a = a} rs us e) k = onward-round rs e (k a _ us)
-after-round row f refused k = refused
-
 pub parameter-round : (angle : ℕ) → Rounding (r.parameter angle)
 parameter-round angle row ts = shorter-round (omega arith) (parameter-shorter angle row ts)
-
-module _ {A : Type 0} (m : Reader (Maybe A)) (rd : Rounding m) where
-  after-same : (g h : Reader (List A)) (row : ℕ) (ts : Trees) (t : Took (Maybe A)) → Round ts t
-      → ((row : ℕ) (us : Trees) → size us < size ts → g row us ≡ h row us) → after row t (more g) ≡ after row t (more h)
-  after-same g h row ts t (another {a = a} rs us e l) f =
-      ap (λ (u : Took (List A)). onward rs (after (row + length rs) u (λ xs. pure (a ∷ xs)))) (f (row + length rs) us l)
-  after-same g h row ts t (finished rs us e) f = refl
-  after-same g h row ts t refused f = refl
-
-  -- fuel above the stream's size changes nothing
-  pub fuel : (n k row : ℕ) (ts : Trees) → size ts < n → size ts < k → rounds n m row ts ≡ rounds k m row ts
-  fuel zero k row ts h i = absurd (omega arith)
-  fuel (suc n) zero row ts h i = absurd (omega arith)
-  fuel (suc n) (suc k) row ts h i = after-same (rounds n m) (rounds k m) row ts (m row ts) (rd row ts) (λ row us l. fuel n k row us (omega arith) (omega arith))
-
-  pub every-step : (row : ℕ) (ts : Trees) → every m row ts ≡ after row (m row ts) (more (every m))
-  every-step row ts = after-same (rounds (size ts) m) (every m) row ts (m row ts) (rd row ts) (λ row us l. fuel (size ts) (suc (size us)) row us l (omega arith))
-
-  rounds-conserving : (n : ℕ) → Conserving (rounds n m)
-  rounds-conserving zero row ts = refused
-  rounds-conserving (suc n) row ts = after-conserved row (more (rounds n m)) (round-conserved (rd row ts)) (again n (rounds-conserving n))
-    where
-      again : (n : ℕ) → Conserving (rounds n m) → (a : Maybe A) → Conserving (more (rounds n m) a)
-      again n c done = pure-conserving []
-      again n c (one a) = bind c (λ xs. pure-conserving (a ∷ xs))
-
-  pub every-conserving : Conserving (every m)
-  every-conserving row ts = rounds-conserving (suc (size ts)) row ts
 
 pub generics-conserving : Conserving r.generics
 generics-conserving row end = nothing-taken
 generics-conserving row (group d ts us) = nothing-taken
-generics-conserving row (leaf q us) = choice (r.isPunct 60 q) (from-conserved role.angle row q us (every-conserving (r.parameter row) (parameter-round row))) nothing-taken
+generics-conserving row (leaf q us) =
+    choice (r.isPunct 60 q) (from-conserved role.angle row q us (every-conserving (r.parameter row) (parameter-round row))) nothing-taken
 
 pub clause-conserving : Conserving r.clause
 clause-conserving row end = nothing-taken
 clause-conserving row (group d ts us) = nothing-taken
-clause-conserving row (leaf q us) = choice (r.isWord r.WHERE q) (from-conserved role.where-word row q us (run-conserving r.clauseStops role.where-run)) nothing-taken
+clause-conserving row (leaf q us) =
+    choice (r.isWord r.WHERE q) (from-conserved role.where-word row q us (run-conserving r.clauseStops role.where-run)) nothing-taken
 
 -- ## Fields
 
@@ -318,7 +175,8 @@ pub judge-comma : (q : Row) (e : Ending) → r.judge r.fieldStops 0 false q ≡ 
 judge-comma q e = go (eqb (q .kind) 112) (eqb (first (q .text)) 60) (eqb (first (q .text)) 62) (eqb (first (q .text)) 44)
   where
     go : (k lt gt co : Bool)
-        → cond k (cond lt (belongs 1 false) (cond gt unopened (cond (co && true) (ends r.atComma) (belongs 0 (eqb (first (q .text)) 45))))) (belongs 0 false) ≡ ends e → (k && co) ≡ true
+        → cond k (cond lt (belongs 1 false) (cond gt unopened (cond (co && true) (ends r.atComma) (belongs 0 (eqb (first (q .text)) 45))))) (belongs 0 false) ≡ ends e
+        → (k && co) ≡ true
     go true true gt co x = cc
     go true false true co x = cc
     go true false false true x = refl
@@ -329,17 +187,14 @@ kept-shorter : {b : ℕ} {ts : Trees} {t : Took Ending} (us : Trees) → Shorter
 kept-shorter us (shorter rs vs e h) = shorter rs vs e h
 kept-shorter us refused = refused
 
-looser : {A : Type 0} {b c : ℕ} {ts : Trees} {t : Took A} → b ≤ c → Shorter b ts t → Shorter c ts t
-looser l (shorter rs us e h) = shorter rs us e (omega arith)
-looser l refused = refused
-
 tail-leaf : (row : ℕ) (q : Row) (us : Trees) (v : Verdict) (go : ℕ → Bool → Took Ending) → r.judge r.fieldStops 0 false q ≡ v
     → ((e : ℕ) (m : Bool) → Shorter (size (leaf q us)) (leaf q us) (go e m))
     → Shorter (size (leaf q us)) (leaf q us) (after row (r.kept (leaf q us) (r.judged v go (leaf q us) row)) r.comma)
 tail-leaf row q us (belongs e m) go j k = after-shorter row r.comma (kept-shorter (leaf q us) (k e m)) comma-conserving
 tail-leaf row q us (ends e) go j k = taken-comma (r.isPunct 44 q) (judge-comma q e j)
   where
-    taken-comma : (b : Bool) → b ≡ true → Shorter (size (leaf q us)) (leaf q us) (after row (took end [] (leaf q us)) (λ t row us'. after row (cond b (took true (role.separator ∷ []) us) (took false [] (leaf q us))) (λ c. pure (one t))))
+    taken-comma : (b : Bool) → b ≡ true
+        → Shorter (size (leaf q us)) (leaf q us) (after row (took end [] (leaf q us)) (λ t row us'. after row (cond b (took true (role.separator ∷ []) us) (took false [] (leaf q us))) (λ c. pure (one t))))
     taken-comma true f = shorter (role.separator ∷ []) us (omega arith) (omega arith)
     taken-comma false f = absurd (false≢true f)
 tail-leaf row q us unopened go j k = refused
@@ -373,63 +228,8 @@ namedFields-conserving = bind (every-conserving r.namedField namedField-round) (
 pub tupleFields-conserving : Conserving r.tupleFields
 tupleFields-conserving = bind (every-conserving r.tupleField tupleField-round) (λ fs. pure-conserving _)
 
--- ## Readers that go on to the end of their stream
-
-pub data Ended {A : Type 0} : Took A → Type 0 where
-  ended : {a : A} (rs : List ℕ) → Ended (took a rs end)
-  refused : {n p : ℕ} → Ended (refuse n p)
-
-pub ended-at : {A : Type 0} {a : A} {rs : List ℕ} {us : Trees} → Ended (took a rs us) → us ≡ end
-ended-at (ended rs) = refl
-
--- the last round ends at the end
-pub data Last {A : Type 0} : Took (Maybe A) → Type 0 where
-  last : (rs : List ℕ) → Last (took done rs end)
-  another : {a : A} (rs : List ℕ) (us : Trees) → Last (took (one a) rs us)
-  refused : {n p : ℕ} → Last (refuse n p)
-
-abbrev pub Lasting : {A : Type 0} → Reader (Maybe A) → Type 0
-Lasting m = (row : ℕ) (ts : Trees) → Last (m row ts)
-
-pub onward-last : {A : Type 0} {t : Took (Maybe A)} (rs : List ℕ) → Last t → Last (onward rs t)
-onward-last rs (last qs) = last (rs ++ qs)
-onward-last rs (another qs us) = another (rs ++ qs) us
-onward-last rs refused = refused
-
-pub after-last : {A B : Type 0} (row : ℕ) (t : Took A) (f : A → Reader (Maybe B)) → ((a : A) → Lasting (f a)) → Last (after row t f)
-after-last row (took a rs us) f k = onward-last rs (k a _ us)
-after-last row (refuse n p) f k = refused
-
-pub bind-last : {A B : Type 0} (m : Reader A) {f : A → Reader (Maybe B)} → ((a : A) → Lasting (f a)) → Lasting (m >>= f)
-bind-last m {f = f} k row ts = after-last row (m row ts) f k
-
-last-choice : {A : Type 0} (b : Bool) {t u : Took (Maybe A)} → Last t → Last u → Last (cond b t u)
-last-choice true c d = c
-last-choice false c d = d
-
 pub comma-last : {A : Type 0} (a : A) → Lasting (r.comma a)
 comma-last a = bind-last (r.punctIf 44 role.separator) (λ t row ts. another [] ts)
-
-module _ {A : Type 0} (m : Reader (Maybe A)) (l : Lasting m) where
-  onward-ended : {t : Took (List A)} (rs : List ℕ) → Ended t → Ended (onward rs t)
-  onward-ended rs (ended qs) = ended (rs ++ qs)
-  onward-ended rs refused = refused
-
-  pure-ended : {t : Took (List A)} (row : ℕ) (a : A) → Ended t → Ended (after row t (λ xs. pure (a ∷ xs)))
-  pure-ended row a (ended qs) = ended (qs ++ [])
-  pure-ended row a refused = refused
-
-  rounds-ended : (n row : ℕ) (ts : Trees) → Ended (rounds n m row ts)
-  rounds-ended zero row ts = refused
-  rounds-ended (suc n) row ts = go (rounds-ended n) (l row ts)
-    where
-      go : ((row : ℕ) (ts : Trees) → Ended (rounds n m row ts)) → {t : Took (Maybe A)} → Last t → Ended (after row t (more (rounds n m)))
-      go ih (last rs) = ended (rs ++ [])
-      go ih (another {a = a} rs us) = onward-ended rs (pure-ended (row + length rs) a (ih (row + length rs) us))
-      go ih refused = refused
-
-  pub every-ended : (row : ℕ) (ts : Trees) → Ended (every m row ts)
-  every-ended row ts = rounds-ended (suc (size ts)) row ts
 
 pub fieldStart-last : Lasting r.fieldStart
 fieldStart-last row end = last []
@@ -451,15 +251,6 @@ tupleField-last row (leaf q us) = tupleType-last row (leaf q us)
 tupleField-last row (group d ts us) = tupleType-last row (group d ts us)
 
 -- ## Variants and bodies
-
-closing-conserved : {A : Type 0} {t : Took A} (d : ℕ) (ts us : Trees) → Ended t → Conserved ts t → Conserved (group d ts us) (r.closing us t)
-closing-conserved d ts us (ended qs) (taken rs vs e) =
-    taken (role.delimiter ∷ rs ++ role.delimiter ∷ []) us (omega (arith, length-append rs (role.delimiter ∷ [])))
-closing-conserved d ts us refused c = refused
-
-pure-after-ended : {A B : Type 0} {t : Took A} (row : ℕ) (f : A → B) → Ended t → Ended (after row t (λ a. pure (f a)))
-pure-after-ended row f (ended rs) = ended (rs ++ [])
-pure-after-ended row f refused = refused
 
 pub namedFields-ended : (row : ℕ) (ts : Trees) → Ended (r.namedFields row ts)
 namedFields-ended row ts = pure-after-ended row Fields.named (every-ended r.namedField namedField-last row ts)
@@ -497,13 +288,16 @@ word-shorter : {A : Type 0} (n : ℕ) (f : List ℕ → Reader A) → ((t : List
 word-shorter n f k row end = refused
 word-shorter n f k row (leaf q us) = go (r.isIdent q)
   where
-    go : (b : Bool) → Shorter (least (leaf q us)) (leaf q us) (after row (cond b (took (found (q .text) row) (n ∷ []) us) (took missing [] (leaf q us))) (λ w. r.named! w >>= f))
+    go : (b : Bool)
+        → Shorter (least (leaf q us)) (leaf q us) (after row (cond b (took (found (q .text) row) (n ∷ []) us) (took missing [] (leaf q us))) (λ w. r.named! w >>= f))
     go true = onward-shorter {us = us} (n ∷ []) (omega arith) (omega arith) (onward-conserved {us = us} [] (omega arith) (k (q .text) _ us))
     go false = refused
 word-shorter n f k row (group d ts us) = go (r.lone r.isIdent ts)
   where
-    go : (b : Bool) → Shorter (least (group d ts us)) (group d ts us) (after row (cond b (took (found (r.textOf ts) (row + 1)) (r.copied n ts) us) (took missing [] (group d ts us))) (λ w. r.named! w >>= f))
-    go true = onward-shorter {us = us} (r.copied n ts) (omega (arith, copied-length n ts)) (omega arith) (onward-conserved {us = us} [] (omega arith) (k (r.textOf ts) _ us))
+    go : (b : Bool)
+        → Shorter (least (group d ts us)) (group d ts us) (after row (cond b (took (found (r.textOf ts) (row + 1)) (r.copied n ts) us) (took missing [] (group d ts us))) (λ w. r.named! w >>= f))
+    go true =
+        onward-shorter {us = us} (r.copied n ts) (omega (arith, copied-length n ts)) (omega arith) (onward-conserved {us = us} [] (omega arith) (k (r.textOf ts) _ us))
     go false = refused
 
 -- a variant's parts after its name

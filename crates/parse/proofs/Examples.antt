@@ -1,13 +1,50 @@
 -- The definitions give document 01's answers to its ★ examples, each with a role buffer of 64 bytes.
 use mathlib.Core.Path.{_≡_, refl}
 use mathlib.Core.Bool.{true}
+use mathlib.Core.List.{[], _∷_}
 use Rattle.token_list.specs.Check.{check}
 use Rattle.token_list.specs.Row.{formOf}
 use Rattle.token_list.specs.Stream.{before, at}
 use Rattle.parse.specs.Token.{negatable}
 use Rattle.parse.specs.Answer.{answer}
-use Rattle.parse.specs.Examples.{allAgree, examples}
+use Rattle.parse.specs.Examples.{allAgree, examples, bytes, VALVE, ARROW}
+use Rattle.parse.specs.Promise.{stream}
+use Rattle.parse.specs.Grammar as g
+use Rattle.parse.specs.Grammar.{Obeys, nothing}
 
 pub paper : allAgree examples ≡ true
 unfolding answer check formOf before at negatable
 paper = refl
+
+-- ## The Reference's productions admit what they should: with no difference allowed, two of the examples
+-- have their roles
+
+pub valve : Obeys nothing (stream (bytes VALVE)) (4 ∷ 6 ∷ 7 ∷ 14 ∷ 15 ∷ 10 ∷ 16 ∷ 10 ∷ 15 ∷ 14 ∷ 18 ∷ 14 ∷ 10 ∷ 15 ∷ 10 ∷ 16 ∷ 16 ∷ 14 ∷ [])
+unfolding before at negatable
+valve =
+    g.Obeys.obeys
+    (g.Item.enum (g.Attributes.none refl) (g.Visibility.plain refl refl) (g.Head.head (g.Word.ident refl) (g.Word.ident refl)) (g.Generics.none refl) (g.Clause.none refl)
+    (g.EnumBody.variants refl
+    (g.Variants.next refl (g.Variant.valued (g.Attributes.none refl) (g.Word.ident refl) (g.VariantFields.none refl) (g.Value.literal refl refl) (g.Mark.present refl) refl refl)
+    (g.Variants.next refl
+    (g.Variant.plain (g.Attributes.none refl) (g.Word.ident refl)
+    (g.VariantFields.tuple refl
+    (g.TupleFields.next refl (g.TupleField.field (g.Attributes.none refl) (g.Visibility.none refl) (g.Run.token refl (g.Run.ended refl)) refl (g.Mark.absent refl)) g.TupleFields.last))
+    (g.Mark.present refl) refl)
+    (g.Variants.next refl (g.Variant.valued (g.Attributes.none refl) (g.Word.ident refl) (g.VariantFields.none refl) (g.Value.negative refl refl refl refl) (g.Mark.absent refl) refl refl)
+    g.Variants.last)))))
+    g.LeftOver.none
+
+pub arrow : Obeys nothing (stream (bytes ARROW)) (6 ∷ 7 ∷ 8 ∷ 9 ∷ 10 ∷ 11 ∷ 11 ∷ 11 ∷ 11 ∷ 11 ∷ 11 ∷ 8 ∷ 14 ∷ 18 ∷ 14 ∷ 0 ∷ [])
+unfolding before at
+arrow =
+    g.Obeys.obeys
+    (g.Item.struct (g.Attributes.none refl) (g.Visibility.none refl) (g.Head.head (g.Word.ident refl) (g.Word.ident refl))
+    (g.Generics.generics refl
+    (g.Parameters.next
+    (g.Parameter.bounded refl refl refl (g.Run.token refl (g.Run.inside refl (g.Run.token refl (g.Run.arrow refl (g.Run.token refl (g.Run.angle refl refl refl)))))))
+    (g.Mark.absent refl) refl refl (g.Parameters.close refl)))
+    (g.Clause.none refl)
+    (g.StructBody.tuple refl
+    (g.TupleFields.next refl (g.TupleField.field (g.Attributes.none refl) (g.Visibility.none refl) (g.Run.token refl (g.Run.ended refl)) refl (g.Mark.absent refl)) g.TupleFields.last)))
+    (g.LeftOver.semicolon refl)

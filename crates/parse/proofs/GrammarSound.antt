@@ -1,221 +1,21 @@
--- What a reader takes, the role grammar admits, with the same roles: for each reader the relation of its production.
+-- What a reader takes, the role grammar admits, with the same roles: generics, bodies and the item.
 use mathlib.Core.Path.{_≡_, refl, ap, _∙_, sym, subst}
-use mathlib.Core.Bool.{Bool, true, false, cond, not, _&&_, _||_, false≢true}
-use mathlib.Core.List.{List, [], _∷_, _++_, append-nil, append-assoc}
-use Prim.Native.Nat.{ℕ, zero, suc, _+_, _-_, _≤_, _<_}
-use lib.Dec.{eqb, leb}
-use lib.ListN.{length, replicate}
-use Rattle.token_list.specs.Text.{same}
-use Rattle.token_list.specs.Row.{Row, first}
+use mathlib.Core.Bool.{Bool, true, false, _||_}
+use mathlib.Core.List.{List, [], _∷_, _++_, append-nil}
+use Prim.Native.Nat.{ℕ, zero, suc, _+_, _-_}
+use lib.Dec.{eqb}
+use lib.ListN.{replicate}
+use Rattle.token_list.specs.Row.{Row}
 use Rattle.token_list.specs.Stream.{Trees, end, leaf, group, size}
-use Rattle.token_list.proofs.Texts.{chosen, passed-over, and-both, and-last, and-fails}
 use Rattle.parse.specs.Role as role
-use Rattle.parse.specs.Token.{isIdent, isLiteral, isPunct, isWord, copied, lone, starts, opens, isGroup, isEnd, negatable, PUB, STRUCT, ENUM, CONST, WHERE, Stops, parameterStops, fieldStops, clauseStops}
+use Rattle.parse.specs.Token.{isIdent, isLiteral, isPunct, isWord, starts, isEnd, negatable, CONST, WHERE, parameterStops, fieldStops, clauseStops}
 use Rattle.parse.specs.Grammar as g
 use Rattle.parse.specs.Grammar.{everything}
 use Rattle.parse.specs.Declaration.{Kind, struct, enum, Parameter, Field, Fields, Value, absent, Variant, Body, Declaration}
-use Rattle.parse.specs.Took.{Took, took, refuse, Reader, onward, after, _>>=_, pure, wrong}
+use Rattle.parse.specs.Took.{Took, took, Reader, onward, after, _>>=_, pure}
 use Rattle.parse.specs.Reading as r
-use Rattle.parse.specs.Reading.{Maybe, done, one, Word, missing, found, Ending, Verdict, belongs, ends, unopened, rounds, every, more}
-
--- what holds of the value, the roles and the rest, where a reader takes
-pub data Meets {A : Type 0} (N : A → List ℕ → Trees → Type 0) : Took A → Type 0 where
-  met : {a : A} (rs : List ℕ) (us : Trees) → N a rs us → Meets N (took a rs us)
-  refused : {n p : ℕ} → Meets N (refuse n p)
-
-pub met-by : {A : Type 0} {N : A → List ℕ → Trees → Type 0} {a : A} {rs : List ℕ} {us : Trees} → Meets N (took a rs us) → N a rs us
-met-by (met rs us h) = h
-
-choice : {A : Type 0} {N : A → List ℕ → Trees → Type 0} {t u : Took A} (b : Bool) → (b ≡ true → Meets N t) → (b ≡ false → Meets N u) → Meets N (cond b t u)
-choice true f k = f refl
-choice false f k = k refl
-
-onward-met : {A : Type 0} {N M : A → List ℕ → Trees → Type 0} {t : Took A} (rs : List ℕ) → Meets N t
-    → ((a : A) (qs : List ℕ) (us : Trees) → N a qs us → M a (rs ++ qs) us) → Meets M (onward rs t)
-onward-met rs (met qs us h) k = met (rs ++ qs) us (k _ qs us h)
-onward-met rs refused k = refused
-
-onward-still : {A : Type 0} {M : A → List ℕ → Trees → Type 0} {t : Took A} (rs : List ℕ) → Meets (λ a qs us. M a (rs ++ qs) us) t → Meets M (onward rs t)
-onward-still rs (met qs us h) = met (rs ++ qs) us h
-onward-still rs refused = refused
-
-after-met : {A B : Type 0} {N : A → List ℕ → Trees → Type 0} {M : B → List ℕ → Trees → Type 0} {t : Took A} {f : A → Reader B} (row : ℕ) → Meets N t
-    → ((a : A) (rs : List ℕ) (us : Trees) → N a rs us → (row : ℕ) → Meets (λ b qs vs. M b (rs ++ qs) vs) (f a row us)) → Meets M (after row t f)
-after-met row (met {a = a} rs us h) k = onward-still rs (k a rs us h (row + length rs))
-after-met row refused k = refused
-
--- ## Runs
-
-module _ (st : Stops) (n depth : ℕ) (q : Row) (us : Trees) where
-  ordinary-by : {k lt gt co z cm : Bool} → eqb (q .kind) 112 ≡ k → eqb (first (q .text)) 60 ≡ lt → eqb (first (q .text)) 62 ≡ gt → eqb (first (q .text)) 44 ≡ co → eqb depth 0 ≡ z → st .comma ≡ cm
-      → g.ordinary st depth q ≡ not (k && lt || k && gt || k && co && (z && cm))
-  ordinary-by a b c d e f = λ i. not (a i && b i || a i && c i || a i && d i && (e i && f i))
-
-  -- a token that is neither `<` nor `>`
-  run-rest : (minus co z cm : Bool) (row : ℕ) (go : ℕ → Bool → Took Ending)
-      → ((e : ℕ) (m : Bool) → Meets (λ x rs vs. g.Run everything st n e m us vs rs) (go e m))
-      → eqb (q .kind) 112 ≡ true → eqb (first (q .text)) 60 ≡ false → eqb (first (q .text)) 62 ≡ false → eqb (first (q .text)) 44 ≡ co → eqb depth 0 ≡ z → st .comma ≡ cm
-      → Meets (λ x rs vs. g.Run everything st n depth minus (leaf q us) vs rs)
-      (r.judged (cond (co && (z && cm)) (ends r.atComma) (belongs depth (eqb (first (q .text)) 45))) (λ e m. onward (n ∷ []) (go e m)) (leaf q us) row)
-  run-rest minus co z cm row go ih a b c d e f = by co z cm d e f
-    where
-      belonging : {co z cm : Bool} → eqb (first (q .text)) 44 ≡ co → eqb depth 0 ≡ z → st .comma ≡ cm → (co && (z && cm)) ≡ false
-          → Meets (λ x rs vs. g.Run everything st n depth minus (leaf q us) vs rs) (onward (n ∷ []) (go depth (eqb (first (q .text)) 45)))
-      belonging d e f x =
-          onward-met (n ∷ []) (ih depth (eqb (first (q .text)) 45))
-          (λ y rs vs t. g.Run.token (ordinary-by a b c d e f ∙ ap not x) (subst (λ (m : Bool). g.Run everything st n depth m us vs rs) (sym (and-last _ _ a)) t))
-
-      by : (co z cm : Bool) → eqb (first (q .text)) 44 ≡ co → eqb depth 0 ≡ z → st .comma ≡ cm → Meets (λ x rs vs. g.Run everything st n depth minus (leaf q us) vs rs)
-          (r.judged (cond (co && (z && cm)) (ends r.atComma) (belongs depth (eqb (first (q .text)) 45))) (λ e m. onward (n ∷ []) (go e m)) (leaf q us) row)
-      by true true true d e f = met [] (leaf q us) (g.Run.comma (and-both _ _ a d) e f)
-      by true true false d e f = belonging d e f refl
-      by true false cm d e f = belonging d e f refl
-      by false z cm d e f = belonging d e f refl
-
-  run-leaf : (minus : Bool) (row : ℕ) (go : ℕ → Bool → Took Ending)
-      → ((e : ℕ) (m : Bool) → Meets (λ x rs vs. g.Run everything st n e m us vs rs) (go e m))
-      → Meets (λ x rs vs. g.Run everything st n depth minus (leaf q us) vs rs) (r.judged (r.judge st depth minus q) (λ e m. onward (n ∷ []) (go e m)) (leaf q us) row)
-  run-leaf minus row go ih =
-      by (eqb (q .kind) 112) minus (eqb (first (q .text)) 60) (eqb (first (q .text)) 62) (eqb (first (q .text)) 44) (eqb depth 0) (st .comma) (st .angle) refl refl refl refl refl refl refl
-    where
-      by : (k minus lt gt co z cm ang : Bool) → eqb (q .kind) 112 ≡ k → eqb (first (q .text)) 60 ≡ lt → eqb (first (q .text)) 62 ≡ gt → eqb (first (q .text)) 44 ≡ co → eqb depth 0 ≡ z → st .comma ≡ cm → st .angle ≡ ang
-          → Meets (λ x rs vs. g.Run everything st n depth minus (leaf q us) vs rs)
-          (r.judged (cond k (cond (minus && gt) (belongs depth false) (cond lt (belongs (depth + 1) false) (cond gt (cond z (cond ang (ends r.atAngle) unopened) (belongs (depth - 1) false)) (cond (co && (z && cm)) (ends r.atComma) (belongs depth (eqb (first (q .text)) 45)))))) (belongs depth false))
-          (λ e m. onward (n ∷ []) (go e m)) (leaf q us) row)
-      by false minus lt gt co z cm ang a b c d e f h = onward-met (n ∷ []) (ih depth false) (λ x rs vs t. g.Run.token (ordinary-by a b c d e f) (subst (λ (m : Bool). g.Run everything st n depth m us vs rs) (sym (and-fails _ _ a)) t))
-      by true true lt true co z cm ang a b c d e f h = onward-met (n ∷ []) (ih depth false) (λ x rs vs t. g.Run.arrow (and-both _ _ a c) t)
-      by true true true false co z cm ang a b c d e f h = onward-met (n ∷ []) (ih (depth + 1) false) (λ x rs vs t. g.Run.deeper (and-both _ _ a b) t)
-      by true true false false co z cm ang a b c d e f h = run-rest true co z cm row go ih a b c d e f
-      by true false true gt co z cm ang a b c d e f h = onward-met (n ∷ []) (ih (depth + 1) false) (λ x rs vs t. g.Run.deeper (and-both _ _ a b) t)
-      by true false false true co true cm true a b c d e f h = met [] (leaf q us) (g.Run.angle (and-both _ _ a c) e h)
-      by true false false true co true cm false a b c d e f h = refused
-      by true false false true co false cm ang a b c d e f h = onward-met (n ∷ []) (ih (depth - 1) false) (λ x rs vs t. g.Run.back (and-both _ _ a c) e t)
-      by true false false false co z cm ang a b c d e f h = run-rest false co z cm row go ih a b c d e f
-
-module _ (st : Stops) (n depth : ℕ) (us : Trees) where
-  run-group : (minus : Bool) (d : ℕ) (ts : Trees) (row : ℕ) (go : ℕ → Bool → Took Ending)
-      → ((e : ℕ) (m : Bool) → Meets (λ x rs vs. g.Run everything st n e m us vs rs) (go e m))
-      → Meets (λ x rs vs. g.Run everything st n depth minus (group d ts us) vs rs) (r.judged (r.judgeGroup st depth d) (λ e m. onward (copied n ts) (go e m)) (group d ts us) row)
-  run-group minus d ts row go ih = by (g.stopping st depth d) refl
-    where
-      by : (b : Bool) → g.stopping st depth d ≡ b → Meets (λ x rs vs. g.Run everything st n depth minus (group d ts us) vs rs)
-          (r.judged (cond b (ends r.atGroup) (belongs depth false)) (λ e m. onward (copied n ts) (go e m)) (group d ts us) row)
-      by true e = met [] (group d ts us) (g.Run.stop e)
-      by false e = onward-met (copied n ts) (ih depth false) (λ x rs vs t. g.Run.inside e t)
-
-pub runFrom-sound : (st : Stops) (n depth : ℕ) (minus : Bool) (row : ℕ) (ts : Trees) → Meets (λ x rs us. g.Run everything st n depth minus ts us rs) (r.runFrom st n depth minus row ts)
-runFrom-sound st n depth minus row end = met [] end (g.Run.ended refl)
-runFrom-sound st n depth minus row (leaf q us) = run-leaf st n depth q us minus row (λ e m. r.runFrom st n e m (row + 1) us) (λ e m. runFrom-sound st n e m (row + 1) us)
-runFrom-sound st n depth minus row (group d ts us) =
-    run-group st n depth us minus d ts row (λ e m. r.runFrom st n e m (row + r.whole ts) us) (λ e m. runFrom-sound st n e m (row + r.whole ts) us)
-
-kept-met : {P : List ℕ → Trees → Type 0} {t : Took Ending} (ts : Trees) → Meets (λ x rs us. P rs us) t → Meets (λ x rs us. P rs us) (r.kept ts t)
-kept-met ts (met rs us h) = met rs us h
-kept-met ts refused = refused
-
-pub run-sound : (st : Stops) (n row : ℕ) (ts : Trees) → Meets (λ x rs us. g.Run everything st n 0 false ts us rs) (r.run st n row ts)
-run-sound st n row ts = kept-met {P = λ rs us. g.Run everything st n 0 false ts us rs} ts (runFrom-sound st n 0 false row ts)
-
--- ## Attributes and visibility
-
-mutual
-  pub attributes-sound : (row : ℕ) (ts : Trees) → Meets (λ x rs us. g.Attributes everything ts us rs) (r.attributes row ts)
-  attributes-sound row end = met [] end (g.Attributes.none refl)
-  attributes-sound row (group d ts us) = met [] (group d ts us) (g.Attributes.none refl)
-  attributes-sound row (leaf q us) = choice (isPunct 35 q) (λ e. marked-sound row q us e) (λ e. met [] (leaf q us) (g.Attributes.none e))
-
-  marked-sound : (row : ℕ) (q : Row) (us : Trees) → isPunct 35 q ≡ true → Meets (λ x rs vs. g.Attributes everything (leaf q us) vs rs) (r.marked row us)
-  marked-sound row q end e = refused
-  marked-sound row q (group d ts us) e =
-      choice (eqb d 91)
-      (λ f. onward-met (role.attribute-mark ∷ copied role.attribute-group ts) (attributes-sound (row + 1 + r.whole ts) us) (λ x rs vs h. g.Attributes.attribute e f h))
-      (λ f. refused)
-  marked-sound row q (leaf p us) e =
-      choice (isPunct 35 p) (λ f. onward-met (role.idle-mark ∷ []) (marked-sound (row + 1) p us f) (λ x rs vs h. g.Attributes.idle refl e f h)) (λ f. refused)
-
-scopeAfter-sound : (row : ℕ) (q : Row) (us : Trees) → isWord PUB q ≡ true → Meets (λ x rs vs. g.Visibility everything (leaf q us) vs (role.visibility ∷ rs)) (r.scopeAfter row us)
-scopeAfter-sound row q end e = met [] end (g.Visibility.plain e refl)
-scopeAfter-sound row q (leaf p us) e = met [] (leaf p us) (g.Visibility.plain e refl)
-scopeAfter-sound row q (group d ts us) e =
-    choice (g.startsScope (group d ts us)) (λ f. met (copied role.scope ts) us (g.Visibility.with-scope e f)) (λ f. met [] (group d ts us) (g.Visibility.plain e f))
-
-anyScope-sound : (row d : ℕ) (ts us : Trees) → lone (isWord PUB) ts ≡ true
-    → Meets (λ x rs vs. g.Visibility everything (group d ts us) vs (copied role.visibility ts ++ rs)) (r.anyScope row us)
-anyScope-sound row d ts end e = met [] end (rw append-nil (g.Visibility.wrapped refl e refl))
-anyScope-sound row d ts (leaf q us) e = met [] (leaf q us) (rw append-nil (g.Visibility.wrapped refl e refl))
-anyScope-sound row d ts (group b vs us) e = met (copied role.scope vs) us (g.Visibility.wrapped-scoped refl refl e)
-
-pub visibility-sound : (row : ℕ) (ts : Trees) → Meets (λ x rs us. g.Visibility everything ts us rs) (r.visibility row ts)
-visibility-sound row end = met [] end (g.Visibility.none refl)
-visibility-sound row (leaf q us) =
-    choice (isWord PUB q) (λ e. onward-still (role.visibility ∷ []) (scopeAfter-sound (row + 1) q us e)) (λ e. met [] (leaf q us) (g.Visibility.none e))
-visibility-sound row (group d ts us) =
-    choice (lone (isWord PUB) ts) (λ e. onward-still (copied role.visibility ts) (anyScope-sound (row + r.whole ts) d ts us e)) (λ e. met [] (group d ts us) (g.Visibility.none e))
-
--- ## Words
-
-data WordRead (n : ℕ) : Trees → Word → List ℕ → Trees → Type 0 where
-  missed : {ts : Trees} → WordRead n ts missing [] ts
-  ident : {q : Row} {us : Trees} {p : ℕ} → isIdent q ≡ true → WordRead n (leaf q us) (found (q .text) p) (n ∷ []) us
-  wrapped : {d p : ℕ} {ts us : Trees} → lone isIdent ts ≡ true → WordRead n (group d ts us) (found (r.textOf ts) p) (copied n ts) us
-
-word-read : (n row : ℕ) (ts : Trees) → Meets (WordRead n ts) (r.word n row ts)
-word-read n row end = met [] end missed
-word-read n row (leaf q us) = choice (isIdent q) (λ e. met (n ∷ []) us (ident e)) (λ e. met [] (leaf q us) missed)
-word-read n row (group d ts us) = choice (lone isIdent ts) (λ e. met (copied n ts) us (wrapped e)) (λ e. met [] (group d ts us) missed)
-
-word-ident : {n p : ℕ} {t : List ℕ} {ts us : Trees} {rs : List ℕ} → WordRead n ts (found t p) rs us → g.Word everything isIdent n ts us rs
-word-ident (ident e) = g.Word.ident e
-word-ident (wrapped e) = g.Word.wrapped refl e
-
-lone-word : (w : List ℕ) (ts : Trees) → lone isIdent ts ≡ true → same (r.textOf ts) w ≡ true → lone (isWord w) ts ≡ true
-lone-word w end e f = absurd (false≢true e)
-lone-word w (group d ts us) e f = absurd (false≢true e)
-lone-word w (leaf q end) e f = and-both _ _ e f
-lone-word w (leaf q (leaf p us)) e f = absurd (false≢true e)
-lone-word w (leaf q (group d ts us)) e f = absurd (false≢true e)
-
-word-word : {n p : ℕ} {t : List ℕ} {ts us : Trees} {rs : List ℕ} (w : List ℕ) → WordRead n ts (found t p) rs us → same t w ≡ true → g.Word everything (isWord w) n ts us rs
-word-word w (ident e) f = g.Word.ident (and-both _ _ e f)
-word-word w (wrapped {ts = ts} e) f = g.Word.wrapped refl (lone-word w ts e f)
-
--- a word that must stand here, and what is read after it
-name-then : {B : Type 0} {M : B → List ℕ → Trees → Type 0} {f : List ℕ → Reader B} (n row : ℕ) (ts : Trees)
-    → ((t rs : List ℕ) (us : Trees) → g.Word everything isIdent n ts us rs → (row : ℕ) → Meets (λ b qs vs. M b (rs ++ qs) vs) (f t row us))
-    → Meets M ((r.word n >>= λ w. r.named! w >>= f) row ts)
-name-then {M = M} {f = f} n row ts k = after-met row (word-read n row ts) go
-  where
-    go : (w : Word) (rs : List ℕ) (us : Trees) → WordRead n ts w rs us → (row : ℕ) → Meets (λ t qs vs. M t (rs ++ qs) vs) ((r.named! w >>= f) row us)
-    go missing rs us h row = refused
-    go (found t p) rs us h row = onward-still [] (k t rs us (word-ident h) (row + 0))
-
-abbrev pub kindWord : Kind → List ℕ
-kindWord struct = STRUCT
-kindWord enum = ENUM
-
-data KindRead (t : List ℕ) (ts : Trees) : Kind → List ℕ → Trees → Type 0 where
-  kind : {k : Kind} → same t (kindWord k) ≡ true → KindRead t ts k [] ts
-
-kindOf-read : (t : List ℕ) (p row : ℕ) (ts : Trees) → Meets (KindRead t ts) (r.kindOf (found t p) row ts)
-kindOf-read t p row ts = go (same t STRUCT) (same t ENUM) refl refl
-  where
-    go : (a b : Bool) → same t STRUCT ≡ a → same t ENUM ≡ b → Meets (KindRead t ts) (cond a (pure struct) (cond b (pure enum) (λ row ts. refuse 25 p)) row ts)
-    go true b e f = met [] ts (kind e)
-    go false true e f = met [] ts (kind f)
-    go false false e f = refused
-
-pub dataType-sound : (row : ℕ) (ts : Trees) → Meets (λ (h : r.Head) rs us. g.Head everything (isWord (kindWord (h .kind))) ts us rs) (r.dataType row ts)
-dataType-sound row ts = after-met row (word-read role.item-word row ts) go
-  where
-    named : (w t : List ℕ) (p : ℕ) (rs : List ℕ) (us : Trees) → WordRead role.item-word ts (found t p) rs us → (k : Kind) (qs : List ℕ) (vs : Trees) → KindRead t us k qs vs → (row : ℕ)
-        → Meets (λ (h : r.Head) ps ws. g.Head everything (isWord (kindWord (h .kind))) ts ws (rs ++ (qs ++ ps))) ((r.word role.item-name >>= λ v. r.named! v >>= λ n. pure (record { kind = k; name = n })) row vs)
-    named w t p rs us h k qs vs (kind e) row =
-        name-then role.item-name row vs (λ n ps ws i row. met [] ws (rw append-nil (g.Head.head (word-word (kindWord k) h e) i)))
-
-    go : (w : Word) (rs : List ℕ) (us : Trees) → WordRead role.item-word ts w rs us → (row : ℕ)
-        → Meets (λ (h : r.Head) qs vs. g.Head everything (isWord (kindWord (h .kind))) ts vs (rs ++ qs)) ((r.kindOf w >>= λ k. r.word role.item-name >>= λ v. r.named! v >>= λ n. pure (record { kind = k; name = n })) row us)
-    go missing rs us h row = refused
-    go (found t p) rs us h row = after-met row (kindOf-read t p row us) (named t t p rs us h)
+use Rattle.parse.specs.Reading.{Maybe, done, one, Word, rounds, every, more}
+use Rattle.parse.proofs.SoundTokens.{Meets, met, refused, met-by, choice, onward-met, onward-still, after-met, run-sound, attributes-sound, visibility-sound, name-then, kindWord, dataType-sound}
 
 -- ## Marks and generics
 
@@ -227,7 +27,8 @@ punctIf-sound b row (group d ts us) = met [] (group d ts us) (g.Mark.absent refl
 -- a mark that may stand, with its run
 pub data Marked (b : ℕ) : Trees → List ℕ → Trees → Type 0 where
   none : {ts : Trees} → starts (isPunct b) ts ≡ false → Marked b ts [] ts
-  some : {c : Row} {us vs : Trees} {rs : List ℕ} → isPunct b c ≡ true → g.Run everything parameterStops role.bound 0 false us vs rs → Marked b (leaf c us) (role.separator ∷ rs) vs
+  some : {c : Row} {us vs : Trees} {rs : List ℕ} → isPunct b c ≡ true → g.Run everything parameterStops role.bound 0 false us vs rs
+      → Marked b (leaf c us) (role.separator ∷ rs) vs
 
 weaken : {A : Type 0} {N M : A → List ℕ → Trees → Type 0} {t : Took A} → Meets N t → ((a : A) (rs : List ℕ) (us : Trees) → N a rs us → M a rs us) → Meets M t
 weaken (met rs us h) k = met rs us (k _ rs us h)
@@ -236,7 +37,8 @@ weaken refused k = refused
 marked-run-sound : (b row : ℕ) (ts : Trees) → Meets (λ x rs us. Marked b ts rs us) (r.marked-run b row ts)
 marked-run-sound b row ts = after-met row (punctIf-sound b row ts) go
   where
-    go : {ts : Trees} (t : Bool) (rs : List ℕ) (us : Trees) → g.Mark everything b t ts us rs → (row : ℕ) → Meets (λ x qs vs. Marked b ts (rs ++ qs) vs) (r.runIf t parameterStops role.bound row us)
+    go : {ts : Trees} (t : Bool) (rs : List ℕ) (us : Trees) → g.Mark everything b t ts us rs → (row : ℕ)
+        → Meets (λ x qs vs. Marked b ts (rs ++ qs) vs) (r.runIf t parameterStops role.bound row us)
     go true rs us (g.Mark.present e) row = weaken (run-sound parameterStops role.bound row us) (λ x qs vs h. some e h)
     go false rs us (g.Mark.absent e) row = met [] us (none e)
 
@@ -248,7 +50,8 @@ bound-of (some e h) = g.Bound.bound e h
 data Commaed {A : Type 0} (P : List ℕ → Trees → Type 0) : Maybe A → List ℕ → Trees → Type 0 where
   commaed : {t : Bool} {a : A} {us vs : Trees} {rs cs : List ℕ} → P rs us → g.Mark everything 44 t us vs cs → Commaed P (one a) (rs ++ cs) vs
 
-comma-sound : {A : Type 0} (P : List ℕ → Trees → Type 0) (a : A) (rs : List ℕ) (us : Trees) → P rs us → (row : ℕ) → Meets (λ m qs vs. Commaed P m (rs ++ qs) vs) (r.comma a row us)
+comma-sound : {A : Type 0} (P : List ℕ → Trees → Type 0) (a : A) (rs : List ℕ) (us : Trees) → P rs us → (row : ℕ)
+    → Meets (λ m qs vs. Commaed P m (rs ++ qs) vs) (r.comma a row us)
 comma-sound P a rs us h row = after-met row (punctIf-sound 44 row us) (λ t cs vs m row. met [] vs (rw append-nil (commaed h m)))
 
 data ParameterName : Trees → List ℕ → Trees → Type 0 where
@@ -266,14 +69,17 @@ module _ (q : Row) where
   lifetime-sound : (quote row : ℕ) (us : Trees) → isPunct 39 q ≡ true → Meets (λ x rs vs. Named us rs vs) (r.lifetimeAfter quote row us)
   lifetime-sound quote row us e = after-met row (parameterName-sound 24 quote row us) go
     where
-      go : {us : Trees} (n rs : List ℕ) (vs : Trees) → ParameterName us rs vs → (row : ℕ) → Meets (λ x qs ws. Named us (rs ++ qs) ws) ((r.marked-run 58 >>= λ b. pure (Parameter.lifetime n b)) row vs)
+      go : {us : Trees} (n rs : List ℕ) (vs : Trees) → ParameterName us rs vs → (row : ℕ)
+          → Meets (λ x qs ws. Named us (rs ++ qs) ws) ((r.marked-run 58 >>= λ b. pure (Parameter.lifetime n b)) row vs)
       go n rs vs (name f) row = after-met row (marked-run-sound 58 row vs) (λ b qs ws h row. met [] ws (rw append-nil (g.Parameter.lifetime e f (bound-of h))))
 
   constant-sound : (row : ℕ) (us : Trees) → isWord CONST q ≡ true → Meets (λ x rs vs. Named us rs vs) (r.constantAfter row us)
   constant-sound row us e = after-met row (parameterName-sound 27 65535 row us) go
     where
-      go : {us : Trees} (n rs : List ℕ) (vs : Trees) → ParameterName us rs vs → (row : ℕ) → Meets (λ x qs ws. Named us (rs ++ qs) ws) ((r.marked-run 58 >>= λ b. pure (Parameter.constant n b)) row vs)
-      go n rs vs (name f) row = after-met row (marked-run-sound 58 row vs) (λ b qs ws h row. met [] ws (rw append-nil (g.Parameter.constant e f (bound-of h) refl)))
+      go : {us : Trees} (n rs : List ℕ) (vs : Trees) → ParameterName us rs vs → (row : ℕ)
+          → Meets (λ x qs ws. Named us (rs ++ qs) ws) ((r.marked-run 58 >>= λ b. pure (Parameter.constant n b)) row vs)
+      go n rs vs (name f) row =
+          after-met row (marked-run-sound 58 row vs) (λ b qs ws h row. met [] ws (rw append-nil (g.Parameter.constant e f (bound-of h) refl)))
 
   type-sound : (row : ℕ) (us : Trees) (n : List ℕ) → isWord CONST q ≡ false → isIdent q ≡ true → Meets (λ x rs vs. Named us rs vs) (r.typeAfter n row us)
   type-sound row us n e f = after-met row (punctIf-sound 58 row us) go
@@ -282,12 +88,15 @@ module _ (q : Row) where
       default a rs vs (none b) = g.Parameter.plain e f a b
       default a rs vs (some b h) = g.Parameter.defaulted e f b h refl
 
-      go : {us : Trees} (t : Bool) (rs : List ℕ) (vs : Trees) → g.Mark everything 58 t us vs rs → (row : ℕ) → Meets (λ x qs ws. Named us (rs ++ qs) ws) (r.typeRuns n t row vs)
-      go true rs vs (g.Mark.present a) row = after-met row (run-sound parameterStops role.bound row vs) (λ x qs ws h row. met [] ws (rw append-nil (g.Parameter.bounded e f a h)))
+      go : {us : Trees} (t : Bool) (rs : List ℕ) (vs : Trees) → g.Mark everything 58 t us vs rs → (row : ℕ)
+          → Meets (λ x qs ws. Named us (rs ++ qs) ws) (r.typeRuns n t row vs)
+      go true rs vs (g.Mark.present a) row =
+          after-met row (run-sound parameterStops role.bound row vs) (λ x qs ws h row. met [] ws (rw append-nil (g.Parameter.bounded e f a h)))
       go false rs vs (g.Mark.absent a) row = after-met row (marked-run-sound 61 row vs) (λ x qs ws h row. met [] ws (rw append-nil (default a qs ws h)))
 
 data ParameterRead : Trees → Maybe Parameter → List ℕ → Trees → Type 0 where
-  another : {t : Bool} {a : Parameter} {ts us vs : Trees} {ps cs : List ℕ} → g.Parameter everything ts us ps → g.Mark everything 44 t us vs cs → ParameterRead ts (one a) (ps ++ cs) vs
+  another : {t : Bool} {a : Parameter} {ts us vs : Trees} {ps cs : List ℕ} → g.Parameter everything ts us ps → g.Mark everything 44 t us vs cs
+      → ParameterRead ts (one a) (ps ++ cs) vs
   last : {q : Row} {us : Trees} → isPunct 62 q ≡ true → ParameterRead (leaf q us) done (role.angle ∷ []) us
 
 parameter-read : (angle row : ℕ) (ts : Trees) → Meets (ParameterRead ts) (r.parameter angle row ts)
@@ -328,7 +137,8 @@ parameters-sound angle = every-sound (r.parameter angle) ParameterRead (λ ts rs
     final : (ts : Trees) (rs : List ℕ) (us : Trees) → ParameterRead ts done rs us → g.Parameters everything ts us rs
     final ts rs us (last e) = g.Parameters.close e
 
-    following : (ts us vs : Trees) (a : Parameter) (rs qs : List ℕ) → ParameterRead ts (one a) rs us → g.Parameters everything us vs qs → g.Parameters everything ts vs (rs ++ qs)
+    following : (ts us vs : Trees) (a : Parameter) (rs qs : List ℕ) → ParameterRead ts (one a) rs us → g.Parameters everything us vs qs
+        → g.Parameters everything ts vs (rs ++ qs)
     following ts us vs a rs qs (another h m) k = g.Parameters.next h m refl refl k
 
 pub generics-sound : (row : ℕ) (ts : Trees) → Meets (λ x rs us. g.Generics everything ts us rs) (r.generics row ts)
@@ -363,10 +173,12 @@ module _ (ts us : Trees) (ks : List ℕ) (h : g.Attributes everything ts us ks) 
           (λ f qs xs j row. after-met row (punctIf-sound 44 row xs) (λ t cs ys m row. met [] ys (rw append-nil (another (g.NamedField.field h i e c j refl m))))))
       go i false rs ws m row = refused
 
-  fieldStart-read : (bs : List ℕ) (vs : Trees) → g.Visibility everything us vs bs → (row : ℕ) → Meets (λ m qs ws. FieldRead ts m (ks ++ (bs ++ qs)) ws) (r.fieldStart row vs)
+  fieldStart-read : (bs : List ℕ) (vs : Trees) → g.Visibility everything us vs bs → (row : ℕ)
+      → Meets (λ m qs ws. FieldRead ts m (ks ++ (bs ++ qs)) ws) (r.fieldStart row vs)
   fieldStart-read bs end i row = met {a = done} [] end (rw append-nil (last h i))
   fieldStart-read bs (group d vs ws) i row = refused
-  fieldStart-read bs (leaf q vs) i row = choice (isIdent q) (λ e. onward-still (role.field-name ∷ []) (fieldAfter-read bs q vs i e (q .text) (row + 1))) (λ e. refused)
+  fieldStart-read bs (leaf q vs) i row =
+      choice (isIdent q) (λ e. onward-still (role.field-name ∷ []) (fieldAfter-read bs q vs i e (q .text) (row + 1))) (λ e. refused)
 
 namedField-read : (row : ℕ) (ts : Trees) → Meets (FieldRead ts) (r.namedField row ts)
 namedField-read row ts =
@@ -378,7 +190,8 @@ namedFields-sound = every-sound r.namedField FieldRead (λ ts rs us. g.NamedFiel
     final : (ts : Trees) (rs : List ℕ) (us : Trees) → FieldRead ts done rs us → g.NamedFields everything ts rs
     final ts rs us (last h i) = g.NamedFields.last h i refl
 
-    following : (ts us vs : Trees) (a : Field) (rs qs : List ℕ) → FieldRead ts (one a) rs us → g.NamedFields everything us qs → g.NamedFields everything ts (rs ++ qs)
+    following : (ts us vs : Trees) (a : Field) (rs qs : List ℕ) → FieldRead ts (one a) rs us → g.NamedFields everything us qs
+        → g.NamedFields everything ts (rs ++ qs)
     following ts us vs a rs qs (another h) k = g.NamedFields.next h k
 
 data TypeRead : Trees → Maybe Trees → List ℕ → Trees → Type 0 where
@@ -408,7 +221,8 @@ tupleFields-sound = every-sound r.tupleField TypeRead (λ ts rs us. g.TupleField
 
 -- ## Variants and bodies
 
-pure-met : {A B : Type 0} {P : List ℕ → Trees → Type 0} {t : Took A} (row : ℕ) (f : A → B) → Meets (λ x rs us. P rs us) t → Meets (λ x rs us. P rs us) (after row t (λ a. pure (f a)))
+pure-met : {A B : Type 0} {P : List ℕ → Trees → Type 0} {t : Took A} (row : ℕ) (f : A → B) → Meets (λ x rs us. P rs us) t
+    → Meets (λ x rs us. P rs us) (after row t (λ a. pure (f a)))
 pure-met row f (met rs us h) = met (rs ++ []) us (rw append-nil h)
 pure-met row f refused = refused
 
@@ -445,7 +259,8 @@ negativeValue-read e m a b row (group d ts us) = refused
 negativeValue-read e m a b row (leaf q us) =
     choice (isLiteral q) (λ c. choice (negatable (q .text)) (λ d. met (role.value ∷ []) us (some (g.Value.negative a b c d))) (λ d. refused)) (λ c. refused)
 
-discriminant-read : (e : Row) → isPunct 61 e ≡ true → (row : ℕ) (ts : Trees) → Meets (λ v rs us. ValueRead (leaf e ts) v (role.separator ∷ rs) us) (r.discriminant row ts)
+discriminant-read : (e : Row) → isPunct 61 e ≡ true → (row : ℕ) (ts : Trees)
+    → Meets (λ v rs us. ValueRead (leaf e ts) v (role.separator ∷ rs) us) (r.discriminant row ts)
 discriminant-read e a row end = refused
 discriminant-read e a row (group d ts us) = refused
 discriminant-read e a row (leaf q us) =
@@ -467,8 +282,10 @@ parted : {t : Bool} {ws xs : Trees} {cs : List ℕ} → g.Mark everything 44 t w
 parted (g.Mark.present e) p = refl
 parted (g.Mark.absent {ts = ts} e) p = sym (ap (λ (b : Bool). b || isEnd ts) e) ∙ p
 
-variant-of : {t : Bool} {v : Value} {ts us vs ws xs ys : Trees} {ks bs fs es cs : List ℕ} → g.Attributes everything ts us ks → g.Word everything isIdent role.variant-name us vs bs
-    → g.VariantFields everything vs ws fs → ValueRead ws v es xs → g.Mark everything 44 t xs ys cs → g.Variant everything ts ys (ks ++ (bs ++ (fs ++ (es ++ cs))))
+variant-of : {t : Bool} {v : Value} {ts us vs ws xs ys : Trees} {ks bs fs es cs : List ℕ} → g.Attributes everything ts us ks
+    → g.Word everything isIdent role.variant-name us vs bs
+    → g.VariantFields everything vs ws fs → ValueRead ws v es xs → g.Mark everything 44 t xs ys cs
+    → g.Variant everything ts ys (ks ++ (bs ++ (fs ++ (es ++ cs))))
 variant-of h i j (none p) m = g.Variant.plain h i j m (parted m p)
 variant-of h i j (some k) m = g.Variant.valued h i j k m refl refl
 
@@ -491,7 +308,8 @@ variants-sound = every-sound r.variant VariantRead (λ ts rs us. g.Variants ever
     final : (ts : Trees) (rs : List ℕ) (us : Trees) → VariantRead ts done rs us → g.Variants everything ts rs
     final ts rs us last = g.Variants.last
 
-    following : (ts us vs : Trees) (a : Variant) (rs qs : List ℕ) → VariantRead ts (one a) rs us → g.Variants everything us qs → g.Variants everything ts (rs ++ qs)
+    following : (ts us vs : Trees) (a : Variant) (rs qs : List ℕ) → VariantRead ts (one a) rs us → g.Variants everything us qs
+        → g.Variants everything ts (rs ++ qs)
     following ts us vs a rs qs (another e h) k = g.Variants.next e h k
 
 -- a body, and for a struct whether it is a tuple's
@@ -524,7 +342,8 @@ bodyOf-sound enum = enumBody-sound
 
 -- ## The item
 
-item-of : {ts₀ ts₁ ts₂ ts₃ ts₄ ts₅ ts₆ : Trees} {ks bs cs ds es fs : List ℕ} (k : Kind) → g.Attributes everything ts₀ ts₁ ks → g.Visibility everything ts₁ ts₂ bs
+item-of : {ts₀ ts₁ ts₂ ts₃ ts₄ ts₅ ts₆ : Trees} {ks bs cs ds es fs : List ℕ} (k : Kind) → g.Attributes everything ts₀ ts₁ ks
+    → g.Visibility everything ts₁ ts₂ bs
     → g.Head everything (isWord (kindWord k)) ts₂ ts₃ cs → g.Generics everything ts₃ ts₄ ds → g.Clause everything ts₄ ts₅ es → BodyRead k ts₅ ts₆ fs
     → (tuple : Bool) × g.Item everything tuple ts₀ ts₆ (ks ++ (bs ++ (cs ++ (ds ++ (es ++ fs)))))
 item-of struct a b c d e (ofStruct {tuple = tuple} f) = (tuple, g.Item.struct a b c d e f)
@@ -540,5 +359,7 @@ item-sound row ts =
     (λ w es ts₅ e row. after-met row (bodyOf-sound (h .kind) row ts₅) (λ z fs ts₆ f row. met [] ts₆ (rw append-nil (item-of (h .kind) a b c d e f))))))))
 
 -- what the reader of declarations takes obeys, with the rows after it left over
-pub obeys-sound : {ts us : Trees} {d : Declaration} {rs : List ℕ} → r.item 0 ts ≡ took d rs us → g.Obeys everything ts (rs ++ replicate (size us) role.left-over)
-obeys-sound {ts} {us} e = let i = met-by (subst (Meets (λ x rs us. (tuple : Bool) × g.Item everything tuple ts us rs)) e (item-sound 0 ts)) in g.Obeys.obeys (i .1) (g.LeftOver.rows refl)
+pub obeys-sound : {ts us : Trees} {d : Declaration} {rs : List ℕ} → r.item 0 ts ≡ took d rs us
+    → g.Obeys everything ts (rs ++ replicate (size us) role.left-over)
+obeys-sound {ts} {us} e =
+    let i = met-by (subst (Meets (λ x rs us. (tuple : Bool) × g.Item everything tuple ts us rs)) e (item-sound 0 ts)) in g.Obeys.obeys (i .1) (g.LeftOver.rows refl)

@@ -62,7 +62,8 @@ module _ (s : List ℕ) where
           cleared = λ f. refl;
         }
 
-    accepting : (k : ℕ) (d : Declaration) (rs : List ℕ) → list.check s ≡ list.Answer.passed k → k ≤ n → Assignment s rs → SingleAssignment s n (accepts (declared d rs)) (buffer n (declared d rs))
+    accepting : (k : ℕ) (d : Declaration) (rs : List ℕ) → list.check s ≡ list.Answer.passed k → k ≤ n → Assignment s rs
+        → SingleAssignment s n (accepts (declared d rs)) (buffer n (declared d rs))
     accepting k d rs e l o =
         let c = one-each k e rs o in
         let p = passed-list s k e in
@@ -75,7 +76,8 @@ module _ (s : List ℕ) where
           cleared = λ f. absurd (true≢false f);
         }
 
-    by-item : (k : ℕ) → list.check s ≡ list.Answer.passed k → k ≤ n → (t : Took Declaration) → item 0 (stream s) ≡ t → SingleAssignment s n (accepts (itemAnswer t)) (buffer n (itemAnswer t))
+    by-item : (k : ℕ) → list.check s ≡ list.Answer.passed k → k ≤ n → (t : Took Declaration) → item 0 (stream s) ≡ t
+        → SingleAssignment s n (accepts (itemAnswer t)) (buffer n (itemAnswer t))
     by-item k e l (took d rs us) i = accepting k d (rs ++ replicate (size us) role.left-over) e l (obeys-sound i)
     by-item k e l (refuse m p) i = refusing m p (λ j f g roles o. let a = obeys-complete o in never (sym (a .reading) ∙ i))
 
@@ -92,3 +94,7 @@ module _ (s : List ℕ) where
     pub promise : SingleAssignment s n (accepts (answer s n)) (buffer n (answer s n))
     unfolding answer
     promise = by-check (list.check s) refl
+
+    -- the same, of a Bool and bytes that are equal to these
+    pub promise-of : (accepted : Bool) (after : List ℕ) → accepted ≡ accepts (answer s n) → after ≡ buffer n (answer s n) → SingleAssignment s n accepted after
+    promise-of accepted after e f = rw (e, f) promise

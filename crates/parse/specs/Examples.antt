@@ -36,10 +36,18 @@ abbrev pub allAgree : List Example → Bool
 allAgree [] = true
 allAgree (e ∷ es) = agrees (e .expected) (answer (bytes (e .list)) 64) && allAgree es
 
+-- the listing's example
+abbrev pub VALVE : String
+VALVE = "kind text\ni pub\ni enum\ni Valve\no {\ni Main\np =\nl 14\np ,\ni Block\no (\ni u8\nc )\np ,\ni Drain\np =\np -\nl 2\nc }\n"
+
+-- an arrow in a bound
+abbrev pub ARROW : String
+ARROW = "kind text\ni struct\ni A\np <\ni F\np :\ni Fn\no (\nc )\np -\np >\ni u8\np >\no (\ni F\nc )\np ;\n"
+
 abbrev pub examples : List Example
 examples =
     -- the listing's example
-    record { list = "kind text\ni pub\ni enum\ni Valve\no {\ni Main\np =\nl 14\np ,\ni Block\no (\ni u8\nc )\np ,\ni Drain\np =\np -\nl 2\nc }\n"; expected = roles (4 ∷ 6 ∷ 7 ∷ 14 ∷ 15 ∷ 10 ∷ 16 ∷ 10 ∷ 15 ∷ 14 ∷ 18 ∷ 14 ∷ 10 ∷ 15 ∷ 10 ∷ 16 ∷ 16 ∷ 14 ∷ []) }
+    record { list = VALVE; expected = roles (4 ∷ 6 ∷ 7 ∷ 14 ∷ 15 ∷ 10 ∷ 16 ∷ 10 ∷ 15 ∷ 14 ∷ 18 ∷ 14 ∷ 10 ∷ 15 ∷ 10 ∷ 16 ∷ 16 ∷ 14 ∷ []) }
     -- no rows
     ∷ record { list = "kind text\n"; expected = refused 11 END }
     -- no bytes
@@ -47,7 +55,7 @@ examples =
     -- `struct A ;`
     ∷ record { list = "kind text\ni struct\ni A\np ;\n"; expected = roles (6 ∷ 7 ∷ 14 ∷ []) }
     -- `struct A < F : Fn ( ) - > u8 > ( F ) ;`
-    ∷ record { list = "kind text\ni struct\ni A\np <\ni F\np :\ni Fn\no (\nc )\np -\np >\ni u8\np >\no (\ni F\nc )\np ;\n"; expected = roles (6 ∷ 7 ∷ 8 ∷ 9 ∷ 10 ∷ 11 ∷ 11 ∷ 11 ∷ 11 ∷ 11 ∷ 11 ∷ 8 ∷ 14 ∷ 18 ∷ 14 ∷ 0 ∷ []) }
+    ∷ record { list = ARROW; expected = roles (6 ∷ 7 ∷ 8 ∷ 9 ∷ 10 ∷ 11 ∷ 11 ∷ 11 ∷ 11 ∷ 11 ∷ 11 ∷ 8 ∷ 14 ∷ 18 ∷ 14 ∷ 0 ∷ []) }
     -- `enum E { A = 1 B = 2 }`
     ∷ record { list = "kind text\ni enum\ni E\no {\ni A\np =\nl 1\ni B\np =\nl 2\nc }\n"; expected = accepted }
     -- `enum E { A B }`

@@ -1,5 +1,6 @@
 -- The role grammar (document 01, "Runs" and "Role grammar") as relations, one for each production, written without the reading.
 -- `N ts us rs` says: an N stands first in the stream ts, us is what is left after it, and rs are the roles of the rows between.
+-- What is optional and can stand is taken: each `none` and `absent` says of the rows that it cannot stand there.
 -- Productions are those of the Rust Reference 1.63. Bytes: `#` 35, `'` 39, `(` 40, `,` 44, `-` 45, `:` 58, `;` 59, `<` 60,
 -- `=` 61, `>` 62, `[` 91, `{` 123.
 use mathlib.Core.Path.{_≡_}
@@ -67,21 +68,31 @@ module _ (allowed : Difference → Bool) where
 
   pub data Run (st : Stops) (r : ℕ) : ℕ → Bool → Trees → Trees → List ℕ → Type 0 where
     -- 1. `>` directly after a `-` of the same run is ordinary
-    arrow : {depth : ℕ} {q : Row} {us vs : Trees} {rs : List ℕ} → isPunct 62 q ≡ true → Run st r depth false us vs rs → Run st r depth true (leaf q us) vs (r ∷ rs)
+    arrow : {depth : ℕ} {q : Row} {us vs : Trees} {rs : List ℕ}
+        → isPunct 62 q ≡ true → Run st r depth false us vs rs → Run st r depth true (leaf q us) vs (r ∷ rs)
     -- 2. `<` adds one to the depth
-    deeper : {depth : ℕ} {minus : Bool} {q : Row} {us vs : Trees} {rs : List ℕ} → isPunct 60 q ≡ true → Run st r (depth + 1) false us vs rs → Run st r depth minus (leaf q us) vs (r ∷ rs)
+    deeper : {depth : ℕ} {minus : Bool} {q : Row} {us vs : Trees} {rs : List ℕ}
+        → isPunct 60 q ≡ true → Run st r (depth + 1) false us vs rs → Run st r depth minus (leaf q us) vs (r ∷ rs)
     -- 3. other `>`: above depth 0, subtract one
-    back : {depth : ℕ} {q : Row} {us vs : Trees} {rs : List ℕ} → isPunct 62 q ≡ true → eqb depth 0 ≡ false → Run st r (depth - 1) false us vs rs → Run st r depth false (leaf q us) vs (r ∷ rs)
+    back : {depth : ℕ} {q : Row} {us vs : Trees} {rs : List ℕ}
+        → isPunct 62 q ≡ true → eqb depth 0 ≡ false → Run st r (depth - 1) false us vs rs
+        → Run st r depth false (leaf q us) vs (r ∷ rs)
     -- 3. at 0, the run ends before it if `>` is a stop
-    angle : {depth : ℕ} {q : Row} {us : Trees} → isPunct 62 q ≡ true → eqb depth 0 ≡ true → st .angle ≡ true → Run st r depth false (leaf q us) (leaf q us) []
+    angle : {depth : ℕ} {q : Row} {us : Trees}
+        → isPunct 62 q ≡ true → eqb depth 0 ≡ true → st .angle ≡ true → Run st r depth false (leaf q us) (leaf q us) []
     -- 4. another stop punctuation at depth 0 ends the run before it
-    comma : {depth : ℕ} {minus : Bool} {q : Row} {us : Trees} → isPunct 44 q ≡ true → eqb depth 0 ≡ true → st .comma ≡ true → Run st r depth minus (leaf q us) (leaf q us) []
+    comma : {depth : ℕ} {minus : Bool} {q : Row} {us : Trees}
+        → isPunct 44 q ≡ true → eqb depth 0 ≡ true → st .comma ≡ true → Run st r depth minus (leaf q us) (leaf q us) []
     -- 5. at depth 0, a brace or parenthesis group ends the run if `{` or `(` is a stop
-    stop : {depth : ℕ} {minus : Bool} {d : ℕ} {ts us : Trees} → stopping st depth d ≡ true → Run st r depth minus (group d ts us) (group d ts us) []
+    stop : {depth : ℕ} {minus : Bool} {d : ℕ} {ts us : Trees}
+        → stopping st depth d ≡ true → Run st r depth minus (group d ts us) (group d ts us) []
     -- 6. everything else belongs: a token
-    token : {depth : ℕ} {minus : Bool} {q : Row} {us vs : Trees} {rs : List ℕ} → ordinary st depth q ≡ true → Run st r depth (isPunct 45 q) us vs rs → Run st r depth minus (leaf q us) vs (r ∷ rs)
+    token : {depth : ℕ} {minus : Bool} {q : Row} {us vs : Trees} {rs : List ℕ}
+        → ordinary st depth q ≡ true → Run st r depth (isPunct 45 q) us vs rs → Run st r depth minus (leaf q us) vs (r ∷ rs)
     -- 6. or a group
-    inside : {depth : ℕ} {minus : Bool} {d : ℕ} {ts us vs : Trees} {rs : List ℕ} → stopping st depth d ≡ false → Run st r depth false us vs rs → Run st r depth minus (group d ts us) vs (copied r ts ++ rs)
+    inside : {depth : ℕ} {minus : Bool} {d : ℕ} {ts us vs : Trees} {rs : List ℕ}
+        → stopping st depth d ≡ false → Run st r depth false us vs rs
+        → Run st r depth minus (group d ts us) vs (copied r ts ++ rs)
     -- 6. the stream's end ends the run, at any depth
     ended : {depth : ℕ} {minus : Bool} → Unless open-angle (eqb depth 0) → Run st r depth minus end end []
 
@@ -89,7 +100,8 @@ module _ (allowed : Difference → Bool) where
 
   pub data Word (is : Row → Bool) (r : ℕ) : Trees → Trees → List ℕ → Type 0 where
     ident : {q : Row} {us : Trees} → is q ≡ true → Word is r (leaf q us) us (r ∷ [])
-    wrapped : {d : ℕ} {ts us : Trees} → allowed one-word-group ≡ true → lone is ts ≡ true → Word is r (group d ts us) us (copied r ts)
+    wrapped : {d : ℕ} {ts us : Trees}
+        → allowed one-word-group ≡ true → lone is ts ≡ true → Word is r (group d ts us) us (copied r ts)
 
   -- ## Attributes: as many as stand there. OuterAttribute*
 
@@ -110,7 +122,8 @@ module _ (allowed : Difference → Bool) where
   pub data Visibility : Trees → Trees → List ℕ → Type 0 where
     none : {ts : Trees} → startsVisibility ts ≡ false → Visibility ts ts []
     -- an `i` row `pub`
-    plain : {q : Row} {us : Trees} → isWord PUB q ≡ true → startsScope us ≡ false → Visibility (leaf q us) us (role.visibility ∷ [])
+    plain : {q : Row} {us : Trees}
+        → isWord PUB q ≡ true → startsScope us ≡ false → Visibility (leaf q us) us (role.visibility ∷ [])
     -- then, if a parenthesis group whose first token is an `i` row `crate`, `self`, `super` or `in` follows, that group
     with-scope : {q : Row} {d : ℕ} {ts us : Trees} → isWord PUB q ≡ true → startsScope (group d ts us) ≡ true
         → Visibility (leaf q (group d ts us)) us (role.visibility ∷ copied role.scope ts)
@@ -118,7 +131,8 @@ module _ (allowed : Difference → Bool) where
     wrapped : {d : ℕ} {ts us : Trees} → allowed wrapped-pub ≡ true → lone (isWord PUB) ts ≡ true → isGroup us ≡ false
         → Visibility (group d ts us) us (copied role.visibility ts)
     -- then any group that follows
-    wrapped-scoped : {d e : ℕ} {ts us vs : Trees} → allowed wrapped-pub ≡ true → allowed any-scope ≡ true → lone (isWord PUB) ts ≡ true
+    wrapped-scoped : {d e : ℕ} {ts us vs : Trees}
+        → allowed wrapped-pub ≡ true → allowed any-scope ≡ true → lone (isWord PUB) ts ≡ true
         → Visibility (group d ts (group e us vs)) vs (copied role.visibility ts ++ copied role.scope us)
 
   -- ## A `,`, `:` or `=` that may stand: whether it does
@@ -132,7 +146,8 @@ module _ (allowed : Difference → Bool) where
   -- optional `:` and run
   pub data Bound : Trees → Trees → List ℕ → Type 0 where
     none : {ts : Trees} → starts (isPunct 58) ts ≡ false → Bound ts ts []
-    bound : {c : Row} {us vs : Trees} {rs : List ℕ} → isPunct 58 c ≡ true → Run parameterStops role.bound 0 false us vs rs → Bound (leaf c us) vs (role.separator ∷ rs)
+    bound : {c : Row} {us vs : Trees} {rs : List ℕ}
+        → isPunct 58 c ≡ true → Run parameterStops role.bound 0 false us vs rs → Bound (leaf c us) vs (role.separator ∷ rs)
 
   pub data Parameter : Trees → Trees → List ℕ → Type 0 where
     -- `'` and an `i` row with optional `:` and run. LifetimeParam
@@ -168,9 +183,10 @@ module _ (allowed : Difference → Bool) where
 
   pub data Generics : Trees → Trees → List ℕ → Type 0 where
     none : {ts : Trees} → starts (isPunct 60) ts ≡ false → Generics ts ts []
-    generics : {q : Row} {us vs : Trees} {rs : List ℕ} → isPunct 60 q ≡ true → Parameters us vs rs → Generics (leaf q us) vs (role.angle ∷ rs)
+    generics : {q : Row} {us vs : Trees} {rs : List ℕ}
+        → isPunct 60 q ≡ true → Parameters us vs rs → Generics (leaf q us) vs (role.angle ∷ rs)
 
-  -- ## `where`, then a run with stops `{` and `(`. WhereClause, which a `(` group does not end
+  -- ## `where`, then a run with stops `{` and `(`. WhereClause, which goes on to the `{` of the body
 
   pub data Clause : Trees → Trees → List ℕ → Type 0 where
     none : {ts : Trees} → starts (isWord WHERE) ts ≡ false → Clause ts ts []
@@ -189,33 +205,40 @@ module _ (allowed : Difference → Bool) where
   -- StructFields, to the end of their group
   pub data NamedFields : Trees → List ℕ → Type 0 where
     -- attributes and visibility may stand alone at the end; they belong to no field
-    last : {ts us : Trees} {ks bs : List ℕ} → Attributes ts us ks → Visibility us end bs → Unless lone-field-start (isEnd ts) → NamedFields ts (ks ++ bs)
+    last : {ts us : Trees} {ks bs : List ℕ}
+        → Attributes ts us ks → Visibility us end bs → Unless lone-field-start (isEnd ts) → NamedFields ts (ks ++ bs)
     next : {ts us : Trees} {rs qs : List ℕ} → NamedField ts us rs → NamedFields us qs → NamedFields ts (rs ++ qs)
 
   -- ## Types. TupleField: attributes, visibility, type run, optional `,`
 
   pub data TupleField : Trees → Trees → List ℕ → Type 0 where
     field : {comma : Bool} {ts us vs ws xs : Trees} {ks bs rs cs : List ℕ}
-        → Attributes ts us ks → Visibility us vs bs → Run fieldStops role.type 0 false vs ws rs → Unless empty-type (filled rs) → Mark 44 comma ws xs cs
+        → Attributes ts us ks → Visibility us vs bs
+        → Run fieldStops role.type 0 false vs ws rs → Unless empty-type (filled rs) → Mark 44 comma ws xs cs
         → TupleField ts xs (ks ++ (bs ++ (rs ++ cs)))
 
   -- TupleFields, to the end of their group: while tokens remain
   pub data TupleFields : Trees → List ℕ → Type 0 where
     last : TupleFields end []
-    next : {ts us : Trees} {rs qs : List ℕ} → isEnd ts ≡ false → TupleField ts us rs → TupleFields us qs → TupleFields ts (rs ++ qs)
+    next : {ts us : Trees} {rs qs : List ℕ}
+        → isEnd ts ≡ false → TupleField ts us rs → TupleFields us qs → TupleFields ts (rs ++ qs)
 
   -- ## Variant. EnumItem
 
   -- an optional brace or parenthesis group as above (no other group can follow). EnumItemStruct, EnumItemTuple
   pub data VariantFields : Trees → Trees → List ℕ → Type 0 where
     none : {ts : Trees} → isGroup ts ≡ false → VariantFields ts ts []
-    named : {d : ℕ} {ts us : Trees} {rs : List ℕ} → eqb d 123 ≡ true → NamedFields ts rs → VariantFields (group d ts us) us (role.delimiter ∷ rs ++ role.delimiter ∷ [])
-    tuple : {d : ℕ} {ts us : Trees} {rs : List ℕ} → eqb d 40 ≡ true → TupleFields ts rs → VariantFields (group d ts us) us (role.delimiter ∷ rs ++ role.delimiter ∷ [])
+    named : {d : ℕ} {ts us : Trees} {rs : List ℕ}
+        → eqb d 123 ≡ true → NamedFields ts rs → VariantFields (group d ts us) us (role.delimiter ∷ rs ++ role.delimiter ∷ [])
+    tuple : {d : ℕ} {ts us : Trees} {rs : List ℕ}
+        → eqb d 40 ≡ true → TupleFields ts rs → VariantFields (group d ts us) us (role.delimiter ∷ rs ++ role.delimiter ∷ [])
 
   -- `=` with a literal, or with `-` and a literal of digits alone worth at most 9,223,372,036,854,775,807. EnumItemDiscriminant
   pub data Value : Trees → Trees → List ℕ → Type 0 where
-    literal : {e q : Row} {us : Trees} → isPunct 61 e ≡ true → isLiteral q ≡ true → Value (leaf e (leaf q us)) us (role.separator ∷ role.value ∷ [])
-    negative : {e m q : Row} {us : Trees} → isPunct 61 e ≡ true → isPunct 45 m ≡ true → isLiteral q ≡ true → negatable (q .text) ≡ true
+    literal : {e q : Row} {us : Trees}
+        → isPunct 61 e ≡ true → isLiteral q ≡ true → Value (leaf e (leaf q us)) us (role.separator ∷ role.value ∷ [])
+    negative : {e m q : Row} {us : Trees}
+        → isPunct 61 e ≡ true → isPunct 45 m ≡ true → isLiteral q ≡ true → negatable (q .text) ≡ true
         → Value (leaf e (leaf m (leaf q us))) us (role.separator ∷ role.value ∷ role.value ∷ [])
 
   pub data Variant : Trees → Trees → List ℕ → Type 0 where
@@ -241,12 +264,15 @@ module _ (allowed : Difference → Bool) where
   -- `;`, a brace group of named fields, or a parenthesis group of types. StructStruct or TupleStruct: whether it is the second
   pub data StructBody : Bool → Trees → Trees → List ℕ → Type 0 where
     unit : {q : Row} {us : Trees} → isPunct 59 q ≡ true → StructBody false (leaf q us) us (role.delimiter ∷ [])
-    named : {d : ℕ} {ts us : Trees} {rs : List ℕ} → eqb d 123 ≡ true → NamedFields ts rs → StructBody false (group d ts us) us (role.delimiter ∷ rs ++ role.delimiter ∷ [])
-    tuple : {d : ℕ} {ts us : Trees} {rs : List ℕ} → eqb d 40 ≡ true → TupleFields ts rs → StructBody true (group d ts us) us (role.delimiter ∷ rs ++ role.delimiter ∷ [])
+    named : {d : ℕ} {ts us : Trees} {rs : List ℕ}
+        → eqb d 123 ≡ true → NamedFields ts rs → StructBody false (group d ts us) us (role.delimiter ∷ rs ++ role.delimiter ∷ [])
+    tuple : {d : ℕ} {ts us : Trees} {rs : List ℕ}
+        → eqb d 40 ≡ true → TupleFields ts rs → StructBody true (group d ts us) us (role.delimiter ∷ rs ++ role.delimiter ∷ [])
 
   -- `;`, or a group of any delimiter holding variants. Enumeration: braces
   pub data EnumBody : Trees → Trees → List ℕ → Type 0 where
-    unit : {q : Row} {us : Trees} → allowed enum-semicolon ≡ true → isPunct 59 q ≡ true → EnumBody (leaf q us) us (role.delimiter ∷ [])
+    unit : {q : Row} {us : Trees}
+        → allowed enum-semicolon ≡ true → isPunct 59 q ≡ true → EnumBody (leaf q us) us (role.delimiter ∷ [])
     variants : {d : ℕ} {ts us : Trees} {rs : List ℕ} → Unless enum-delimiter (eqb d 123) → Variants ts rs
         → EnumBody (group d ts us) us (role.delimiter ∷ rs ++ role.delimiter ∷ [])
 
@@ -255,7 +281,8 @@ module _ (allowed : Difference → Bool) where
 
   -- a word that passes the test, and a word as name
   pub data Head (is : Row → Bool) : Trees → Trees → List ℕ → Type 0 where
-    head : {ts us vs : Trees} {ks bs : List ℕ} → Word is role.item-word ts us ks → Word isIdent role.item-name us vs bs → Head is ts vs (ks ++ bs)
+    head : {ts us vs : Trees} {ks bs : List ℕ}
+        → Word is role.item-word ts us ks → Word isIdent role.item-name us vs bs → Head is ts vs (ks ++ bs)
 
   pub data Item : Bool → Trees → Trees → List ℕ → Type 0 where
     struct : {tuple : Bool} {ts₀ ts₁ ts₂ ts₃ ts₄ ts₅ ts₆ : Trees} {ks bs cs ds es fs : List ℕ}
@@ -277,4 +304,5 @@ module _ (allowed : Difference → Bool) where
 
   -- An assignment of roles to the rows of a stream obeys when they can be divided into an item; all rows after the body: 0.
   pub data Obeys : Trees → List ℕ → Type 0 where
-    obeys : {tuple : Bool} {ts us : Trees} {rs : List ℕ} → Item tuple ts us rs → LeftOver tuple us → Obeys ts (rs ++ replicate (size us) role.left-over)
+    obeys : {tuple : Bool} {ts us : Trees} {rs : List ℕ}
+        → Item tuple ts us rs → LeftOver tuple us → Obeys ts (rs ++ replicate (size us) role.left-over)

@@ -33,6 +33,7 @@ pub record SingleAssignment (s : List ℕ) (room : ℕ) (accepted : Bool) (buffe
   -- in a list that passes refusals 1 to 7 each row has its role
   pub each : (rows : ℕ) → check s ≡ passed rows → (roles : List ℕ) → Assignment s roles → OneEach s roles
   -- on acceptance the first bytes are the assignment that obeys, and all bytes after it are 255
-  pub filled : accepted ≡ true → (roles : List ℕ) × Assignment s roles × OneEach s roles × (length roles ≤ room) × (buffer ≡ roles ++ replicate (room - length roles) 255)
+  pub filled : accepted ≡ true
+      → (roles : List ℕ) × Assignment s roles × OneEach s roles × (length roles ≤ room) × (buffer ≡ roles ++ replicate (room - length roles) 255)
   -- on refusal every byte is 255
   pub cleared : accepted ≡ false → buffer ≡ replicate room 255
