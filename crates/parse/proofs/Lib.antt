@@ -16,3 +16,4 @@ pub mod Turns
 pub mod Marks
 pub mod Heads
 pub mod Loops
+pub mod Bodies

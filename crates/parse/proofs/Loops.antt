@@ -12,7 +12,7 @@ use Rattle.parse.specs.Took.{Took, took, refuse, Reader, onward, after, 
 use Rattle.parse.specs.Reading.{Maybe, done, one, more, every}
 use Rattle.parse.specs.Contract.{Moved, Said, on, no, Meets, stands, refuses, stream}
 use Rattle.parse.proofs.Meeting.{moved-none, moved-on}
-use Rattle.parse.proofs.Conserved.{Round, another, finished, refused, Rounding, every-step}
+use Rattle.parse.proofs.Rounds.{Round, another, Rounding, every-step}
 
 -- things that were read before, with their rows
 abbrev pub gathered : {A : Type 0} → List A → List ℕ → Took (List A) → Took (List A)

@@ -300,12 +300,12 @@ word-within w (stands m h) = h .1 .within
 
 -- what a reader answered, by its own enum
 pub say : {R A : Type 0} (sh : R → A → Type 0) (f : R → Said) {s : List ℕ} {c : Cursor} {b0 b1 : List ℕ} {t : Took A} {p q : R}
-  → p ≡ q → Meets s c b0 b1 (sh p) (f p) t → Meets s c b0 b1 (sh q) (f q) t
+    → p ≡ q → Meets s c b0 b1 (sh p) (f p) t → Meets s c b0 b1 (sh q) (f q) t
 say {R} sh f {s} {c} {b0} {b1} {t} e m = subst (λ (x : R). Meets s c b0 b1 (sh x) (f x) t) e m
 
 -- the value made into another
 pub meets-map : {A B : Type 0} {s : List ℕ} {c : Cursor} {b0 b1 : List ℕ} {sh : A → Type 0} {sh2 : B → Type 0} {x : Said} {t : Took A} (row : ℕ) (f : A → B)
-  → ((a : A) → sh a → sh2 (f a)) → Meets s c b0 b1 sh x t → Meets s c b0 b1 sh2 x (after row t (λ a. pure (f a)))
+    → ((a : A) → sh a → sh2 (f a)) → Meets s c b0 b1 sh x t → Meets s c b0 b1 sh2 x (after row t (λ a. pure (f a)))
 meets-map {s = s} {c} {b0} {b1} {sh2 = sh2} row f g (stands {d = d} {a = a} {rs = rs} {us = us} m h) =
     subst⁻¹ (λ (qs : List ℕ). Meets s c b0 b1 sh2 (on d) (took (f a) qs us)) (append-nil rs) (stands m (g a h))
 meets-map row f g refuses = refuses
@@ -314,3 +314,13 @@ meets-map row f g refuses = refuses
 pub meets-kept : {s : List ℕ} {c : Cursor} {b0 b1 : List ℕ} {sh : Ending → Type 0} {x : Said} {t : Took Ending} (ts : Trees) → Meets s c b0 b1 sh x t → Meets s c b0 b1 any x (kept ts t)
 meets-kept ts (stands m h) = stands m tt
 meets-kept ts refuses = refuses
+
+pub leaf-not-end : {r : Row} {us : Trees} → leaf r us ≡ end → ⊥
+leaf-not-end e = let z : _≡_ {A = ℕ} 0 1 = cc in omega arith
+
+pub group-not-end : {d : ℕ} {ts us : Trees} → group d ts us ≡ end → ⊥
+group-not-end e = let z : _≡_ {A = ℕ} 0 1 = cc in omega arith
+
+-- of a refusal nothing is shown
+pub meets-none : {A : Type 0} {s : List ℕ} {c : Cursor} {b0 b1 : List ℕ} {sh sh2 : A → Type 0} {n p : ℕ} {t : Took A} → Meets s c b0 b1 sh (no n p) t → Meets s c b0 b1 sh2 (no n p) t
+meets-none refuses = refuses

@@ -5,7 +5,7 @@ use mathlib.Core.List.{List, [], _∷_, _++_}
 use Prim.Native.Nat.{ℕ, _+_, _≤_, _<_}
 use lib.ListN.{length}
 use lib.Seq.{slice, sets}
-use Rattle.token_list.specs.Stream.{Trees, at}
+use Rattle.token_list.specs.Stream.{Trees, head, at}
 use Rattle.token_list.specs.Contract.{InList, Skipped}
 use Rattle.token_list.specs.declared.check.Cursor.{Cursor}
 use Rattle.token_list.specs.declared.check.Refusal.{Refusal}
@@ -39,6 +39,23 @@ use Rattle.parse.specs.declared.generics.ParameterStep.{ParameterStep}
 use Rattle.parse.specs.declared.generics.ParameterStep.the-variants as parameters
 use Rattle.parse.specs.declared.generics.Counted.{Counted}
 use Rattle.parse.specs.declared.generics.Counted.the-variants as counts
+use Rattle.parse.specs.declared.body.FieldStep.{FieldStep}
+use Rattle.parse.specs.declared.body.FieldStep.the-variants as fieldSteps
+use Rattle.parse.specs.declared.body.TypeStep.{TypeStep}
+use Rattle.parse.specs.declared.body.TypeStep.the-variants as typeSteps
+use Rattle.parse.specs.declared.body.FieldsAt.{FieldsAt}
+use Rattle.parse.specs.declared.body.FieldsAt.the-variants as fieldsAts
+use Rattle.parse.specs.declared.body.FieldsStep.{FieldsStep}
+use Rattle.parse.specs.declared.body.FieldsStep.the-variants as fieldsSteps
+use Rattle.parse.specs.declared.body.ValueAt.{ValueAt}
+use Rattle.parse.specs.declared.body.ValueAt.the-variants as valueAts
+use Rattle.parse.specs.declared.body.ValueStep.{ValueStep}
+use Rattle.parse.specs.declared.body.ValueStep.the-variants as valueSteps
+use Rattle.parse.specs.declared.body.NameStep.{NameStep}
+use Rattle.parse.specs.declared.body.NameStep.the-variants as nameSteps
+use Rattle.parse.specs.declared.body.VariantAt.{VariantAt}
+use Rattle.parse.specs.declared.body.VariantStep.{VariantStep}
+use Rattle.parse.specs.declared.body.VariantStep.the-variants as variantSteps
 use Rattle.parse.specs.declared.attributes.Marked.{Marked}
 use Rattle.parse.specs.declared.attributes.Marked.the-variants as marks
 
@@ -238,3 +255,118 @@ countSaid (counts.Refused r) = refusal r
 abbrev pub countShown : {A : Type 0} → Counted → List A → Type 0
 countShown (counts.At d n) v = n ≡ length v
 countShown (counts.Refused r) v = ⊥
+
+-- ## The answers of body
+
+-- what stands before a field
+abbrev pub fieldPrefix : Reader (Unit {0})
+fieldPrefix = reading.attributes >>= λ a. reading.visibility
+
+-- a type's run, and the `,` that may follow
+abbrev pub fieldType : Reader Trees
+fieldType = reading.run reading.fieldStops role.type >>= λ t. (reading.punctIf 44 role.separator >>= λ u. pure t)
+
+-- the field of this name
+abbrev pub FieldNamed : List ℕ → reading.Maybe declaration.Field → Type 0
+FieldNamed n v = (t : Trees) × (v ≡ reading.one (record { name = n; type = t }))
+
+abbrev pub fieldSaid : FieldStep → Said
+fieldSaid (fieldSteps.One f) = on (f .next)
+fieldSaid (fieldSteps.Done d) = on d
+fieldSaid (fieldSteps.Refused r) = refusal r
+
+abbrev pub fieldShown : List ℕ → FieldStep → reading.Maybe declaration.Field → Type 0
+fieldShown s (fieldSteps.One f) v = (a : declaration.Field) × (v ≡ reading.one a) × TextOf s (f .name) (a .name)
+fieldShown s (fieldSteps.Done d) v = v ≡ reading.done
+fieldShown s (fieldSteps.Refused r) v = ⊥
+
+abbrev pub typeSaid : TypeStep → Said
+typeSaid (typeSteps.One d) = on d
+typeSaid (typeSteps.Done d) = on d
+typeSaid (typeSteps.Refused r) = refusal r
+
+abbrev pub typeShown : TypeStep → reading.Maybe Trees → Type 0
+typeShown (typeSteps.One d) v = (a : Trees) × (v ≡ reading.one a)
+typeShown (typeSteps.Done d) v = v ≡ reading.done
+typeShown (typeSteps.Refused r) v = ⊥
+
+-- the inside of the group that opens at c, between its delimiters
+abbrev pub Inside : {A : Type 0} → Reader A → List ℕ → Cursor → Token → Took A
+Inside m s c t = reading.enclosed m (c .row) (at s (t .next) .here) (head (at s (t .next) .outer))
+
+-- a group's inside is at c, and reading it there gives xs
+pub record InsideAt {A : Type 0} (m : Reader A) (s : List ℕ) (c : Cursor) (xs : A) : Type 0 where
+  pub inList : InList s c
+  pub roles : List ℕ
+  pub rest : Trees
+  pub gives : m (c .row) (stream s c) ≡ took xs roles rest
+
+abbrev pub FieldsOf : List ℕ → FieldsAt → declaration.Fields → Type 0
+FieldsOf s fieldsAts.Unit v = v ≡ declaration.unit
+FieldsOf s (fieldsAts.Named c) v = (fs : List declaration.Field) × (v ≡ declaration.named fs) × InsideAt (reading.every reading.namedField) s c fs
+FieldsOf s (fieldsAts.Tuple c) v = (ts : List Trees) × (v ≡ declaration.tuple ts) × InsideAt (reading.every reading.tupleField) s c ts
+
+abbrev pub fieldsSaid : FieldsStep → Said
+fieldsSaid (fieldsSteps.At f d) = on d
+fieldsSaid (fieldsSteps.Refused r) = refusal r
+
+abbrev pub fieldsShown : List ℕ → FieldsStep → declaration.Fields → Type 0
+fieldsShown s (fieldsSteps.At f d) v = FieldsOf s f v
+fieldsShown s (fieldsSteps.Refused r) v = ⊥
+
+abbrev pub ValueOf : List ℕ → ValueAt → declaration.Value → Type 0
+ValueOf s valueAts.Absent v = v ≡ declaration.absent
+ValueOf s (valueAts.Literal t) v = (x : List ℕ) × TextOf s t x × (v ≡ declaration.literal x)
+ValueOf s (valueAts.Negative t) v = (x : List ℕ) × TextOf s t x × (reading.negatable x ≡ true) × (v ≡ declaration.negative (reading.worth x))
+
+abbrev pub valueSaid : ValueStep → Said
+valueSaid (valueSteps.At v d) = on d
+valueSaid (valueSteps.Refused r) = refusal r
+
+abbrev pub valueShown : List ℕ → ValueStep → declaration.Value → Type 0
+valueShown s (valueSteps.At w d) v = ValueOf s w v
+valueShown s (valueSteps.Refused r) v = ⊥
+
+abbrev pub nameSaid : NameStep → Said
+nameSaid (nameSteps.At t d) = on d
+nameSaid (nameSteps.Refused r) = refusal r
+
+abbrev pub nameShown : List ℕ → NameStep → List ℕ → Type 0
+nameShown s (nameSteps.At t d) v = TextOf s t v
+nameShown s (nameSteps.Refused r) v = ⊥
+
+abbrev pub variantName : Reader (List ℕ)
+variantName = reading.attributes >>= λ a. (reading.word role.variant-name >>= reading.named!)
+
+-- a variant's value, and the `,` that may follow
+abbrev pub variantValue : Reader declaration.Value
+variantValue = reading.valueIf >>= λ v. (reading.punctIf 44 role.separator >>= λ u. pure v)
+
+pub record VariantOf (s : List ℕ) (p : VariantAt) (a : declaration.Variant) : Type 0 where
+  pub name : TextOf s (p .name) (a .name)
+  pub fields : FieldsOf s (p .fields) (a .fields)
+  pub value : ValueOf s (p .value) (a .value)
+
+abbrev pub variantSaid : VariantStep → Said
+variantSaid (variantSteps.One p) = on (p .next)
+variantSaid (variantSteps.Done d) = on d
+variantSaid (variantSteps.Refused r) = refusal r
+
+abbrev pub variantShown : List ℕ → VariantStep → reading.Maybe declaration.Variant → Type 0
+variantShown s (variantSteps.One p) v = (a : declaration.Variant) × (v ≡ reading.one a) × VariantOf s p a
+variantShown s (variantSteps.Done d) v = v ≡ reading.done
+variantShown s (variantSteps.Refused r) v = ⊥
+
+-- how many fields or variants a body has
+abbrev pub fieldsCount : declaration.Fields → ℕ
+fieldsCount declaration.unit = 0
+fieldsCount (declaration.named fs) = length fs
+fieldsCount (declaration.tuple ts) = length ts
+
+abbrev pub bodyCount : declaration.Body → ℕ
+bodyCount (declaration.fields f) = fieldsCount f
+bodyCount (declaration.variants vs) = length vs
+
+abbrev pub bodyShown : Counted → declaration.Body → Type 0
+bodyShown (counts.At d n) v = n ≡ bodyCount v
+bodyShown (counts.Refused r) v = ⊥

@@ -1,0 +1,120 @@
+-- Laws on fields, groups and values.
+use mathlib.Core.Path.{_≡_, refl, ap, _∙_, sym, subst, subst⁻¹}
+use mathlib.Core.Bool.{Bool, true, false, cond, _&&_}
+use mathlib.Core.List.{List, [], _∷_, _++_, append-assoc, append-nil}
+use Prim.Native.Nat.{ℕ, suc, _+_, _-_, _*_, _≤_, _<_}
+use native.Mathlib.Nat.{suc-add}
+use native.Mathlib.Numerals.{add-one}
+use native.Mathlib.Omega.{arith}
+use borrow.Author.Tests.{le-leb, lt-leb}
+use lib.Dec.{leb, eqb}
+use lib.ListN.{length, getD, set, length-append}
+use lib.Seq.{sets, slice}
+use Rattle.token_list.specs.Text.{all, digit}
+use Rattle.token_list.specs.Stream.{Trees, end, size, head, others, follows, at}
+use Rattle.token_list.specs.Contract.{InList, TokenAt, GroupAt, Skipped}
+use Rattle.token_list.specs.declared.check.Cursor.{Cursor}
+use Rattle.token_list.specs.declared.stream.Token.{Token}
+use Rattle.token_list.proofs.Texts.{and-both, and-fails, and-last, slice-next, slice-none}
+use Rattle.parse.specs.Took.{Took, took, refuse, Reader, onward, after, pure, _>>=_}
+use Rattle.parse.specs.Reading.{Maybe, one, comma, punctIf, closing, worth, worthFrom}
+use Rattle.parse.specs.Token.{negatable}
+use Rattle.parse.specs.Contract.{Moved, Said, on, no, Meets, stands, refuses, stream, pastOf}
+use Rattle.parse.proofs.Buffer.{sets-append}
+use Rattle.parse.proofs.Meeting.{past-fits}
+use Rattle.parse.proofs.Conserved.{Ended, ended-at}
+
+-- ## A value, and the `,` that may follow it
+
+abbrev pub commaAfter : {A : Type 0} → A → Reader A
+commaAfter a = punctIf 44 10 >>= λ u. pure a
+
+pub comma-as : {A B : Type 0} (row : ℕ) (t : Took A) (g : A → B) → after row t (λ a. comma (g a)) ≡ after row (after row t commaAfter) (λ a. pure (one (g a)))
+comma-as row (took a rs us) g = go (punctIf 44 10 (row + length rs) us)
+  where
+    go : (p : Took Bool) → onward rs (after (row + length rs) p (λ u. pure (one (g a)))) ≡ after row (onward rs (after (row + length rs) p (λ u. pure a))) (λ a. pure (one (g a)))
+    go (took u qs vs) = ap (λ (ps : List ℕ). took (one (g a)) ps vs) (sym (append-nil (rs ++ (qs ++ []))))
+    go (refuse n p) = refl
+comma-as row (refuse n p) g = refl
+
+-- ## The inside of a group
+
+pub closing-map : {A B : Type 0} {s : List ℕ} {c : Cursor} {b0 b1 : List ℕ} {sh : A → Type 0} {sh2 : B → Type 0} {x : Said} (us : Trees) (row : ℕ) (t : Took A) (f : A → B)
+  → ((a : A) → sh a → sh2 (f a)) → Meets s c b0 b1 sh x (closing us t) → Meets s c b0 b1 sh2 x (closing us (after row t (λ a. pure (f a))))
+closing-map {s = s} {c} {b0} {b1} {sh2 = sh2} us row (took a rs rest) f g (stands {d = d} m h) =
+    subst⁻¹ (λ (qs : List ℕ). Meets s c b0 b1 sh2 (on d) (took (f a) (14 ∷ qs ++ 14 ∷ []) us)) (append-nil rs) (stands m (g a h))
+closing-map us row (refuse n p) f g refuses = refuses
+
+module _ (s : List ℕ) (c inside : Cursor) (t : Token) (i : InList s c) (g : GroupAt s (c .at) t) (b0 b1 : List ℕ) (p : inside ≡ pastOf c t) (w : b1 ≡ set b0 (c .row) 14) where
+  inside-outer : at s (inside .at) .outer ≡ g .after ∷ at s (c .at) .outer
+  inside-outer = ap (λ (y : Cursor). at s (y .at) .outer) p ∙ g .outer
+
+  pub closing-follows : {A : Type 0} {d : Cursor} {b2 : List ℕ} {sh : A → Type 0} {x : Took A} → Meets s inside b1 b2 sh (on d) x → follows (at s (d .at) .outer) ≡ true
+  closing-follows (stands m h) = ap follows (m .outer ∙ inside-outer)
+
+  pub closing-refused : {A : Type 0} {b2 : List ℕ} {sh sh2 : A → Type 0} {n q : ℕ} {x : Took A} (us : Trees) → Meets s inside b1 b2 sh (no n q) x → Meets s c b0 b2 sh2 (no n q) (closing us x)
+  closing-refused us refuses = refuses
+
+  pub meets-closing : {A : Type 0} {b2 b3 : List ℕ} {sh : A → Type 0} {d e : Cursor} {x : Took A} → Meets s inside b1 b2 sh (on d) x → Ended x → b3 ≡ set b2 (d .row) 14 → Skipped s d e
+    → Meets s c b0 b3 sh (on e) (closing (head (at s (t .next) .outer)) x)
+  meets-closing {b2 = b2} {b3 = b3} {sh = sh} {d = d} {e = e} (stands {rs = rs} {us = us} m h) z q k =
+      let o : at s (e .at) .here ∷ at s (e .at) .outer ≡ g .after ∷ at s (c .at) .outer = sym (k .streams) ∙ m .outer ∙ inside-outer in
+      let n : size (stream s d) ≡ 0 = ap size (m .here ∙ ended-at z) in
+      let r = ap (λ (y : Cursor). y .row) p in
+      let y = ap (λ (y : Cursor). y .at) p in
+      let l : length (14 ∷ rs ++ 14 ∷ []) ≡ 1 + length rs + 1 = omega (arith, length-append rs (14 ∷ [])) in
+      let below : inside .row ≡ suc (c .row) = omega (arith, r) in
+      let last : d .row ≡ suc (c .row) + length rs = omega (arith, r, m .row) in
+      stands {rs = 14 ∷ rs ++ 14 ∷ []}
+      (record
+        { inList = k .inList
+        ; row = omega (arith, k .row, n, m .row, r, l)
+        ; forth = omega (arith, k .forth, n, m .forth, y, l, past-fits s c t i (g .token))
+        ; here = ap head o ∙ sym (ap head (g .outer))
+        ; outer = ap others o
+        ; roles =
+            q
+            ∙ (λ j. set (m .roles j) (last j) 14)
+            ∙ (λ j. set (sets (w j) (below j) rs) (suc (c .row) + length rs) 14)
+            ∙ sym (sets-append (set b0 (c .row) 14) (suc (c .row)) rs (14 ∷ []))
+        })
+      h
+
+-- ## Digits, worth at most the largest i64
+
+worth-grows : (n : ℕ) (bs : List ℕ) → n ≤ worthFrom n bs
+worth-grows n [] = omega arith
+worth-grows n (b ∷ bs) = omega (arith, worth-grows (n * 10 + (b - 48)) bs)
+
+abbrev LIMIT : ℕ
+LIMIT = 9223372036854775807
+
+abbrev pub Negatable : ℕ → List ℕ → Bool
+Negatable n t = all digit t && leb (worthFrom n t) LIMIT
+
+pub negatable-start : (t : List ℕ) → negatable t ≡ Negatable 0 t
+unfolding negatable
+negatable-start t = refl
+
+module _ (s : List ℕ) (i e : ℕ) (fits : e ≤ length s) (h : i < e) (n : ℕ) where
+  parts : Negatable n (slice i e s) ≡ ((digit (getD s i 0) && all digit (slice (i + 1) e s)) && leb (worthFrom (n * 10 + (getD s i 0 - 48)) (slice (i + 1) e s)) LIMIT)
+  parts = ap (Negatable n) (slice-next s i e h fits)
+
+  pub digit-low : getD s i 0 < 48 → Negatable n (slice i e s) ≡ false
+  digit-low q = parts ∙ and-fails _ _ (and-fails _ _ (and-fails _ _ (lt-leb _ _ q)))
+
+  pub digit-high : 48 ≤ getD s i 0 → 57 < getD s i 0 → Negatable n (slice i e s) ≡ false
+  digit-high p q = parts ∙ and-fails _ _ (and-fails _ _ (and-last _ _ (le-leb _ _ p) ∙ lt-leb _ _ q))
+
+  pub too-large : 922337203685477580 < n → Negatable n (slice i e s) ≡ false
+  too-large q = parts ∙ go (digit (getD s i 0) && all digit (slice (i + 1) e s)) (lt-leb (worthFrom (n * 10 + (getD s i 0 - 48)) (slice (i + 1) e s)) LIMIT (omega (arith, worth-grows (n * 10 + (getD s i 0 - 48)) (slice (i + 1) e s))))
+    where
+      go : (b : Bool) {k : Bool} → k ≡ false → (b && k) ≡ false
+      go true e = e
+      go false e = refl
+
+  pub digit-next : 48 ≤ getD s i 0 → getD s i 0 ≤ 57 → Negatable n (slice i e s) ≡ Negatable (n * 10 + (getD s i 0 - 48)) (slice (i + 1) e s)
+  digit-next p q = parts ∙ ap (λ (b : Bool). b && leb (worthFrom (n * 10 + (getD s i 0 - 48)) (slice (i + 1) e s)) LIMIT) (and-last _ _ (and-both _ _ (le-leb _ _ p) (le-leb _ _ q)))
+
+pub digits-end : (s : List ℕ) (i e n : ℕ) → e ≤ i → Negatable n (slice i e s) ≡ leb n LIMIT
+digits-end s i e n h = ap (Negatable n) (slice-none s i e h)

@@ -1,0 +1,611 @@
+// Bodies (virtue's parse/body.rs).
+use crate::attributes;
+use crate::generics::Counted;
+use crate::utils::MaybeWord;
+use crate::utils::Ran;
+use crate::utils::Step;
+use crate::utils::Stops;
+use crate::utils::consume_ident;
+use crate::utils::consume_punct_if;
+use crate::utils::is_punct;
+use crate::utils::mark;
+use crate::utils::past;
+use crate::utils::read_tokens_until_punct;
+use crate::utils::take_token;
+use crate::utils::wrong_token;
+use crate::visibility;
+use token_list::check::Cursor;
+use token_list::check::END;
+use token_list::check::Refusal;
+use token_list::stream::Peeked;
+use token_list::stream::Token;
+use token_list::stream::peek;
+use token_list::stream::skip;
+ghost use mathlib.Core.Path.{_≡_};
+ghost use mathlib.Core.Bool.{true};
+ghost use mathlib.Core.List.{List};
+ghost use Prim.Native.Nat.{ℕ, _≤_};
+ghost use lib.ListN.{length, set};
+ghost use lib.Seq.{slice};
+ghost use Rattle.token_list.specs.Stream.{at, follows};
+ghost use Rattle.token_list.specs.Contract.{InList, GroupAt, Skipped};
+ghost use Rattle.parse.specs.Reading.{every, fieldAfter, namedField, tupleType, tupleField, variantFields, negatable, negativeValue, discriminant, valueIf, variantHere, variant, structBody, enumBody};
+ghost use Rattle.parse.specs.Contract.{Meets, any, stream, stepSaid, fieldPrefix, fieldType, FieldNamed, fieldShown, fieldSaid, typeShown, typeSaid, countShown, countSaid, Inside, fieldsShown, fieldsSaid, valueShown, valueSaid, nameShown, nameSaid, variantName, variantValue, variantShown, variantSaid, bodyShown};
+
+// Where a named field's name stands, and the cursor after the field.
+pub struct FieldAt {
+    pub name: Token,
+    pub next: Cursor,
+}
+
+pub enum FieldStep {
+    One(FieldAt),
+    Done(Cursor),
+    Refused(Refusal),
+}
+
+// A field without a name: the cursor after it.
+pub enum TypeStep {
+    One(Cursor),
+    Done(Cursor),
+    Refused(Refusal),
+}
+
+// A variant's group: none, or the cursor inside it.
+pub enum FieldsAt {
+    Unit,
+    Named(Cursor),
+    Tuple(Cursor),
+}
+
+pub enum FieldsStep {
+    At(FieldsAt, Cursor),
+    Refused(Refusal),
+}
+
+// A variant's value: none, a literal, or the literal after a `-`.
+pub enum ValueAt {
+    Absent,
+    Literal(Token),
+    Negative(Token),
+}
+
+pub enum ValueStep {
+    At(ValueAt, Cursor),
+    Refused(Refusal),
+}
+
+// Where a variant's parts stand, and the cursor after it.
+pub struct VariantAt {
+    pub name: Token,
+    pub fields: FieldsAt,
+    pub value: ValueAt,
+    pub next: Cursor,
+}
+
+pub enum VariantStep {
+    One(VariantAt),
+    Done(Cursor),
+    Refused(Refusal),
+}
+
+// Attributes and visibility, which stand before a field.
+pub fn field_start(s: &[u8], c: Cursor, roles: &mut [u8]) -> Step
+    requires { ⌜ InList (now s) c ⌝ }
+    ensures { λ r. ⌜ Meets (now (s .entry)) c (now (roles .entry)) (now (roles .exit)) any (stepSaid r) (fieldPrefix (c .row) (stream (now (s .entry)) c)) ⌝ }
+{
+    match attributes::try_take(s, c, roles) {
+        Step::Refused(r) => Step::Refused(r),
+        Step::At(d) => Step::At(visibility::try_take(s, d, roles)),
+    }
+}
+
+// A type's run and the `,` that may follow.
+pub fn field_type(s: &[u8], c: Cursor, roles: &mut [u8]) -> Step
+    requires { ⌜ InList (now s) c ⌝ }
+    ensures { λ r. ⌜ Meets (now (s .entry)) c (now (roles .entry)) (now (roles .exit)) any (stepSaid r) (fieldType (c .row) (stream (now (s .entry)) c)) ⌝ }
+{
+    match read_tokens_until_punct(
+        s,
+        c,
+        roles,
+        Stops {
+            comma: true,
+            angle: false,
+            group: false,
+        },
+        18,
+    ) {
+        Ran::Refused(r) => Step::Refused(r),
+        Ran::At(d, _) => {
+            let p = consume_punct_if(s, d, roles, b',', 10);
+            let next = p.next;
+            Step::At(next)
+        }
+    }
+}
+
+// `:` and a type.
+pub fn field_after(s: &[u8], c: Cursor, roles: &mut [u8]) -> Step
+    requires { ⌜ InList (now s) c ⌝ }
+    ensures { λ r. ⌜ ((n : List ℕ) → Meets (now (s .entry)) c (now (roles .entry)) (now (roles .exit)) (FieldNamed n) (stepSaid r) (fieldAfter n (c .row) (stream (now (s .entry)) c))) ⌝ }
+{
+    let p = consume_punct_if(s, c, roles, b':', 10);
+    let next = p.next;
+    if !p.taken {
+        return Step::Refused(wrong_token(s, next, 23));
+    }
+    field_type(s, next, roles)
+}
+
+// One named field, or the end.
+pub fn named_field(s: &[u8], c: Cursor, roles: &mut [u8]) -> FieldStep
+    requires { ⌜ InList (now s) c ⌝ }
+    ensures { λ r. ⌜ Meets (now (s .entry)) c (now (roles .entry)) (now (roles .exit)) (fieldShown (now (s .entry)) r) (fieldSaid r) (namedField (c .row) (stream (now (s .entry)) c)) ⌝ }
+{
+    match field_start(s, c, roles) {
+        Step::Refused(r) => FieldStep::Refused(r),
+        Step::At(d) => {
+            let row = d.row;
+            match peek(s, d) {
+                Peeked::Nothing => FieldStep::Done(d),
+                Peeked::Group(_) => FieldStep::Refused(Refusal {
+                    number: 22,
+                    place: row,
+                }),
+                Peeked::Leaf(t) => {
+                    if t.kind != b'i' {
+                        return FieldStep::Refused(Refusal {
+                            number: 22,
+                            place: row,
+                        });
+                    }
+                    let next = take_token(s, d, t, roles, 17);
+                    match field_after(s, next, roles) {
+                        Step::Refused(r) => FieldStep::Refused(r),
+                        Step::At(e) => FieldStep::One(FieldAt { name: t, next: e }),
+                    }
+                }
+            }
+        }
+    }
+}
+
+// One field without a name, or the end.
+pub fn tuple_field(s: &[u8], c: Cursor, roles: &mut [u8]) -> TypeStep
+    requires { ⌜ InList (now s) c ⌝ }
+    ensures { λ r. ⌜ Meets (now (s .entry)) c (now (roles .entry)) (now (roles .exit)) (typeShown r) (typeSaid r) (tupleField (c .row) (stream (now (s .entry)) c)) ⌝ }
+{
+    match peek(s, c) {
+        Peeked::Nothing => TypeStep::Done(c),
+        Peeked::Leaf(_) => tuple_type(s, c, roles),
+        Peeked::Group(_) => tuple_type(s, c, roles),
+    }
+}
+
+pub fn tuple_type(s: &[u8], c: Cursor, roles: &mut [u8]) -> TypeStep
+    requires { ⌜ InList (now s) c ⌝ }
+    ensures { λ r. ⌜ Meets (now (s .entry)) c (now (roles .entry)) (now (roles .exit)) (typeShown r) (typeSaid r) (tupleType (c .row) (stream (now (s .entry)) c)) ⌝ }
+{
+    match field_start(s, c, roles) {
+        Step::Refused(r) => TypeStep::Refused(r),
+        Step::At(d) => match field_type(s, d, roles) {
+            Step::Refused(r) => TypeStep::Refused(r),
+            Step::At(e) => TypeStep::One(e),
+        },
+    }
+}
+
+// virtue's UnnamedField::parse_with_name
+pub fn parse_with_name(s: &[u8], from: Cursor, roles: &mut [u8]) -> Counted
+    requires { ⌜ InList (now s) from ⌝ }
+    ensures { λ r. ⌜ Meets (now (s .entry)) from (now (roles .entry)) (now (roles .exit)) (countShown r) (countSaid r) (every namedField (from .row) (stream (now (s .entry)) from)) ⌝ }
+{
+    let mut c = from;
+    let mut count = 0;
+    loop {
+        match named_field(s, c, roles) {
+            FieldStep::One(f) => {
+                c = f.next;
+                count += 1;
+            }
+            FieldStep::Done(d) => {
+                return Counted::At(d, count);
+            }
+            FieldStep::Refused(r) => {
+                return Counted::Refused(r);
+            }
+        }
+    }
+}
+
+// virtue's UnnamedField::parse
+pub fn parse(s: &[u8], from: Cursor, roles: &mut [u8]) -> Counted
+    requires { ⌜ InList (now s) from ⌝ }
+    ensures { λ r. ⌜ Meets (now (s .entry)) from (now (roles .entry)) (now (roles .exit)) (countShown r) (countSaid r) (every tupleField (from .row) (stream (now (s .entry)) from)) ⌝ }
+{
+    let mut c = from;
+    let mut count = 0;
+    loop {
+        match tuple_field(s, c, roles) {
+            TypeStep::One(d) => {
+                c = d;
+                count += 1;
+            }
+            TypeStep::Done(d) => {
+                return Counted::At(d, count);
+            }
+            TypeStep::Refused(r) => {
+                return Counted::Refused(r);
+            }
+        }
+    }
+}
+
+// The closing row of a group whose inside was read up to c.
+pub fn close_group(s: &[u8], c: Cursor, roles: &mut [u8]) -> Cursor
+    requires { ⌜ InList (now s) c ⌝ }
+    requires { ⌜ follows (at (now s) (c .at) .outer) ≡ true ⌝ }
+    ensures { λ r. ⌜ Skipped (now (s .entry)) c r ⌝ }
+    ensures { λ _. ⌜ now (roles .exit) ≡ set (now (roles .entry)) (c .row) 14 ⌝ }
+{
+    let row = c.row;
+    mark(roles, row, 14);
+    skip(s, c)
+}
+
+// The group of named fields that opens at c, with its delimiters.
+pub fn named_group(s: &[u8], c: Cursor, t: Token, roles: &mut [u8]) -> Counted
+    requires { ⌜ InList (now s) c ⌝ }
+    requires { ⌜ GroupAt (now s) (c .at) t ⌝ }
+    ensures { λ r. ⌜ Meets (now (s .entry)) c (now (roles .entry)) (now (roles .exit)) (countShown r) (countSaid r) (Inside (every namedField) (now (s .entry)) c t) ⌝ }
+{
+    let inside = take_token(s, c, t, roles, 14);
+    match parse_with_name(s, inside, roles) {
+        Counted::Refused(r) => Counted::Refused(r),
+        Counted::At(d, count) => {
+            let after = close_group(s, d, roles);
+            Counted::At(after, count)
+        }
+    }
+}
+
+// The group of fields without names that opens at c, with its delimiters.
+pub fn tuple_group(s: &[u8], c: Cursor, t: Token, roles: &mut [u8]) -> Counted
+    requires { ⌜ InList (now s) c ⌝ }
+    requires { ⌜ GroupAt (now s) (c .at) t ⌝ }
+    ensures { λ r. ⌜ Meets (now (s .entry)) c (now (roles .entry)) (now (roles .exit)) (countShown r) (countSaid r) (Inside (every tupleField) (now (s .entry)) c t) ⌝ }
+{
+    let inside = take_token(s, c, t, roles, 14);
+    match parse(s, inside, roles) {
+        Counted::Refused(r) => Counted::Refused(r),
+        Counted::At(d, count) => {
+            let after = close_group(s, d, roles);
+            Counted::At(after, count)
+        }
+    }
+}
+
+// The group of variants that opens at c, with its delimiters.
+pub fn variants_group(s: &[u8], c: Cursor, t: Token, roles: &mut [u8]) -> Counted
+    requires { ⌜ InList (now s) c ⌝ }
+    requires { ⌜ GroupAt (now s) (c .at) t ⌝ }
+    ensures { λ r. ⌜ Meets (now (s .entry)) c (now (roles .entry)) (now (roles .exit)) (countShown r) (countSaid r) (Inside (every variant) (now (s .entry)) c t) ⌝ }
+{
+    let inside = take_token(s, c, t, roles, 14);
+    match variants(s, inside, roles) {
+        Counted::Refused(r) => Counted::Refused(r),
+        Counted::At(d, count) => {
+            let after = close_group(s, d, roles);
+            Counted::At(after, count)
+        }
+    }
+}
+
+// A variant's group, where one stands.
+pub fn variant_fields(s: &[u8], c: Cursor, roles: &mut [u8]) -> FieldsStep
+    requires { ⌜ InList (now s) c ⌝ }
+    ensures { λ r. ⌜ Meets (now (s .entry)) c (now (roles .entry)) (now (roles .exit)) (fieldsShown (now (s .entry)) r) (fieldsSaid r) (variantFields (c .row) (stream (now (s .entry)) c)) ⌝ }
+{
+    let row = c.row;
+    match peek(s, c) {
+        Peeked::Nothing => FieldsStep::At(FieldsAt::Unit, c),
+        Peeked::Leaf(_) => FieldsStep::At(FieldsAt::Unit, c),
+        Peeked::Group(t) => {
+            let d = t.mark;
+            let inside = past(s, c, t);
+            if d == b'{' {
+                return match named_group(s, c, t, roles) {
+                    Counted::Refused(r) => FieldsStep::Refused(r),
+                    Counted::At(e, _) => FieldsStep::At(FieldsAt::Named(inside), e),
+                };
+            }
+            if d == b'(' {
+                return match tuple_group(s, c, t, roles) {
+                    Counted::Refused(r) => FieldsStep::Refused(r),
+                    Counted::At(e, _) => FieldsStep::At(FieldsAt::Tuple(inside), e),
+                };
+            }
+            FieldsStep::Refused(Refusal {
+                number: 19,
+                place: row,
+            })
+        }
+    }
+}
+
+// Whether the text is digits alone, worth at most the largest i64.
+pub fn is_negatable(s: &[u8], start: usize, end: usize) -> bool
+    requires { ⌜ end ≤ length (now s) ⌝ }
+    ensures { λ r. ⌜ r ≡ negatable (slice start end (now (s .entry))) ⌝ }
+{
+    let mut n: u64 = 0;
+    let mut i = start;
+    while i < end {
+        let b = s[i];
+        if b < b'0' {
+            return false;
+        }
+        if b'9' < b {
+            return false;
+        }
+        if 922337203685477580 < n {
+            return false;
+        }
+        let digit = (b - b'0') as u64;
+        n = n * 10 + digit;
+        i += 1;
+    }
+    n <= 9223372036854775807
+}
+
+// The literal after a `-`.
+pub fn negative_value(s: &[u8], c: Cursor, roles: &mut [u8]) -> ValueStep
+    requires { ⌜ InList (now s) c ⌝ }
+    ensures { λ r. ⌜ Meets (now (s .entry)) c (now (roles .entry)) (now (roles .exit)) (valueShown (now (s .entry)) r) (valueSaid r) (negativeValue (c .row) (stream (now (s .entry)) c)) ⌝ }
+{
+    let row = c.row;
+    match peek(s, c) {
+        Peeked::Nothing => ValueStep::Refused(Refusal {
+            number: 21,
+            place: END,
+        }),
+        Peeked::Group(_) => ValueStep::Refused(Refusal {
+            number: 21,
+            place: row,
+        }),
+        Peeked::Leaf(t) => {
+            if t.kind != b'l' {
+                return ValueStep::Refused(Refusal {
+                    number: 21,
+                    place: row,
+                });
+            }
+            let start = t.start;
+            let end = t.end;
+            if !is_negatable(s, start, end) {
+                return ValueStep::Refused(Refusal {
+                    number: 26,
+                    place: row,
+                });
+            }
+            let next = take_token(s, c, t, roles, 16);
+            ValueStep::At(ValueAt::Negative(t), next)
+        }
+    }
+}
+
+// What follows a variant's `=`.
+pub fn discriminant(s: &[u8], c: Cursor, roles: &mut [u8]) -> ValueStep
+    requires { ⌜ InList (now s) c ⌝ }
+    ensures { λ r. ⌜ Meets (now (s .entry)) c (now (roles .entry)) (now (roles .exit)) (valueShown (now (s .entry)) r) (valueSaid r) (discriminant (c .row) (stream (now (s .entry)) c)) ⌝ }
+{
+    let row = c.row;
+    match peek(s, c) {
+        Peeked::Nothing => ValueStep::Refused(Refusal {
+            number: 21,
+            place: END,
+        }),
+        Peeked::Group(_) => ValueStep::Refused(Refusal {
+            number: 21,
+            place: row,
+        }),
+        Peeked::Leaf(t) => {
+            if t.kind == b'l' {
+                let next = take_token(s, c, t, roles, 16);
+                return ValueStep::At(ValueAt::Literal(t), next);
+            }
+            if is_punct(t, b'-') {
+                let next = take_token(s, c, t, roles, 16);
+                return negative_value(s, next, roles);
+            }
+            ValueStep::Refused(Refusal {
+                number: 21,
+                place: row,
+            })
+        }
+    }
+}
+
+// A variant's value, where one stands; else a `,` or the end must follow.
+pub fn value_if(s: &[u8], c: Cursor, roles: &mut [u8]) -> ValueStep
+    requires { ⌜ InList (now s) c ⌝ }
+    ensures { λ r. ⌜ Meets (now (s .entry)) c (now (roles .entry)) (now (roles .exit)) (valueShown (now (s .entry)) r) (valueSaid r) (valueIf (c .row) (stream (now (s .entry)) c)) ⌝ }
+{
+    let row = c.row;
+    match peek(s, c) {
+        Peeked::Nothing => ValueStep::At(ValueAt::Absent, c),
+        Peeked::Group(_) => ValueStep::Refused(Refusal {
+            number: 20,
+            place: row,
+        }),
+        Peeked::Leaf(t) => {
+            if is_punct(t, b'=') {
+                let next = take_token(s, c, t, roles, 10);
+                return discriminant(s, next, roles);
+            }
+            if is_punct(t, b',') {
+                return ValueStep::At(ValueAt::Absent, c);
+            }
+            ValueStep::Refused(Refusal {
+                number: 20,
+                place: row,
+            })
+        }
+    }
+}
+
+pub enum NameStep {
+    At(Token, Cursor),
+    Refused(Refusal),
+}
+
+// A variant's attributes and name.
+pub fn variant_name(s: &[u8], c: Cursor, roles: &mut [u8]) -> NameStep
+    requires { ⌜ InList (now s) c ⌝ }
+    ensures { λ r. ⌜ Meets (now (s .entry)) c (now (roles .entry)) (now (roles .exit)) (nameShown (now (s .entry)) r) (nameSaid r) (variantName (c .row) (stream (now (s .entry)) c)) ⌝ }
+{
+    match attributes::try_take(s, c, roles) {
+        Step::Refused(r) => NameStep::Refused(r),
+        Step::At(d) => match consume_ident(s, d, roles, 15) {
+            MaybeWord::Missing => NameStep::Refused(wrong_token(s, d, 11)),
+            MaybeWord::Found(w) => {
+                let name = w.token;
+                let next = w.next;
+                NameStep::At(name, next)
+            }
+        },
+    }
+}
+
+// A variant's value and the `,` that may follow.
+pub fn variant_value(s: &[u8], c: Cursor, roles: &mut [u8]) -> ValueStep
+    requires { ⌜ InList (now s) c ⌝ }
+    ensures { λ r. ⌜ Meets (now (s .entry)) c (now (roles .entry)) (now (roles .exit)) (valueShown (now (s .entry)) r) (valueSaid r) (variantValue (c .row) (stream (now (s .entry)) c)) ⌝ }
+{
+    match value_if(s, c, roles) {
+        ValueStep::Refused(r) => ValueStep::Refused(r),
+        ValueStep::At(v, d) => {
+            let p = consume_punct_if(s, d, roles, b',', 10);
+            let next = p.next;
+            ValueStep::At(v, next)
+        }
+    }
+}
+
+pub fn variant_here(s: &[u8], c: Cursor, roles: &mut [u8]) -> VariantStep
+    requires { ⌜ InList (now s) c ⌝ }
+    ensures { λ r. ⌜ Meets (now (s .entry)) c (now (roles .entry)) (now (roles .exit)) (variantShown (now (s .entry)) r) (variantSaid r) (variantHere (c .row) (stream (now (s .entry)) c)) ⌝ }
+{
+    match variant_name(s, c, roles) {
+        NameStep::Refused(r) => VariantStep::Refused(r),
+        NameStep::At(name, d) => match variant_fields(s, d, roles) {
+            FieldsStep::Refused(r) => VariantStep::Refused(r),
+            FieldsStep::At(fields, e) => match variant_value(s, e, roles) {
+                ValueStep::Refused(r) => VariantStep::Refused(r),
+                ValueStep::At(value, next) => VariantStep::One(VariantAt {
+                    name,
+                    fields,
+                    value,
+                    next,
+                }),
+            },
+        },
+    }
+}
+
+// One variant, or the end.
+pub fn variant(s: &[u8], c: Cursor, roles: &mut [u8]) -> VariantStep
+    requires { ⌜ InList (now s) c ⌝ }
+    ensures { λ r. ⌜ Meets (now (s .entry)) c (now (roles .entry)) (now (roles .exit)) (variantShown (now (s .entry)) r) (variantSaid r) (variant (c .row) (stream (now (s .entry)) c)) ⌝ }
+{
+    match peek(s, c) {
+        Peeked::Nothing => VariantStep::Done(c),
+        Peeked::Leaf(_) => variant_here(s, c, roles),
+        Peeked::Group(_) => variant_here(s, c, roles),
+    }
+}
+
+pub fn variants(s: &[u8], from: Cursor, roles: &mut [u8]) -> Counted
+    requires { ⌜ InList (now s) from ⌝ }
+    ensures { λ r. ⌜ Meets (now (s .entry)) from (now (roles .entry)) (now (roles .exit)) (countShown r) (countSaid r) (every variant (from .row) (stream (now (s .entry)) from)) ⌝ }
+{
+    let mut c = from;
+    let mut count = 0;
+    loop {
+        match variant(s, c, roles) {
+            VariantStep::One(v) => {
+                c = v.next;
+                count += 1;
+            }
+            VariantStep::Done(d) => {
+                return Counted::At(d, count);
+            }
+            VariantStep::Refused(r) => {
+                return Counted::Refused(r);
+            }
+        }
+    }
+}
+
+// virtue's StructBody::take
+pub fn take_struct(s: &[u8], c: Cursor, roles: &mut [u8]) -> Counted
+    requires { ⌜ InList (now s) c ⌝ }
+    ensures { λ r. ⌜ Meets (now (s .entry)) c (now (roles .entry)) (now (roles .exit)) (bodyShown r) (countSaid r) (structBody (c .row) (stream (now (s .entry)) c)) ⌝ }
+{
+    let row = c.row;
+    match peek(s, c) {
+        Peeked::Nothing => Counted::Refused(Refusal {
+            number: 16,
+            place: END,
+        }),
+        Peeked::Leaf(t) => {
+            if !is_punct(t, b';') {
+                return Counted::Refused(Refusal {
+                    number: 16,
+                    place: row,
+                });
+            }
+            let next = take_token(s, c, t, roles, 14);
+            Counted::At(next, 0)
+        }
+        Peeked::Group(t) => {
+            let d = t.mark;
+            if d == b'{' {
+                return named_group(s, c, t, roles);
+            }
+            if d == b'(' {
+                return tuple_group(s, c, t, roles);
+            }
+            Counted::Refused(Refusal {
+                number: 17,
+                place: row,
+            })
+        }
+    }
+}
+
+// virtue's EnumBody::take
+pub fn take_enum(s: &[u8], c: Cursor, roles: &mut [u8]) -> Counted
+    requires { ⌜ InList (now s) c ⌝ }
+    ensures { λ r. ⌜ Meets (now (s .entry)) c (now (roles .entry)) (now (roles .exit)) (bodyShown r) (countSaid r) (enumBody (c .row) (stream (now (s .entry)) c)) ⌝ }
+{
+    let row = c.row;
+    match peek(s, c) {
+        Peeked::Nothing => Counted::Refused(Refusal {
+            number: 18,
+            place: END,
+        }),
+        Peeked::Leaf(t) => {
+            if !is_punct(t, b';') {
+                return Counted::Refused(Refusal {
+                    number: 18,
+                    place: row,
+                });
+            }
+            let next = take_token(s, c, t, roles, 14);
+            Counted::At(next, 0)
+        }
+        Peeked::Group(t) => variants_group(s, c, t, roles),
+    }
+}
