@@ -19,9 +19,12 @@ use Rattle.token_list.proofs.Texts.{and-both, and-fails, and-last, slice-next, 
 use Rattle.parse.specs.Took.{Took, took, refuse, Reader, onward, after, pure, _>>=_}
 use Rattle.parse.specs.Reading.{Maybe, one, comma, punctIf, closing, worth, worthFrom}
 use Rattle.parse.specs.Token.{negatable}
-use Rattle.parse.specs.Contract.{Moved, Said, on, no, Meets, stands, refuses, stream, pastOf}
+use Rattle.parse.specs.Contract.{Moved, Said, on, no, Meets, stands, refuses, stream, pastOf, Inside, InsideAt, countShown, bodyShown}
+use Rattle.parse.specs.Declaration.{Field, named, tuple, Variant, fields, variants}
+use Rattle.parse.specs.declared.generics.Counted.{Counted}
+use Rattle.parse.specs.declared.generics.Counted.the-variants as counts
 use Rattle.parse.proofs.Buffer.{sets-append}
-use Rattle.parse.proofs.Meeting.{past-fits}
+use Rattle.parse.proofs.Meeting.{past-fits, past-in-of, meets-as}
 use Rattle.parse.proofs.Conserved.{Ended, ended-at}
 
 -- ## A value, and the `,` that may follow it
@@ -40,9 +43,9 @@ comma-as row (refuse n p) g = refl
 -- ## The inside of a group
 
 pub closing-map : {A B : Type 0} {s : List ℕ} {c : Cursor} {b0 b1 : List ℕ} {sh : A → Type 0} {sh2 : B → Type 0} {x : Said} (us : Trees) (row : ℕ) (t : Took A) (f : A → B)
-  → ((a : A) → sh a → sh2 (f a)) → Meets s c b0 b1 sh x (closing us t) → Meets s c b0 b1 sh2 x (closing us (after row t (λ a. pure (f a))))
+  → ((a : A) (rs : List ℕ) (rest : Trees) → t ≡ took a rs rest → sh a → sh2 (f a)) → Meets s c b0 b1 sh x (closing us t) → Meets s c b0 b1 sh2 x (closing us (after row t (λ a. pure (f a))))
 closing-map {s = s} {c} {b0} {b1} {sh2 = sh2} us row (took a rs rest) f g (stands {d = d} m h) =
-    subst⁻¹ (λ (qs : List ℕ). Meets s c b0 b1 sh2 (on d) (took (f a) (14 ∷ qs ++ 14 ∷ []) us)) (append-nil rs) (stands m (g a h))
+    subst⁻¹ (λ (qs : List ℕ). Meets s c b0 b1 sh2 (on d) (took (f a) (14 ∷ qs ++ 14 ∷ []) us)) (append-nil rs) (stands m (g a rs rest refl h))
 closing-map us row (refuse n p) f g refuses = refuses
 
 module _ (s : List ℕ) (c inside : Cursor) (t : Token) (i : InList s c) (g : GroupAt s (c .at) t) (b0 b1 : List ℕ) (p : inside ≡ pastOf c t) (w : b1 ≡ set b0 (c .row) 14) where
@@ -52,10 +55,10 @@ module _ (s : List ℕ) (c inside : Cursor) (t : Token) (i : InList s c) (g : Gr
   pub closing-follows : {A : Type 0} {d : Cursor} {b2 : List ℕ} {sh : A → Type 0} {x : Took A} → Meets s inside b1 b2 sh (on d) x → follows (at s (d .at) .outer) ≡ true
   closing-follows (stands m h) = ap follows (m .outer ∙ inside-outer)
 
-  pub closing-refused : {A : Type 0} {b2 : List ℕ} {sh sh2 : A → Type 0} {n q : ℕ} {x : Took A} (us : Trees) → Meets s inside b1 b2 sh (no n q) x → Meets s c b0 b2 sh2 (no n q) (closing us x)
+  closing-refused : {A : Type 0} {b2 : List ℕ} {sh sh2 : A → Type 0} {n q : ℕ} {x : Took A} (us : Trees) → Meets s inside b1 b2 sh (no n q) x → Meets s c b0 b2 sh2 (no n q) (closing us x)
   closing-refused us refuses = refuses
 
-  pub meets-closing : {A : Type 0} {b2 b3 : List ℕ} {sh : A → Type 0} {d e : Cursor} {x : Took A} → Meets s inside b1 b2 sh (on d) x → Ended x → b3 ≡ set b2 (d .row) 14 → Skipped s d e
+  meets-closing : {A : Type 0} {b2 b3 : List ℕ} {sh : A → Type 0} {d e : Cursor} {x : Took A} → Meets s inside b1 b2 sh (on d) x → Ended x → b3 ≡ set b2 (d .row) 14 → Skipped s d e
     → Meets s c b0 b3 sh (on e) (closing (head (at s (t .next) .outer)) x)
   meets-closing {b2 = b2} {b3 = b3} {sh = sh} {d = d} {e = e} (stands {rs = rs} {us = us} m h) z q k =
       let o : at s (e .at) .here ∷ at s (e .at) .outer ≡ g .after ∷ at s (c .at) .outer = sym (k .streams) ∙ m .outer ∙ inside-outer in
@@ -79,6 +82,18 @@ module _ (s : List ℕ) (c inside : Cursor) (t : Token) (i : InList s c) (g : Gr
             ∙ sym (sets-append (set b0 (c .row) 14) (suc (c .row)) rs (14 ∷ []))
         })
       h
+
+  -- a reader of the whole inside
+  module _ {A : Type 0} (m : Reader A) where
+    read-inside : {b2 : List ℕ} {sh : A → Type 0} {x : Said} → Meets s inside b1 b2 sh x (m (inside .row) (stream s inside)) → Meets s inside b1 b2 sh x (m (c .row + 1) (at s (t .next) .here))
+    read-inside y = meets-as (ap (λ (z : Cursor). m (z .row) (stream s z)) (sym p)) y
+
+    pub group-closed : ((row : ℕ) (ts : Trees) → Ended (m row ts)) → {b2 b3 : List ℕ} {sh : A → Type 0} {d e : Cursor} → Meets s inside b1 b2 sh (on d) (m (inside .row) (stream s inside))
+      → b3 ≡ set b2 (d .row) 14 → Skipped s d e → Meets s c b0 b3 sh (on e) (Inside m s c t)
+    group-closed f y q k = meets-closing (read-inside y) (f (c .row + 1) (at s (t .next) .here)) q k
+
+    pub group-refused : {b2 : List ℕ} {sh sh2 : A → Type 0} {n q : ℕ} → Meets s inside b1 b2 sh (no n q) (m (inside .row) (stream s inside)) → Meets s c b0 b2 sh2 (no n q) (Inside m s c t)
+    group-refused y = closing-refused _ (read-inside y)
 
 -- ## Digits, worth at most the largest i64
 
@@ -118,3 +133,23 @@ module _ (s : List ℕ) (i e : ℕ) (fits : e ≤ length s) (h : i < e) (n : ℕ
 
 pub digits-end : (s : List ℕ) (i e n : ℕ) → e ≤ i → Negatable n (slice i e s) ≡ leb n LIMIT
 digits-end s i e n h = ap (Negatable n) (slice-none s i e h)
+
+-- ## What a count tells of a body
+
+pub count-named : (r : Counted) (fs : List Field) → countShown r fs → bodyShown r (fields (named fs))
+count-named (counts.At d n) fs h = h
+count-named (counts.Refused r) fs h = h
+
+pub count-tuple : (r : Counted) (ts : List Trees) → countShown r ts → bodyShown r (fields (tuple ts))
+count-tuple (counts.At d n) ts h = h
+count-tuple (counts.Refused r) ts h = h
+
+pub count-variants : (r : Counted) (vs : List Variant) → countShown r vs → bodyShown r (variants vs)
+count-variants (counts.At d n) vs h = h
+count-variants (counts.Refused r) vs h = h
+
+-- a group's inside, where the reader may read it again
+pub inside-at : {A : Type 0} (m : Reader A) (s : List ℕ) (c d : Cursor) (t : Token) → InList s c → TokenAt s (c .at) t → d ≡ pastOf c t → {a : A} {rs : List ℕ} {rest : Trees}
+  → m (c .row + 1) (at s (t .next) .here) ≡ took a rs rest → InsideAt m s d a
+inside-at m s c d t i k p {a} {rs} {rest} e =
+    record { inList = past-in-of s c d t p i k; roles = rs; rest = rest; gives = ap (λ (z : Cursor). m (z .row) (stream s z)) p ∙ e }

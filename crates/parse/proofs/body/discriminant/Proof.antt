@@ -1,72 +1,60 @@
+use Rattle.parse.proofs.Meeting as meeting
+use Rattle.parse.specs.Contract as contract
+use Rattle.parse.specs.Reading as reading
+use Rattle.token_list.proofs.Texts.{chosen, passed-over, and-last, and-fails}
+use Rattle.token_list.specs.Contract.{InList}
+use borrow.Author.Tests.{eq-eqb, ne-eqb, not-true, not-false}
+use native.Mathlib.Omega.{arith}
+use mathlib.Core.Bool.{true, false}
+use mathlib.Core.Path.{_≡_, refl, sym, _∙_, ap, subst, subst⁻¹}
 use borrow.Author.Needs.{needs}
 use Rattle.parse.proofs.body.discriminant.Statement.{statement}
 use Rattle.parse.proofs.body.discriminant.Tie as tie
-use Rattle.parse.proofs.body.discriminant.Reads as reads
-use Rattle.parse.proofs.body.discriminant.Lts as lts
-use Rattle.parse.proofs.body.negative_value.Reads as negative-value-reads
-use Rattle.parse.proofs.utils.is_punct.Reads as is-punct-reads
-use Rattle.parse.proofs.utils.take_token.Reads as take-token-reads
-use Rattle.token_list.proofs.stream.peek.Reads as peek-reads
 
--- src/body.rt:404:11
 peek-requires : tie.Need-peek-requires
 peek-requires c κs = search needs
 
--- src/body.rt:405:47
 enum-told : tie.Need-enum-told
 enum-told c = search needs
 
--- src/body.rt:409:48
 enum-told-2 : tie.Need-enum-told-2
 enum-told-2 c = search needs
 
--- src/body.rt:413:22
 enum-known-t : tie.Need-enum-known-t
 enum-known-t c = search needs
 
--- src/body.rt:415:21
 take-token-requires : tie.Need-take-token-requires
-take-token-requires c κs = ?
+take-token-requires c κs = ((c .before .before .before .before .before .before .before .before .before .pre), (meeting.peeked _ _ ((c .before .before .before .before .before .before .peek) .ensures) ((c .before .before .before .before .t) .given .1)) .token)
 
--- src/body.rt:416:17
 same-length : tie.Need-same-length
 same-length c = search needs
 
--- src/body.rt:416:17
 returns : tie.Need-returns
-returns c = ?
+returns c = meeting.meets-leaf reading.discriminant _ _ (c .before .before .before .before .before .before .before .before .before .before .before .before .pre) _ _ (meeting.peeked _ _ ((c .before .before .before .before .before .before .before .before .before .peek) .ensures) ((c .before .before .before .before .before .before .before .t) .given .1)) _ _ _ _ ((c .before .before .take-token) .ensures .0) ((c .before .before .take-token) .ensures .1) _ (chosen _ _ _ (eq-eqb _ _ ((c .before .before .before .before .if1) .taken))) (_, record { bytes = refl; within = meeting.token-within _ _ _ ((meeting.peeked _ _ ((c .before .before .before .before .before .before .before .before .before .peek) .ensures) ((c .before .before .before .before .before .before .before .t) .given .1)) .token) }, refl)
 
--- src/body.rt:418:16
 is-punct-requires : tie.Need-is-punct-requires
 is-punct-requires c κs = search needs
 
--- src/body.rt:419:21
 take-token-requires-2 : tie.Need-take-token-requires-2
-take-token-requires-2 c κs = ?
+take-token-requires-2 c κs = ((c .before .before .before .before .before .before .before .before .before .before .before .pre), (meeting.peeked _ _ ((c .before .before .before .before .before .before .before .before .peek) .ensures) ((c .before .before .before .before .before .before .t) .given .1)) .token)
 
--- src/body.rt:420:17
 negative-value-requires : tie.Need-negative-value-requires
-negative-value-requires c κs = ?
+negative-value-requires c κs = meeting.past-in-of _ _ _ _ ((c .before .before .before .take-token2) .ensures .0) (c .before .before .before .before .before .before .before .before .before .before .before .before .before .before .before .pre) ((meeting.peeked _ _ ((c .before .before .before .before .before .before .before .before .before .before .before .before .peek) .ensures) ((c .before .before .before .before .before .before .before .before .before .before .t) .given .1)) .token)
 
--- src/body.rt:420:17
 same-length-2 : tie.Need-same-length-2
 same-length-2 c = search needs
 
--- src/body.rt:420:17
 returns-2 : tie.Need-returns-2
-returns-2 c = ?
+returns-2 c = meeting.meets-from reading.discriminant _ _ (c .before .before .before .before .before .before .before .before .before .before .before .before .before .before .before .before .before .before .pre) _ _ (meeting.peeked _ _ ((c .before .before .before .before .before .before .before .before .before .before .before .before .before .before .before .peek) .ensures) ((c .before .before .before .before .before .before .before .before .before .before .before .before .before .t) .given .1)) _ _ _ _ ((c .before .before .before .before .before .before .take-token2) .ensures .0) ((c .before .before .before .before .before .before .take-token2) .ensures .1) _ _ reading.negativeValue (passed-over _ _ _ (ne-eqb _ _ ((c .before .before .before .before .before .before .before .before .before .before .if1) .left)) ∙ chosen _ _ _ (meeting.punct-of _ _ _ _ ((meeting.peeked _ _ ((c .before .before .before .before .before .before .before .before .before .before .before .before .before .before .before .peek) .ensures) ((c .before .before .before .before .before .before .before .before .before .before .before .before .before .t) .given .1)) .token) ∙ sym ((c .before .before .before .before .before .before .before .before .before .is-punct) .ensures) ∙ (c .before .before .before .before .before .before .before .before .if2) .taken)) ((c .before .before .negative-value) .ensures)
 
--- src/body.rt:399:1
 returns-3 : tie.Need-returns-3
-returns-3 c = ?
+returns-3 c = meeting.meets-refused reading.discriminant _ _ (c .before .before .before .before .before .pre) _ _ _ _ _ _ (meeting.peeked _ _ ((c .before .before .peek) .ensures) ((c .enum-told) .given .1)) refl
 
--- src/body.rt:399:1
 returns-4 : tie.Need-returns-4
-returns-4 c = ?
+returns-4 c = meeting.meets-refused reading.discriminant _ _ (c .before .before .before .before .before .pre) _ _ _ _ _ _ ((meeting.peeked _ _ ((c .before .before .peek) .ensures) ((c .enum-told2) .given .1)) .here) refl
 
--- src/body.rt:399:1
 returns-5 : tie.Need-returns-5
-returns-5 c = ?
+returns-5 c = meeting.meets-refused reading.discriminant _ _ (c .before .before .before .before .before .before .before .before .before .before .pre) _ _ _ _ _ _ ((meeting.peeked _ _ ((c .before .before .before .before .before .before .before .peek) .ensures) ((c .before .before .before .before .before .t) .given .1)) .here) (passed-over _ _ _ (ne-eqb _ _ ((c .before .before .if1) .left)) ∙ passed-over _ _ _ (meeting.punct-of _ _ _ _ ((meeting.peeked _ _ ((c .before .before .before .before .before .before .before .peek) .ensures) ((c .before .before .before .before .before .t) .given .1)) .token) ∙ sym ((c .before .is-punct) .ensures) ∙ (c .if2) .left))
 
 pub discriminant-spec : {M : Type 1} → statement M
 discriminant-spec =

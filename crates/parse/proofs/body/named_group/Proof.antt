@@ -1,47 +1,44 @@
+use Rattle.parse.proofs.Bodies as bodies
+use Rattle.parse.proofs.Conserved as conserved
+use Rattle.parse.proofs.Meeting as meeting
+use Rattle.parse.specs.Contract as contract
+use Rattle.parse.specs.Reading as reading
+use Rattle.token_list.proofs.Texts.{chosen, passed-over, and-last, and-fails}
+use Rattle.token_list.specs.Contract.{InList}
+use borrow.Author.Tests.{eq-eqb, ne-eqb, not-true, not-false}
+use native.Mathlib.Omega.{arith}
+use mathlib.Core.Bool.{true, false}
+use mathlib.Core.Path.{_≡_, refl, sym, _∙_, ap, subst, subst⁻¹}
 use borrow.Author.Needs.{needs}
 use Rattle.parse.proofs.body.named_group.Statement.{statement}
 use Rattle.parse.proofs.body.named_group.Tie as tie
-use Rattle.parse.proofs.body.named_group.Reads as reads
-use Rattle.parse.proofs.body.named_group.Lts as lts
-use Rattle.parse.proofs.body.close_group.Reads as close-group-reads
-use Rattle.parse.proofs.body.parse_with_name.Reads as parse-with-name-reads
-use Rattle.parse.proofs.utils.take_token.Reads as take-token-reads
 
--- src/body.rt:263:9
 take-token-requires : tie.Need-take-token-requires
 take-token-requires c κs = search needs
 
--- src/body.rt:264:11
 parse-with-name-requires : tie.Need-parse-with-name-requires
-parse-with-name-requires c κs = ?
+parse-with-name-requires c κs = meeting.past-in-of _ _ _ _ ((c .before .before .before .take-token) .ensures .0) ((c .before .before .before .before .before .before .before .pre) .0) ((c .before .before .before .before .before .before .before .pre) .1 .token)
 
--- src/body.rt:265:26
 enum-known-r : tie.Need-enum-known-r
 enum-known-r c = search needs
 
--- src/body.rt:266:21
 enum-known-d : tie.Need-enum-known-d
 enum-known-d c = search needs
 
--- src/body.rt:267:17
 close-group-requires : tie.Need-close-group-requires
-close-group-requires c κs = ?
+close-group-requires c κs = (meeting.landed (meeting.say contract.countShown contract.countSaid ((c .before .before .d) .given .1) ((c .before .before .before .before .before .before .parse-with-name) .ensures)), bodies.closing-follows _ _ _ _ ((c .before .before .before .before .before .before .before .before .before .before .before .before .before .before .pre) .0) ((c .before .before .before .before .before .before .before .before .before .before .before .before .before .before .pre) .1) ((c .before .before .before .before .before .before .before .before .before .before .before .before .before .before .args) .roles .now) _ ((c .before .before .before .before .before .before .before .before .before .before .take-token) .ensures .0) ((c .before .before .before .before .before .before .before .before .before .before .take-token) .ensures .1) (meeting.say contract.countShown contract.countSaid ((c .before .before .d) .given .1) ((c .before .before .before .before .before .before .parse-with-name) .ensures)))
 
--- src/body.rt:258:1
 same-length : tie.Need-same-length
 same-length c = search needs
 
--- src/body.rt:258:1
 returns : tie.Need-returns
-returns c = ?
+returns c = bodies.group-refused _ _ _ _ ((c .before .before .before .before .before .before .before .before .before .before .before .before .before .pre) .0) ((c .before .before .before .before .before .before .before .before .before .before .before .before .before .pre) .1) ((c .before .before .before .before .before .before .before .before .before .before .before .before .before .args) .roles .now) _ ((c .before .before .before .before .before .before .before .before .before .take-token) .ensures .0) ((c .before .before .before .before .before .before .before .before .before .take-token) .ensures .1) (reading.every reading.namedField) (meeting.say contract.countShown contract.countSaid ((c .before .r) .given .1) ((c .before .before .before .before .before .parse-with-name) .ensures))
 
--- src/body.rt:258:1
 same-length-2 : tie.Need-same-length-2
 same-length-2 c = search needs
 
--- src/body.rt:258:1
 returns-2 : tie.Need-returns-2
-returns-2 c = ?
+returns-2 c = bodies.group-closed _ _ _ _ ((c .before .before .before .before .before .before .before .before .before .before .before .before .before .before .before .before .before .pre) .0) ((c .before .before .before .before .before .before .before .before .before .before .before .before .before .before .before .before .before .pre) .1) ((c .before .before .before .before .before .before .before .before .before .before .before .before .before .before .before .before .before .args) .roles .now) _ ((c .before .before .before .before .before .before .before .before .before .before .before .before .before .take-token) .ensures .0) ((c .before .before .before .before .before .before .before .before .before .before .before .before .before .take-token) .ensures .1) (reading.every reading.namedField) (conserved.every-ended reading.namedField conserved.namedField-last) (meeting.say contract.countShown contract.countSaid ((c .before .before .before .before .before .d) .given .1) ((c .before .before .before .before .before .before .before .before .before .parse-with-name) .ensures)) ((c .before .before .close-group) .ensures .1) ((c .before .before .close-group) .ensures .0)
 
 pub named-group-spec : {M : Type 1} → statement M
 named-group-spec =

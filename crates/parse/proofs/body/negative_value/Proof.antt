@@ -1,59 +1,51 @@
+use Rattle.parse.proofs.Meeting as meeting
+use Rattle.parse.specs.Contract as contract
+use Rattle.parse.specs.Reading as reading
+use Rattle.token_list.proofs.Texts.{chosen, passed-over, and-last, and-fails}
+use Rattle.token_list.specs.Contract.{InList}
+use borrow.Author.Tests.{eq-eqb, ne-eqb, not-true, not-false}
+use native.Mathlib.Omega.{arith}
+use mathlib.Core.Bool.{true, false}
+use mathlib.Core.Path.{_≡_, refl, sym, _∙_, ap, subst, subst⁻¹}
 use borrow.Author.Needs.{needs}
 use Rattle.parse.proofs.body.negative_value.Statement.{statement}
 use Rattle.parse.proofs.body.negative_value.Tie as tie
-use Rattle.parse.proofs.body.negative_value.Reads as reads
-use Rattle.parse.proofs.body.negative_value.Lts as lts
-use Rattle.parse.proofs.body.is_negatable.Reads as is-negatable-reads
-use Rattle.parse.proofs.utils.take_token.Reads as take-token-reads
-use Rattle.token_list.proofs.stream.peek.Reads as peek-reads
 
--- src/body.rt:368:11
 peek-requires : tie.Need-peek-requires
 peek-requires c κs = search needs
 
--- src/body.rt:369:47
 enum-told : tie.Need-enum-told
 enum-told c = search needs
 
--- src/body.rt:373:48
 enum-told-2 : tie.Need-enum-told-2
 enum-told-2 c = search needs
 
--- src/body.rt:377:22
 enum-known-t : tie.Need-enum-known-t
 enum-known-t c = search needs
 
--- src/body.rt:379:17
 returns : tie.Need-returns
-returns c = ?
+returns c = meeting.meets-refused reading.negativeValue _ _ (c .before .before .before .before .before .before .before .before .pre) _ _ _ _ _ _ ((meeting.peeked _ _ ((c .before .before .before .before .before .peek) .ensures) ((c .before .before .before .t) .given .1)) .here) (passed-over _ _ _ (ne-eqb _ _ ((c .if1) .taken)))
 
--- src/body.rt:386:17
 is-negatable-requires : tie.Need-is-negatable-requires
-is-negatable-requires c κs = ?
+is-negatable-requires c κs = meeting.token-within _ _ _ ((meeting.peeked _ _ ((c .before .before .before .before .before .peek) .ensures) ((c .before .before .before .t) .given .1)) .token)
 
--- src/body.rt:387:17
 returns-2 : tie.Need-returns-2
-returns-2 c = ?
+returns-2 c = meeting.meets-refused reading.negativeValue _ _ (c .before .before .before .before .before .before .before .before .before .before .pre) _ _ _ _ _ _ ((meeting.peeked _ _ ((c .before .before .before .before .before .before .before .peek) .ensures) ((c .before .before .before .before .before .t) .given .1)) .here) (chosen _ _ _ (eq-eqb _ _ ((c .before .before .if1) .left)) ∙ passed-over _ _ _ (sym ((c .before .is-negatable) .ensures) ∙ not-true _ ((c .if2) .taken)))
 
--- src/body.rt:392:17
 take-token-requires : tie.Need-take-token-requires
-take-token-requires c κs = ?
+take-token-requires c κs = ((c .before .before .before .before .before .before .before .before .before .before .before .pre), (meeting.peeked _ _ ((c .before .before .before .before .before .before .before .before .peek) .ensures) ((c .before .before .before .before .before .before .t) .given .1)) .token)
 
--- src/body.rt:363:1
 returns-3 : tie.Need-returns-3
-returns-3 c = ?
+returns-3 c = meeting.meets-refused reading.negativeValue _ _ (c .before .before .before .before .before .pre) _ _ _ _ _ _ (meeting.peeked _ _ ((c .before .before .peek) .ensures) ((c .enum-told) .given .1)) refl
 
--- src/body.rt:363:1
 returns-4 : tie.Need-returns-4
-returns-4 c = ?
+returns-4 c = meeting.meets-refused reading.negativeValue _ _ (c .before .before .before .before .before .pre) _ _ _ _ _ _ ((meeting.peeked _ _ ((c .before .before .peek) .ensures) ((c .enum-told2) .given .1)) .here) refl
 
--- src/body.rt:363:1
 same-length : tie.Need-same-length
 same-length c = search needs
 
--- src/body.rt:363:1
 returns-5 : tie.Need-returns-5
-returns-5 c = ?
+returns-5 c = meeting.meets-leaf reading.negativeValue _ _ (c .before .before .before .before .before .before .before .before .before .before .before .before .before .before .pre) _ _ (meeting.peeked _ _ ((c .before .before .before .before .before .before .before .before .before .before .before .peek) .ensures) ((c .before .before .before .before .before .before .before .before .before .t) .given .1)) _ _ _ _ ((c .before .before .take-token) .ensures .0) ((c .before .before .take-token) .ensures .1) _ (chosen _ _ _ (eq-eqb _ _ ((c .before .before .before .before .before .before .if1) .left)) ∙ chosen _ _ _ (sym ((c .before .before .before .before .before .is-negatable) .ensures) ∙ not-false _ ((c .before .before .before .before .if2) .left))) (_, record { bytes = refl; within = meeting.token-within _ _ _ ((meeting.peeked _ _ ((c .before .before .before .before .before .before .before .before .before .before .before .peek) .ensures) ((c .before .before .before .before .before .before .before .before .before .t) .given .1)) .token) }, sym ((c .before .before .before .before .before .is-negatable) .ensures) ∙ not-false _ ((c .before .before .before .before .if2) .left), refl)
 
 pub negative-value-spec : {M : Type 1} → statement M
 negative-value-spec =

@@ -1,81 +1,70 @@
+use Rattle.parse.proofs.Bodies as bodies
+use Rattle.parse.specs.Declaration.{fields, named, tuple}
+use Rattle.token_list.specs.Stream.{at}
+use Prim.Native.Nat.{_+_}
+use Rattle.parse.proofs.Meeting as meeting
+use Rattle.parse.specs.Contract as contract
+use Rattle.parse.specs.Reading as reading
+use Rattle.token_list.proofs.Texts.{chosen, passed-over, and-last, and-fails}
+use Rattle.token_list.specs.Contract.{InList}
+use borrow.Author.Tests.{eq-eqb, ne-eqb, not-true, not-false}
+use native.Mathlib.Omega.{arith}
+use mathlib.Core.Bool.{true, false}
+use mathlib.Core.Path.{_≡_, refl, sym, _∙_, ap, subst, subst⁻¹}
 use borrow.Author.Needs.{needs}
 use Rattle.parse.proofs.body.take_struct.Statement.{statement}
 use Rattle.parse.proofs.body.take_struct.Tie as tie
-use Rattle.parse.proofs.body.take_struct.Reads as reads
-use Rattle.parse.proofs.body.take_struct.Lts as lts
-use Rattle.parse.proofs.body.named_group.Reads as named-group-reads
-use Rattle.parse.proofs.body.tuple_group.Reads as tuple-group-reads
-use Rattle.parse.proofs.utils.is_punct.Reads as is-punct-reads
-use Rattle.parse.proofs.utils.take_token.Reads as take-token-reads
-use Rattle.token_list.proofs.stream.peek.Reads as peek-reads
 
--- src/body.rt:557:11
 peek-requires : tie.Need-peek-requires
 peek-requires c κs = search needs
 
--- src/body.rt:558:45
 enum-told : tie.Need-enum-told
 enum-told c = search needs
 
--- src/body.rt:562:22
 enum-known-t : tie.Need-enum-known-t
 enum-known-t c = search needs
 
--- src/body.rt:563:17
 is-punct-requires : tie.Need-is-punct-requires
 is-punct-requires c κs = search needs
 
--- src/body.rt:564:17
 returns : tie.Need-returns
-returns c = ?
+returns c = meeting.meets-refused reading.structBody _ _ (c .before .before .before .before .before .before .before .before .pre) _ _ _ _ _ _ ((meeting.peeked _ _ ((c .before .before .before .before .before .peek) .ensures) ((c .before .before .before .t) .given .1)) .here) (passed-over _ _ _ (meeting.punct-of _ _ _ _ ((meeting.peeked _ _ ((c .before .before .before .before .before .peek) .ensures) ((c .before .before .before .t) .given .1)) .token) ∙ sym ((c .before .is-punct) .ensures) ∙ not-true _ ((c .if1) .taken)))
 
--- src/body.rt:569:17
 take-token-requires : tie.Need-take-token-requires
-take-token-requires c κs = ?
+take-token-requires c κs = ((c .before .before .before .before .before .before .before .before .before .pre), (meeting.peeked _ _ ((c .before .before .before .before .before .before .peek) .ensures) ((c .before .before .before .before .t) .given .1)) .token)
 
--- src/body.rt:572:23
 enum-known-t-2 : tie.Need-enum-known-t-2
 enum-known-t-2 c = search needs
 
--- src/body.rt:575:17
 named-group-requires : tie.Need-named-group-requires
-named-group-requires c κs = ?
+named-group-requires c κs = ((c .before .before .before .before .before .before .before .before .pre), (meeting.peeked _ _ ((c .before .before .before .before .before .peek) .ensures) ((c .before .before .before .t2) .given .1)))
 
--- src/body.rt:575:17
 same-length : tie.Need-same-length
 same-length c = search needs
 
--- src/body.rt:575:17
 returns-2 : tie.Need-returns-2
-returns-2 c = ?
+returns-2 c = meeting.meets-as (ap (reading.structBody ((c .before .before .before .before .before .before .before .before .before .before .before .args) .c .row)) (meeting.group-stream _ _ _ (c .before .before .before .before .before .before .before .before .before .before .before .pre) (meeting.peeked _ _ ((c .before .before .before .before .before .before .before .before .peek) .ensures) ((c .before .before .before .before .before .before .t2) .given .1))) ∙ chosen _ _ _ (eq-eqb _ _ ((c .before .before .before .before .if2) .taken))) (bodies.closing-map _ _ (reading.namedFields (((c .before .before .before .before .before .before .before .before .before .before .before .args) .c .row) + 1) (at ((c .before .before .before .before .before .before .before .before .before .before .before .args) .s .now) ((c .before .before .before .before .before .before .t2) .given .0 .0 .next) .here)) fields (λ f rs rest e h. h) (bodies.closing-map _ _ (reading.every reading.namedField (((c .before .before .before .before .before .before .before .before .before .before .before .args) .c .row) + 1) (at ((c .before .before .before .before .before .before .before .before .before .before .before .args) .s .now) ((c .before .before .before .before .before .before .t2) .given .0 .0 .next) .here)) named (λ fs rs rest e h. bodies.count-named ((c .before .before .named-group) .result) fs h) ((c .before .before .named-group) .ensures)))
 
--- src/body.rt:578:17
 tuple-group-requires : tie.Need-tuple-group-requires
-tuple-group-requires c κs = ?
+tuple-group-requires c κs = ((c .before .before .before .before .before .before .before .before .before .pre), (meeting.peeked _ _ ((c .before .before .before .before .before .before .peek) .ensures) ((c .before .before .before .before .t2) .given .1)))
 
--- src/body.rt:578:17
 same-length-2 : tie.Need-same-length-2
 same-length-2 c = search needs
 
--- src/body.rt:578:17
 returns-3 : tie.Need-returns-3
-returns-3 c = ?
+returns-3 c = meeting.meets-as (ap (reading.structBody ((c .before .before .before .before .before .before .before .before .before .before .before .before .args) .c .row)) (meeting.group-stream _ _ _ (c .before .before .before .before .before .before .before .before .before .before .before .before .pre) (meeting.peeked _ _ ((c .before .before .before .before .before .before .before .before .before .peek) .ensures) ((c .before .before .before .before .before .before .before .t2) .given .1))) ∙ passed-over _ _ _ (ne-eqb _ _ ((c .before .before .before .before .before .if2) .left)) ∙ chosen _ _ _ (eq-eqb _ _ ((c .before .before .before .before .if3) .taken))) (bodies.closing-map _ _ (reading.tupleFields (((c .before .before .before .before .before .before .before .before .before .before .before .before .args) .c .row) + 1) (at ((c .before .before .before .before .before .before .before .before .before .before .before .before .args) .s .now) ((c .before .before .before .before .before .before .before .t2) .given .0 .0 .next) .here)) fields (λ f rs rest e h. h) (bodies.closing-map _ _ (reading.every reading.tupleField (((c .before .before .before .before .before .before .before .before .before .before .before .before .args) .c .row) + 1) (at ((c .before .before .before .before .before .before .before .before .before .before .before .before .args) .s .now) ((c .before .before .before .before .before .before .before .t2) .given .0 .0 .next) .here)) tuple (λ fs rs rest e h. bodies.count-tuple ((c .before .before .tuple-group) .result) fs h) ((c .before .before .tuple-group) .ensures)))
 
--- src/body.rt:552:1
 returns-4 : tie.Need-returns-4
-returns-4 c = ?
+returns-4 c = meeting.meets-refused reading.structBody _ _ (c .before .before .before .before .before .pre) _ _ _ _ _ _ (meeting.peeked _ _ ((c .before .before .peek) .ensures) ((c .enum-told) .given .1)) refl
 
--- src/body.rt:552:1
 same-length-3 : tie.Need-same-length-3
 same-length-3 c = search needs
 
--- src/body.rt:552:1
 returns-5 : tie.Need-returns-5
-returns-5 c = ?
+returns-5 c = meeting.meets-leaf reading.structBody _ _ (c .before .before .before .before .before .before .before .before .before .before .before .before .pre) _ _ (meeting.peeked _ _ ((c .before .before .before .before .before .before .before .before .before .peek) .ensures) ((c .before .before .before .before .before .before .before .t) .given .1)) _ _ _ _ ((c .before .before .take-token) .ensures .0) ((c .before .before .take-token) .ensures .1) _ (chosen _ _ _ (meeting.punct-of _ _ _ _ ((meeting.peeked _ _ ((c .before .before .before .before .before .before .before .before .before .peek) .ensures) ((c .before .before .before .before .before .before .before .t) .given .1)) .token) ∙ sym ((c .before .before .before .before .before .is-punct) .ensures) ∙ not-false _ ((c .before .before .before .before .if1) .left))) refl
 
--- src/body.rt:552:1
 returns-6 : tie.Need-returns-6
-returns-6 c = ?
+returns-6 c = meeting.meets-refused reading.structBody _ _ (c .before .before .before .before .before .before .before .before .pre) _ _ _ _ _ _ (meeting.group-stream _ _ _ (c .before .before .before .before .before .before .before .before .pre) (meeting.peeked _ _ ((c .before .before .before .before .before .peek) .ensures) ((c .before .before .before .t2) .given .1))) (passed-over _ _ _ (ne-eqb _ _ ((c .before .if2) .left)) ∙ passed-over _ _ _ (ne-eqb _ _ ((c .if3) .left)))
 
 pub take-struct-spec : {M : Type 1} → statement M
 take-struct-spec =

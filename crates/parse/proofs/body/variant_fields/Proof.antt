@@ -1,100 +1,85 @@
+use Rattle.parse.proofs.Bodies as bodies
+use Rattle.parse.specs.Declaration.{named, tuple}
+use Rattle.token_list.specs.Stream.{at}
+use Prim.Native.Nat.{_+_}
+use Rattle.parse.proofs.Meeting as meeting
+use Rattle.parse.specs.Contract as contract
+use Rattle.parse.specs.Reading as reading
+use Rattle.token_list.proofs.Texts.{chosen, passed-over, and-last, and-fails}
+use Rattle.token_list.specs.Contract.{InList}
+use borrow.Author.Tests.{eq-eqb, ne-eqb, not-true, not-false}
+use native.Mathlib.Omega.{arith}
+use mathlib.Core.Bool.{true, false}
+use mathlib.Core.Path.{_≡_, refl, sym, _∙_, ap, subst, subst⁻¹}
 use borrow.Author.Needs.{needs}
 use Rattle.parse.proofs.body.variant_fields.Statement.{statement}
 use Rattle.parse.proofs.body.variant_fields.Tie as tie
-use Rattle.parse.proofs.body.variant_fields.Reads as reads
-use Rattle.parse.proofs.body.variant_fields.Lts as lts
-use Rattle.parse.proofs.body.named_group.Reads as named-group-reads
-use Rattle.parse.proofs.body.tuple_group.Reads as tuple-group-reads
-use Rattle.parse.proofs.utils.past.Reads as past-reads
-use Rattle.token_list.proofs.stream.peek.Reads as peek-reads
 
--- src/body.rt:311:11
 peek-requires : tie.Need-peek-requires
 peek-requires c κs = search needs
 
--- src/body.rt:312:43
 enum-told : tie.Need-enum-told
 enum-told c = search needs
 
--- src/body.rt:313:43
 enum-told-2 : tie.Need-enum-told-2
 enum-told-2 c = search needs
 
--- src/body.rt:314:23
 enum-known-t : tie.Need-enum-known-t
 enum-known-t c = search needs
 
--- src/body.rt:316:17
 past-requires : tie.Need-past-requires
-past-requires c κs = ?
+past-requires c κs = ((c .before .before .before .before .before .before .pre), (meeting.peeked _ _ ((c .before .before .before .peek) .ensures) ((c .before .t) .given .1)) .token)
 
--- src/body.rt:318:30
 named-group-requires : tie.Need-named-group-requires
-named-group-requires c κs = ?
+named-group-requires c κs = ((c .before .before .before .before .before .before .before .before .before .pre), (meeting.peeked _ _ ((c .before .before .before .before .before .before .peek) .ensures) ((c .before .before .before .before .t) .given .1)))
 
--- src/body.rt:319:38
 enum-known-r : tie.Need-enum-known-r
 enum-known-r c = search needs
 
--- src/body.rt:320:33
 enum-known-e : tie.Need-enum-known-e
 enum-known-e c = search needs
 
--- src/body.rt:318:17
 same-length : tie.Need-same-length
 same-length c = search needs
 
--- src/body.rt:318:17
 returns : tie.Need-returns
-returns c = ?
+returns c = meeting.meets-as (ap (reading.variantFields ((c .before .before .before .before .before .before .before .before .before .before .before .before .before .before .before .args) .c .row)) (meeting.group-stream _ _ _ (c .before .before .before .before .before .before .before .before .before .before .before .before .before .before .before .pre) (meeting.peeked _ _ ((c .before .before .before .before .before .before .before .before .before .before .before .before .peek) .ensures) ((c .before .before .before .before .before .before .before .before .before .before .t) .given .1))) ∙ chosen _ _ _ (eq-eqb _ _ ((c .before .before .before .before .before .before .before .if1) .taken))) (bodies.closing-map _ _ (reading.every reading.namedField (((c .before .before .before .before .before .before .before .before .before .before .before .before .before .before .before .args) .c .row) + 1) (at ((c .before .before .before .before .before .before .before .before .before .before .before .before .before .before .before .args) .s .now) ((c .before .before .before .before .before .before .before .before .before .before .t) .given .0 .0 .next) .here)) named (λ fs rs rest e h. absurd h) (meeting.say contract.countShown contract.countSaid ((c .before .r) .given .1) ((c .before .before .before .before .before .named-group) .ensures)))
 
--- src/body.rt:318:17
 same-length-2 : tie.Need-same-length-2
 same-length-2 c = search needs
 
--- src/body.rt:318:17
 returns-2 : tie.Need-returns-2
-returns-2 c = ?
+returns-2 c = meeting.meets-as (ap (reading.variantFields ((c .before .before .before .before .before .before .before .before .before .before .before .before .before .before .before .args) .c .row)) (meeting.group-stream _ _ _ (c .before .before .before .before .before .before .before .before .before .before .before .before .before .before .before .pre) (meeting.peeked _ _ ((c .before .before .before .before .before .before .before .before .before .before .before .before .peek) .ensures) ((c .before .before .before .before .before .before .before .before .before .before .t) .given .1))) ∙ chosen _ _ _ (eq-eqb _ _ ((c .before .before .before .before .before .before .before .if1) .taken))) (bodies.closing-map _ _ (reading.every reading.namedField (((c .before .before .before .before .before .before .before .before .before .before .before .before .before .before .before .args) .c .row) + 1) (at ((c .before .before .before .before .before .before .before .before .before .before .before .before .before .before .before .args) .s .now) ((c .before .before .before .before .before .before .before .before .before .before .t) .given .0 .0 .next) .here)) named (λ fs rs rest e h. (fs, refl, bodies.inside-at (reading.every reading.namedField) _ _ _ _ (c .before .before .before .before .before .before .before .before .before .before .before .before .before .before .before .pre) ((meeting.peeked _ _ ((c .before .before .before .before .before .before .before .before .before .before .before .before .peek) .ensures) ((c .before .before .before .before .before .before .before .before .before .before .t) .given .1)) .token) ((c .before .before .before .before .before .before .before .before .past) .ensures) e)) (meeting.say contract.countShown contract.countSaid ((c .before .e) .given .1) ((c .before .before .before .before .before .named-group) .ensures)))
 
--- src/body.rt:324:30
 tuple-group-requires : tie.Need-tuple-group-requires
-tuple-group-requires c κs = ?
+tuple-group-requires c κs = ((c .before .before .before .before .before .before .before .before .before .before .pre), (meeting.peeked _ _ ((c .before .before .before .before .before .before .before .peek) .ensures) ((c .before .before .before .before .before .t) .given .1)))
 
--- src/body.rt:325:38
 enum-known-r-2 : tie.Need-enum-known-r-2
 enum-known-r-2 c = search needs
 
--- src/body.rt:326:33
 enum-known-e-2 : tie.Need-enum-known-e-2
 enum-known-e-2 c = search needs
 
--- src/body.rt:324:17
 same-length-3 : tie.Need-same-length-3
 same-length-3 c = search needs
 
--- src/body.rt:324:17
 returns-3 : tie.Need-returns-3
-returns-3 c = ?
+returns-3 c = meeting.meets-as (ap (reading.variantFields ((c .before .before .before .before .before .before .before .before .before .before .before .before .before .before .before .before .args) .c .row)) (meeting.group-stream _ _ _ (c .before .before .before .before .before .before .before .before .before .before .before .before .before .before .before .before .pre) (meeting.peeked _ _ ((c .before .before .before .before .before .before .before .before .before .before .before .before .before .peek) .ensures) ((c .before .before .before .before .before .before .before .before .before .before .before .t) .given .1))) ∙ passed-over _ _ _ (ne-eqb _ _ ((c .before .before .before .before .before .before .before .before .if1) .left)) ∙ chosen _ _ _ (eq-eqb _ _ ((c .before .before .before .before .before .before .before .if2) .taken))) (bodies.closing-map _ _ (reading.every reading.tupleField (((c .before .before .before .before .before .before .before .before .before .before .before .before .before .before .before .before .args) .c .row) + 1) (at ((c .before .before .before .before .before .before .before .before .before .before .before .before .before .before .before .before .args) .s .now) ((c .before .before .before .before .before .before .before .before .before .before .before .t) .given .0 .0 .next) .here)) tuple (λ fs rs rest e h. absurd h) (meeting.say contract.countShown contract.countSaid ((c .before .r2) .given .1) ((c .before .before .before .before .before .tuple-group) .ensures)))
 
--- src/body.rt:324:17
 same-length-4 : tie.Need-same-length-4
 same-length-4 c = search needs
 
--- src/body.rt:324:17
 returns-4 : tie.Need-returns-4
-returns-4 c = ?
+returns-4 c = meeting.meets-as (ap (reading.variantFields ((c .before .before .before .before .before .before .before .before .before .before .before .before .before .before .before .before .args) .c .row)) (meeting.group-stream _ _ _ (c .before .before .before .before .before .before .before .before .before .before .before .before .before .before .before .before .pre) (meeting.peeked _ _ ((c .before .before .before .before .before .before .before .before .before .before .before .before .before .peek) .ensures) ((c .before .before .before .before .before .before .before .before .before .before .before .t) .given .1))) ∙ passed-over _ _ _ (ne-eqb _ _ ((c .before .before .before .before .before .before .before .before .if1) .left)) ∙ chosen _ _ _ (eq-eqb _ _ ((c .before .before .before .before .before .before .before .if2) .taken))) (bodies.closing-map _ _ (reading.every reading.tupleField (((c .before .before .before .before .before .before .before .before .before .before .before .before .before .before .before .before .args) .c .row) + 1) (at ((c .before .before .before .before .before .before .before .before .before .before .before .before .before .before .before .before .args) .s .now) ((c .before .before .before .before .before .before .before .before .before .before .before .t) .given .0 .0 .next) .here)) tuple (λ fs rs rest e h. (fs, refl, bodies.inside-at (reading.every reading.tupleField) _ _ _ _ (c .before .before .before .before .before .before .before .before .before .before .before .before .before .before .before .before .pre) ((meeting.peeked _ _ ((c .before .before .before .before .before .before .before .before .before .before .before .before .before .peek) .ensures) ((c .before .before .before .before .before .before .before .before .before .before .before .t) .given .1)) .token) ((c .before .before .before .before .before .before .before .before .before .past) .ensures) e)) (meeting.say contract.countShown contract.countSaid ((c .before .e2) .given .1) ((c .before .before .before .before .before .tuple-group) .ensures)))
 
--- src/body.rt:306:1
 returns-5 : tie.Need-returns-5
-returns-5 c = ?
+returns-5 c = meeting.meets-same reading.variantFields _ _ (c .before .before .before .before .before .pre) _ _ _ _ (meeting.peeked _ _ ((c .before .before .peek) .ensures) ((c .enum-told) .given .1)) refl refl
 
--- src/body.rt:306:1
 returns-6 : tie.Need-returns-6
-returns-6 c = ?
+returns-6 c = meeting.meets-same reading.variantFields _ _ (c .before .before .before .before .before .pre) _ _ _ _ ((meeting.peeked _ _ ((c .before .before .peek) .ensures) ((c .enum-told2) .given .1)) .here) refl refl
 
--- src/body.rt:306:1
 returns-7 : tie.Need-returns-7
-returns-7 c = ?
+returns-7 c = meeting.meets-refused reading.variantFields _ _ (c .before .before .before .before .before .before .before .before .before .pre) _ _ _ _ _ _ (meeting.group-stream _ _ _ (c .before .before .before .before .before .before .before .before .before .pre) (meeting.peeked _ _ ((c .before .before .before .before .before .before .peek) .ensures) ((c .before .before .before .before .t) .given .1))) (passed-over _ _ _ (ne-eqb _ _ ((c .before .if1) .left)) ∙ passed-over _ _ _ (ne-eqb _ _ ((c .if2) .left)))
 
 pub variant-fields-spec : {M : Type 1} → statement M
 variant-fields-spec =

@@ -1,79 +1,91 @@
+use Rattle.parse.proofs.Bodies as bodies
+use Rattle.parse.specs.Took.{Reader, after, _>>=_}
+use Rattle.parse.specs.Declaration.{Fields, Value, Variant}
+use Rattle.token_list.specs.Stream.{Trees}
+use Prim.Native.Nat.{ℕ}
+use mathlib.Core.List.{List}
+use mathlib.Core.Path.{fun-ext}
+use Rattle.parse.proofs.Meeting as meeting
+use Rattle.parse.specs.Contract as contract
+use Rattle.parse.specs.Reading as reading
+use Rattle.token_list.proofs.Texts.{chosen, passed-over, and-last, and-fails}
+use Rattle.token_list.specs.Contract.{InList}
+use borrow.Author.Tests.{eq-eqb, ne-eqb, not-true, not-false}
+use native.Mathlib.Omega.{arith}
+use mathlib.Core.Bool.{true, false}
+use mathlib.Core.Path.{_≡_, refl, sym, _∙_, ap, subst, subst⁻¹}
 use borrow.Author.Needs.{needs}
 use Rattle.parse.proofs.body.variant_here.Statement.{statement}
 use Rattle.parse.proofs.body.variant_here.Tie as tie
-use Rattle.parse.proofs.body.variant_here.Reads as reads
-use Rattle.parse.proofs.body.variant_here.Lts as lts
-use Rattle.parse.proofs.body.variant_fields.Reads as variant-fields-reads
-use Rattle.parse.proofs.body.variant_name.Reads as variant-name-reads
-use Rattle.parse.proofs.body.variant_value.Reads as variant-value-reads
 
--- src/body.rt:500:11
+abbrev made : List ℕ → Fields → Value → Variant
+made n f v = record { name = n; fields = f; value = v }
+
+abbrev valued : List ℕ → Fields → Reader (reading.Maybe Variant)
+valued n f = reading.valueIf >>= λ v. reading.comma (made n f v)
+
+abbrev rest : List ℕ → Reader (reading.Maybe Variant)
+rest n = reading.variantFields >>= valued n
+
+split : (row : ℕ) (ts : Trees) → reading.variantHere row ts ≡ after row (contract.variantName row ts) rest
+split row ts =
+    ap (after row (reading.attributes row ts)) (fun-ext (λ a. fun-ext (λ r. fun-ext (λ us. sym (meeting.after-assoc r (reading.word 15 r us) reading.named! rest)))))
+    ∙ sym (meeting.after-assoc row (reading.attributes row ts) (λ a. (reading.word 15 >>= reading.named!)) rest)
+
 variant-name-requires : tie.Need-variant-name-requires
 variant-name-requires c κs = search needs
 
--- src/body.rt:501:27
 enum-known-r : tie.Need-enum-known-r
 enum-known-r c = search needs
 
--- src/body.rt:502:22
 enum-known-name : tie.Need-enum-known-name
 enum-known-name c = search needs
 
--- src/body.rt:502:40
 variant-fields-requires : tie.Need-variant-fields-requires
-variant-fields-requires c κs = ?
+variant-fields-requires c κs = meeting.landed (meeting.say (contract.nameShown ((c .before .before .before .before .before .before .before .before .before .before .args) .s .now)) contract.nameSaid ((c .before .before .name) .given .1) ((c .before .before .before .before .before .before .variant-name) .ensures))
 
--- src/body.rt:503:33
 enum-known-r-2 : tie.Need-enum-known-r-2
 enum-known-r-2 c = search needs
 
--- src/body.rt:504:28
 enum-known-fields : tie.Need-enum-known-fields
 enum-known-fields c = search needs
 
--- src/body.rt:504:48
 variant-value-requires : tie.Need-variant-value-requires
-variant-value-requires c κs = ?
+variant-value-requires c κs = meeting.landed (meeting.say (contract.fieldsShown ((c .before .before .before .before .before .before .before .before .before .before .before .before .before .before .before .before .before .args) .s .now)) contract.fieldsSaid ((c .before .before .fields) .given .1) ((c .before .before .before .before .before .before .variant-fields) .ensures))
 
--- src/body.rt:505:36
 enum-known-r-3 : tie.Need-enum-known-r-3
 enum-known-r-3 c = search needs
 
--- src/body.rt:506:31
 enum-known-value : tie.Need-enum-known-value
 enum-known-value c = search needs
 
--- src/body.rt:496:1
 same-length : tie.Need-same-length
 same-length c = search needs
 
--- src/body.rt:496:1
 returns : tie.Need-returns
-returns c = ?
+returns c = meeting.meets-as (split ((c .before .before .before .before .before .before .before .before .before .args) .c .row) (contract.stream ((c .before .before .before .before .before .before .before .before .before .args) .s .now) ((c .before .before .before .before .before .before .before .before .before .args) .c))) (meeting.meets-no rest (meeting.say (contract.nameShown ((c .before .before .before .before .before .before .before .before .before .args) .s .now)) contract.nameSaid ((c .before .r) .given .1) ((c .before .before .before .before .before .variant-name) .ensures)))
 
--- src/body.rt:496:1
 same-length-2 : tie.Need-same-length-2
 same-length-2 c = search needs
 
--- src/body.rt:496:1
 returns-2 : tie.Need-returns-2
-returns-2 c = ?
+returns-2 c = meeting.meets-as (split ((c .before .before .before .before .before .before .before .before .before .before .before .before .before .before .before .before .args) .c .row) (contract.stream ((c .before .before .before .before .before .before .before .before .before .before .before .before .before .before .before .before .args) .s .now) ((c .before .before .before .before .before .before .before .before .before .before .before .before .before .before .before .before .args) .c))) (meeting.meets-then rest (meeting.say (contract.nameShown ((c .before .before .before .before .before .before .before .before .before .before .before .before .before .before .before .before .args) .s .now)) contract.nameSaid ((c .before .before .before .before .before .before .before .before .name) .given .1) ((c .before .before .before .before .before .before .before .before .before .before .before .before .variant-name) .ensures)) (λ n h. meeting.meets-no (valued n) (meeting.say (contract.fieldsShown ((c .before .before .before .before .before .before .before .before .before .before .before .before .before .before .before .before .args) .s .now)) contract.fieldsSaid ((c .before .r2) .given .1) ((c .before .before .before .before .before .variant-fields) .ensures))))
 
--- src/body.rt:496:1
 same-length-3 : tie.Need-same-length-3
 same-length-3 c = search needs
 
--- src/body.rt:496:1
 returns-3 : tie.Need-returns-3
-returns-3 c = ?
+returns-3 c =
+    let e = (c .before .before .before .before .before .before .before .before .fields) .given .0 .1 .0 in
+    meeting.meets-as (split ((c .before .before .before .before .before .before .before .before .before .before .before .before .before .before .before .before .before .before .before .before .before .before .before .args) .c .row) (contract.stream ((c .before .before .before .before .before .before .before .before .before .before .before .before .before .before .before .before .before .before .before .before .before .before .before .args) .s .now) ((c .before .before .before .before .before .before .before .before .before .before .before .before .before .before .before .before .before .before .before .before .before .before .before .args) .c))) (meeting.meets-then rest (meeting.say (contract.nameShown ((c .before .before .before .before .before .before .before .before .before .before .before .before .before .before .before .before .before .before .before .before .before .before .before .args) .s .now)) contract.nameSaid ((c .before .before .before .before .before .before .before .before .before .before .before .before .before .before .before .name) .given .1) ((c .before .before .before .before .before .before .before .before .before .before .before .before .before .before .before .before .before .before .before .variant-name) .ensures)) (λ n h. meeting.meets-then (valued n) (meeting.say (contract.fieldsShown ((c .before .before .before .before .before .before .before .before .before .before .before .before .before .before .before .before .before .before .before .before .before .before .before .args) .s .now)) contract.fieldsSaid ((c .before .before .before .before .before .before .before .before .fields) .given .1) ((c .before .before .before .before .before .before .before .before .before .before .before .before .variant-fields) .ensures)) (λ f k. meeting.meets-as (bodies.comma-as (e .row) (reading.valueIf (e .row) (contract.stream ((c .before .before .before .before .before .before .before .before .before .before .before .before .before .before .before .before .before .before .before .before .before .before .before .args) .s .now) e)) (made n f)) (meeting.meets-no _ (meeting.say (contract.valueShown ((c .before .before .before .before .before .before .before .before .before .before .before .before .before .before .before .before .before .before .before .before .before .before .before .args) .s .now)) contract.valueSaid ((c .before .r3) .given .1) ((c .before .before .before .before .before .variant-value) .ensures))))))
 
--- src/body.rt:496:1
 same-length-4 : tie.Need-same-length-4
 same-length-4 c = search needs
 
--- src/body.rt:496:1
 returns-4 : tie.Need-returns-4
-returns-4 c = ?
+returns-4 c =
+    let e = (c .before .before .before .before .before .before .before .before .fields) .given .0 .1 .0 in
+    meeting.meets-as (split ((c .before .before .before .before .before .before .before .before .before .before .before .before .before .before .before .before .before .before .before .before .before .before .before .args) .c .row) (contract.stream ((c .before .before .before .before .before .before .before .before .before .before .before .before .before .before .before .before .before .before .before .before .before .before .before .args) .s .now) ((c .before .before .before .before .before .before .before .before .before .before .before .before .before .before .before .before .before .before .before .before .before .before .before .args) .c))) (meeting.meets-then rest (meeting.say (contract.nameShown ((c .before .before .before .before .before .before .before .before .before .before .before .before .before .before .before .before .before .before .before .before .before .before .before .args) .s .now)) contract.nameSaid ((c .before .before .before .before .before .before .before .before .before .before .before .before .before .before .before .name) .given .1) ((c .before .before .before .before .before .before .before .before .before .before .before .before .before .before .before .before .before .before .before .variant-name) .ensures)) (λ n h. meeting.meets-then (valued n) (meeting.say (contract.fieldsShown ((c .before .before .before .before .before .before .before .before .before .before .before .before .before .before .before .before .before .before .before .before .before .before .before .args) .s .now)) contract.fieldsSaid ((c .before .before .before .before .before .before .before .before .fields) .given .1) ((c .before .before .before .before .before .before .before .before .before .before .before .before .variant-fields) .ensures)) (λ f k. meeting.meets-as (bodies.comma-as (e .row) (reading.valueIf (e .row) (contract.stream ((c .before .before .before .before .before .before .before .before .before .before .before .before .before .before .before .before .before .before .before .before .before .before .before .args) .s .now) e)) (made n f)) (meeting.meets-map (e .row) (λ v. reading.one (made n f v)) (λ v w. (made n f v, refl, record { name = h; fields = k; value = w })) (meeting.say (contract.valueShown ((c .before .before .before .before .before .before .before .before .before .before .before .before .before .before .before .before .before .before .before .before .before .before .before .args) .s .now)) contract.valueSaid ((c .before .value) .given .1) ((c .before .before .before .before .before .variant-value) .ensures))))))
 
 pub variant-here-spec : {M : Type 1} → statement M
 variant-here-spec =

@@ -1,42 +1,40 @@
+use Rattle.parse.proofs.Bodies as bodies
+use Rattle.parse.proofs.Meeting as meeting
+use Rattle.parse.specs.Contract as contract
+use Rattle.parse.specs.Reading as reading
+use Rattle.token_list.proofs.Texts.{chosen, passed-over, and-last, and-fails}
+use Rattle.token_list.specs.Contract.{InList}
+use borrow.Author.Tests.{eq-eqb, ne-eqb, not-true, not-false}
+use native.Mathlib.Omega.{arith}
+use mathlib.Core.Bool.{true, false}
+use mathlib.Core.Path.{_≡_, refl, sym, _∙_, ap, subst, subst⁻¹}
 use borrow.Author.Needs.{needs}
 use Rattle.parse.proofs.body.variant_value.Statement.{statement}
 use Rattle.parse.proofs.body.variant_value.Tie as tie
-use Rattle.parse.proofs.body.variant_value.Reads as reads
-use Rattle.parse.proofs.body.variant_value.Lts as lts
-use Rattle.parse.proofs.body.value_if.Reads as value-if-reads
-use Rattle.parse.proofs.utils.consume_punct_if.Reads as consume-punct-if-reads
 
--- src/body.rt:486:11
 value-if-requires : tie.Need-value-if-requires
 value-if-requires c κs = search needs
 
--- src/body.rt:487:28
 enum-known-r : tie.Need-enum-known-r
 enum-known-r c = search needs
 
--- src/body.rt:488:23
 enum-known-v : tie.Need-enum-known-v
 enum-known-v c = search needs
 
--- src/body.rt:489:17
 consume-punct-if-requires : tie.Need-consume-punct-if-requires
-consume-punct-if-requires c κs = ?
+consume-punct-if-requires c κs = meeting.landed (meeting.say (contract.valueShown ((c .before .before .before .before .before .before .before .before .before .before .args) .s .now)) contract.valueSaid ((c .before .before .v) .given .1) ((c .before .before .before .before .before .before .value-if) .ensures))
 
--- src/body.rt:482:1
 same-length : tie.Need-same-length
 same-length c = search needs
 
--- src/body.rt:482:1
 returns : tie.Need-returns
-returns c = ?
+returns c = meeting.meets-no bodies.commaAfter (meeting.say (contract.valueShown ((c .before .before .before .before .before .before .before .before .before .args) .s .now)) contract.valueSaid ((c .before .r) .given .1) ((c .before .before .before .before .before .value-if) .ensures))
 
--- src/body.rt:482:1
 same-length-2 : tie.Need-same-length-2
 same-length-2 c = search needs
 
--- src/body.rt:482:1
 returns-2 : tie.Need-returns-2
-returns-2 c = ?
+returns-2 c = meeting.meets-then bodies.commaAfter (meeting.say (contract.valueShown ((c .before .before .before .before .before .before .before .before .before .before .before .before .before .before .args) .s .now)) contract.valueSaid ((c .before .before .before .before .before .before .v) .given .1) ((c .before .before .before .before .before .before .before .before .before .before .value-if) .ensures)) (λ a h. meeting.meets-map _ (λ u. a) (λ u k. h) ((c .before .before .before .consume-punct-if) .ensures))
 
 pub variant-value-spec : {M : Type 1} → statement M
 variant-value-spec =

@@ -1,62 +1,63 @@
+use Rattle.parse.proofs.Loops.{Rounded, rounds-start, rounds-more, rounds-done, rounds-refused, rounds-length}
+use Rattle.parse.proofs.Conserved as conserved
+use lib.ListN.{length}
+use Prim.Native.Nat.{ℕ, _-_}
+use Rattle.parse.proofs.Meeting as meeting
+use Rattle.parse.specs.Contract as contract
+use Rattle.parse.specs.Reading as reading
+use Rattle.token_list.proofs.Texts.{chosen, passed-over, and-last, and-fails}
+use Rattle.token_list.specs.Contract.{InList}
+use borrow.Author.Tests.{eq-eqb, ne-eqb, not-true, not-false}
+use borrow.Author.Needs.{needs}
+use native.Mathlib.Omega.{arith}
+use mathlib.Core.Bool.{true, false}
+use mathlib.Core.Path.{_≡_, refl, sym, _∙_, ap, subst, subst⁻¹}
 use Rattle.parse.proofs.body.variants.Statement.{statement}
 use Rattle.parse.proofs.body.variants.Tie as tie
-use Rattle.parse.proofs.body.variants.Reads as reads
-use Rattle.parse.proofs.body.variants.Lts as lts
-use Rattle.parse.proofs.body.variant.Reads as variant-reads
 
 abbrev Inv-loop : tie.InvT-loop
-Inv-loop s roles₀ c₀ count₀ roles c count = ?
+Inv-loop s roles₀ c₀ count₀ roles c count = Rounded s c₀ roles₀ c roles count (reading.every reading.variant (c₀ .row) (contract.stream s c₀)) (reading.every reading.variant (c .row) (contract.stream s c))
 
 abbrev μ-loop : tie.MeasureT-loop
-μ-loop s roles₀ c₀ count₀ roles c count = ?
+μ-loop s roles₀ c₀ count₀ roles c count = length s - c .at
 
--- src/body.rt:535:5
 loop-holds : tie.Need-loop-holds Inv-loop μ-loop
-loop-holds c = ?
+loop-holds c = rounds-start _ _ _ _ (c .before .before .pre)
 
--- src/body.rt:536:15
 variant-requires : tie.Need-variant-requires Inv-loop μ-loop
-variant-requires c κs = ?
+variant-requires c κs = (c .before .loop) .inv .moved .inList
 
--- src/body.rt:537:30
 enum-known-v : tie.Need-enum-known-v Inv-loop μ-loop
-enum-known-v c = ?
+enum-known-v c = search needs
 
--- src/body.rt:539:17
 add-count : tie.Need-add-count Inv-loop μ-loop
-add-count c = ?
+add-count c = omega (arith, (c .before .before .before .before .before .before .before .before .loop) .inv .few, (c .before .before .before .before .before .before .before .before .loop) .inv .moved .inList .within)
 
--- src/body.rt:535:5
 loop-less : tie.Need-loop-less Inv-loop μ-loop
-loop-less c = ?
+loop-less c =
+    let n = rounds-more reading.variant conserved.variant-round ((c .before .before .before .before .before .before .before .before .loop) .inv) (meeting.say (contract.variantShown ((c .before .before .before .before .before .before .before .before .before .before .before .args) .s .now)) contract.variantSaid ((c .before .before .v) .given .1) ((c .before .before .before .before .before .before .variant) .ensures)) (λ v h. (h .0, h .1)) in
+    omega (arith, n .1, n .0 .moved .inList .within)
 
--- src/body.rt:535:5
 loop-again : tie.Need-loop-again Inv-loop μ-loop
-loop-again c = ?
+loop-again c = rounds-more reading.variant conserved.variant-round ((c .before .before .before .before .before .before .before .before .loop) .inv) (meeting.say (contract.variantShown ((c .before .before .before .before .before .before .before .before .before .before .before .args) .s .now)) contract.variantSaid ((c .before .before .v) .given .1) ((c .before .before .before .before .before .before .variant) .ensures)) (λ v h. (h .0, h .1)) .0
 
--- src/body.rt:541:31
 enum-known-d : tie.Need-enum-known-d Inv-loop μ-loop
-enum-known-d c = ?
+enum-known-d c = search needs
 
--- src/body.rt:542:17
 same-length : tie.Need-same-length Inv-loop μ-loop
-same-length c = ?
+same-length c = (c .before .before .before .before .before .variant) .kept .1 .1 .0 ∙ rounds-length ((c .before .before .before .before .before .before .before .loop) .inv)
 
--- src/body.rt:542:17
 returns : tie.Need-returns Inv-loop μ-loop
-returns c = ?
+returns c = rounds-done reading.variant conserved.variant-round ((c .before .before .before .before .before .before .before .loop) .inv) (meeting.say (contract.variantShown ((c .before .before .before .before .before .before .before .before .before .before .args) .s .now)) contract.variantSaid ((c .before .d) .given .1) ((c .before .before .before .before .before .variant) .ensures)) (λ v h. h)
 
--- src/body.rt:544:34
 enum-known-r : tie.Need-enum-known-r Inv-loop μ-loop
-enum-known-r c = ?
+enum-known-r c = search needs
 
--- src/body.rt:545:17
 same-length-2 : tie.Need-same-length-2 Inv-loop μ-loop
-same-length-2 c = ?
+same-length-2 c = (c .before .before .before .before .before .variant) .kept .1 .1 .0 ∙ rounds-length ((c .before .before .before .before .before .before .before .loop) .inv)
 
--- src/body.rt:545:17
 returns-2 : tie.Need-returns-2 Inv-loop μ-loop
-returns-2 c = ?
+returns-2 c = rounds-refused reading.variant conserved.variant-round ((c .before .before .before .before .before .before .before .loop) .inv) (meeting.say (contract.variantShown ((c .before .before .before .before .before .before .before .before .before .before .args) .s .now)) contract.variantSaid ((c .before .r) .given .1) ((c .before .before .before .before .before .variant) .ensures))
 
 pub variants-spec : {M : Type 1} → statement M
 variants-spec =
