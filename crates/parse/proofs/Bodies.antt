@@ -43,7 +43,7 @@ comma-as row (refuse n p) g = refl
 -- ## The inside of a group
 
 pub closing-map : {A B : Type 0} {s : List ℕ} {c : Cursor} {b0 b1 : List ℕ} {sh : A → Type 0} {sh2 : B → Type 0} {x : Said} (us : Trees) (row : ℕ) (t : Took A) (f : A → B)
-  → ((a : A) (rs : List ℕ) (rest : Trees) → t ≡ took a rs rest → sh a → sh2 (f a)) → Meets s c b0 b1 sh x (closing us t) → Meets s c b0 b1 sh2 x (closing us (after row t (λ a. pure (f a))))
+    → ((a : A) (rs : List ℕ) (rest : Trees) → t ≡ took a rs rest → sh a → sh2 (f a)) → Meets s c b0 b1 sh x (closing us t) → Meets s c b0 b1 sh2 x (closing us (after row t (λ a. pure (f a))))
 closing-map {s = s} {c} {b0} {b1} {sh2 = sh2} us row (took a rs rest) f g (stands {d = d} m h) =
     subst⁻¹ (λ (qs : List ℕ). Meets s c b0 b1 sh2 (on d) (took (f a) (14 ∷ qs ++ 14 ∷ []) us)) (append-nil rs) (stands m (g a rs rest refl h))
 closing-map us row (refuse n p) f g refuses = refuses
@@ -59,7 +59,7 @@ module _ (s : List ℕ) (c inside : Cursor) (t : Token) (i : InList s c) (g : Gr
   closing-refused us refuses = refuses
 
   meets-closing : {A : Type 0} {b2 b3 : List ℕ} {sh : A → Type 0} {d e : Cursor} {x : Took A} → Meets s inside b1 b2 sh (on d) x → Ended x → b3 ≡ set b2 (d .row) 14 → Skipped s d e
-    → Meets s c b0 b3 sh (on e) (closing (head (at s (t .next) .outer)) x)
+      → Meets s c b0 b3 sh (on e) (closing (head (at s (t .next) .outer)) x)
   meets-closing {b2 = b2} {b3 = b3} {sh = sh} {d = d} {e = e} (stands {rs = rs} {us = us} m h) z q k =
       let o : at s (e .at) .here ∷ at s (e .at) .outer ≡ g .after ∷ at s (c .at) .outer = sym (k .streams) ∙ m .outer ∙ inside-outer in
       let n : size (stream s d) ≡ 0 = ap size (m .here ∙ ended-at z) in
@@ -69,18 +69,18 @@ module _ (s : List ℕ) (c inside : Cursor) (t : Token) (i : InList s c) (g : Gr
       let below : inside .row ≡ suc (c .row) = omega (arith, r) in
       let last : d .row ≡ suc (c .row) + length rs = omega (arith, r, m .row) in
       stands {rs = 14 ∷ rs ++ 14 ∷ []}
-      (record
-        { inList = k .inList
-        ; row = omega (arith, k .row, n, m .row, r, l)
-        ; forth = omega (arith, k .forth, n, m .forth, y, l, past-fits s c t i (g .token))
-        ; here = ap head o ∙ sym (ap head (g .outer))
-        ; outer = ap others o
-        ; roles =
+      (record {
+        inList = k .inList;
+        row = omega (arith, k .row, n, m .row, r, l);
+        forth = omega (arith, k .forth, n, m .forth, y, l, past-fits s c t i (g .token));
+        here = ap head o ∙ sym (ap head (g .outer));
+        outer = ap others o;
+        roles =
             q
             ∙ (λ j. set (m .roles j) (last j) 14)
             ∙ (λ j. set (sets (w j) (below j) rs) (suc (c .row) + length rs) 14)
-            ∙ sym (sets-append (set b0 (c .row) 14) (suc (c .row)) rs (14 ∷ []))
-        })
+            ∙ sym (sets-append (set b0 (c .row) 14) (suc (c .row)) rs (14 ∷ []));
+      })
       h
 
   -- a reader of the whole inside
@@ -89,7 +89,7 @@ module _ (s : List ℕ) (c inside : Cursor) (t : Token) (i : InList s c) (g : Gr
     read-inside y = meets-as (ap (λ (z : Cursor). m (z .row) (stream s z)) (sym p)) y
 
     pub group-closed : ((row : ℕ) (ts : Trees) → Ended (m row ts)) → {b2 b3 : List ℕ} {sh : A → Type 0} {d e : Cursor} → Meets s inside b1 b2 sh (on d) (m (inside .row) (stream s inside))
-      → b3 ≡ set b2 (d .row) 14 → Skipped s d e → Meets s c b0 b3 sh (on e) (Inside m s c t)
+        → b3 ≡ set b2 (d .row) 14 → Skipped s d e → Meets s c b0 b3 sh (on e) (Inside m s c t)
     group-closed f y q k = meets-closing (read-inside y) (f (c .row + 1) (at s (t .next) .here)) q k
 
     pub group-refused : {b2 : List ℕ} {sh sh2 : A → Type 0} {n q : ℕ} → Meets s inside b1 b2 sh (no n q) (m (inside .row) (stream s inside)) → Meets s c b0 b2 sh2 (no n q) (Inside m s c t)
@@ -150,6 +150,6 @@ count-variants (counts.Refused r) vs h = h
 
 -- a group's inside, where the reader may read it again
 pub inside-at : {A : Type 0} (m : Reader A) (s : List ℕ) (c d : Cursor) (t : Token) → InList s c → TokenAt s (c .at) t → d ≡ pastOf c t → {a : A} {rs : List ℕ} {rest : Trees}
-  → m (c .row + 1) (at s (t .next) .here) ≡ took a rs rest → InsideAt m s d a
+    → m (c .row + 1) (at s (t .next) .here) ≡ took a rs rest → InsideAt m s d a
 inside-at m s c d t i k p {a} {rs} {rest} e =
     record { inList = past-in-of s c d t p i k; roles = rs; rest = rest; gives = ap (λ (z : Cursor). m (z .row) (stream s z)) p ∙ e }

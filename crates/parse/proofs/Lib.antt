@@ -17,3 +17,4 @@ pub mod Marks
 pub mod Heads
 pub mod Loops
 pub mod Bodies
+pub mod Items

@@ -56,6 +56,12 @@ use Rattle.parse.specs.declared.body.NameStep.the-variants as nameSteps
 use Rattle.parse.specs.declared.body.VariantAt.{VariantAt}
 use Rattle.parse.specs.declared.body.VariantStep.{VariantStep}
 use Rattle.parse.specs.declared.body.VariantStep.the-variants as variantSteps
+use Rattle.parse.specs.Answer as answers
+use Rattle.parse.specs.declared.item.ItemAt.{ItemAt}
+use Rattle.parse.specs.declared.item.ItemStep.{ItemStep}
+use Rattle.parse.specs.declared.item.ItemStep.the-variants as itemSteps
+use Rattle.parse.specs.declared.item.Parse.{Parse}
+use Rattle.parse.specs.declared.item.Parse.the-variants as parses
 use Rattle.parse.specs.declared.attributes.Marked.{Marked}
 use Rattle.parse.specs.declared.attributes.Marked.the-variants as marks
 
@@ -370,3 +376,61 @@ bodyCount (declaration.variants vs) = length vs
 abbrev pub bodyShown : Counted → declaration.Body → Type 0
 bodyShown (counts.At d n) v = n ≡ bodyCount v
 bodyShown (counts.Refused r) v = ⊥
+
+-- ## The answers of item
+
+-- attributes, visibility, the item's word and name
+abbrev pub itemHead : Reader reading.Head
+itemHead = reading.attributes >>= λ a. (reading.visibility >>= λ v. reading.dataType)
+
+-- the where clause and the body
+pub record Tail : Type 0 where
+  pub clause : Trees
+  pub body : declaration.Body
+
+abbrev pub itemTail : declaration.Kind → Reader Tail
+itemTail k = reading.clause >>= λ c. (reading.bodyOf k >>= λ b. pure (record { clause = c; body = b }))
+
+abbrev pub tailShown : Counted → Tail → Type 0
+tailShown r t = bodyShown r (t .body)
+
+-- what is told of a declaration
+pub record ItemOf (s : List ℕ) (i : ItemAt) (d : declaration.Declaration) : Type 0 where
+  pub kind : kindOf (i .kind) ≡ d .kind
+  pub name : TextOf s (i .name) (d .name)
+  pub parameters : i .parameters ≡ length (d .parameters)
+  pub count : i .count ≡ bodyCount (d .body)
+
+abbrev pub itemSaid : ItemStep → Said
+itemSaid (itemSteps.At i) = on (i .next)
+itemSaid (itemSteps.Refused r) = refusal r
+
+abbrev pub itemShown : List ℕ → ItemStep → declaration.Declaration → Type 0
+itemShown s (itemSteps.At i) d = ItemOf s i d
+itemShown s (itemSteps.Refused r) d = ⊥
+
+abbrev pub parsedBy : DataType → ItemAt → Parse
+parsedBy kinds.Struct i = parses.Struct i
+parsedBy kinds.Enum i = parses.Enum i
+
+abbrev pub parsedOf : ItemAt → Parse
+parsedOf i = parsedBy (i .kind) i
+
+abbrev pub accepted : Parse → Bool
+accepted (parses.Struct i) = true
+accepted (parses.Enum i) = true
+accepted (parses.Refused r) = false
+
+-- the answer, by its own enum: the declaration's kind, name and counts, or the refusal's number and place
+abbrev pub ParsedAs : List ℕ → Parse → answers.Answer → Type 0
+ParsedAs s (parses.Struct i) (answers.declared d rs) = (d .kind ≡ declaration.struct) × ItemOf s i d
+ParsedAs s (parses.Enum i) (answers.declared d rs) = (d .kind ≡ declaration.enum) × ItemOf s i d
+ParsedAs s (parses.Refused r) (answers.declared d rs) = ⊥
+ParsedAs s (parses.Struct i) (answers.refused n p) = ⊥
+ParsedAs s (parses.Enum i) (answers.refused n p) = ⊥
+ParsedAs s (parses.Refused r) (answers.refused n p) = (r .number ≡ n) × (r .place ≡ p)
+
+-- the whole answer for a list s, and the whole role buffer
+pub record Answered (s : List ℕ) (r : Parse) (before after : List ℕ) : Type 0 where
+  pub answer : ParsedAs s r (answers.answer s (length before))
+  pub buffer : after ≡ answers.buffer (length before) (answers.answer s (length before))

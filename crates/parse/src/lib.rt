@@ -4,5 +4,6 @@ pub mod attributes;
 pub mod body;
 pub mod data_type;
 pub mod generics;
+pub mod item;
 pub mod utils;
 pub mod visibility;

@@ -1,0 +1,27 @@
+use Rattle.parse.proofs.Meeting as meeting
+use Rattle.parse.specs.Contract as contract
+use Rattle.parse.specs.Reading as reading
+use Rattle.token_list.proofs.Texts.{chosen, passed-over, and-last, and-fails}
+use Rattle.token_list.specs.Contract.{InList}
+use borrow.Author.Tests.{eq-eqb, ne-eqb, not-true, not-false}
+use native.Mathlib.Omega.{arith}
+use mathlib.Core.Bool.{true, false}
+use mathlib.Core.Path.{_≡_, refl, sym, _∙_, ap, subst, subst⁻¹}
+use borrow.Author.Needs.{needs}
+use Rattle.parse.proofs.item.parsed.Statement.{statement}
+use Rattle.parse.proofs.item.parsed.Tie as tie
+
+enum-told : tie.Need-enum-told
+enum-told c = search needs
+
+enum-told-2 : tie.Need-enum-told-2
+enum-told-2 c = search needs
+
+returns : tie.Need-returns
+returns c = sym (ap (λ k. contract.parsedBy k ((c .before .before .args) .i)) ((c .enum-told) .given .1))
+
+returns-2 : tie.Need-returns-2
+returns-2 c = sym (ap (λ k. contract.parsedBy k ((c .before .before .args) .i)) ((c .enum-told2) .given .1))
+
+pub parsed-spec : {M : Type 1} → statement M
+parsed-spec = tie.close (tie.spec enum-told enum-told-2 returns returns-2)

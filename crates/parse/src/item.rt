@@ -1,0 +1,173 @@
+// The item (virtue's parse/mod.rs).
+use crate::attributes;
+use crate::body;
+use crate::data_type;
+use crate::data_type::DataType;
+use crate::data_type::Headed;
+use crate::generics;
+use crate::generics::Counted;
+use crate::utils::Step;
+use crate::utils::fill;
+use crate::visibility;
+use token_list::check::Checked;
+use token_list::check::Cursor;
+use token_list::check::END;
+use token_list::check::Refusal;
+use token_list::check::check;
+use token_list::stream::Token;
+ghost use mathlib.Core.Path.{_≡_};
+ghost use Prim.Native.Nat.{_-_, _≤_};
+ghost use lib.ListN.{length, replicate};
+ghost use lib.Seq.{sets};
+ghost use Rattle.token_list.specs.Check as list;
+ghost use Rattle.token_list.specs.Contract.{InList};
+ghost use Rattle.parse.specs.Reading.{item};
+ghost use Rattle.parse.specs.Promise.{SingleAssignment};
+ghost use Rattle.parse.specs.Contract.{Meets, stream, headShown, headSaid, itemHead, tailShown, countSaid, itemTail, kindOf, itemShown, itemSaid, parsedOf, Answered, accepted};
+
+// What was read: the kind, the name's token, how many parameters and fields or variants there are, and
+// where the item ended.
+pub struct ItemAt {
+    pub kind: DataType,
+    pub name: Token,
+    pub parameters: usize,
+    pub count: usize,
+    pub next: Cursor,
+}
+
+pub enum ItemStep {
+    At(ItemAt),
+    Refused(Refusal),
+}
+
+// The answer: a struct or an enum, or a refusal.
+pub enum Parse {
+    Struct(ItemAt),
+    Enum(ItemAt),
+    Refused(Refusal),
+}
+
+// Attributes, visibility, the item's word and its name.
+pub fn head(s: &[u8], c: Cursor, roles: &mut [u8]) -> Headed
+    requires { ⌜ InList (now s) c ⌝ }
+    ensures { λ r. ⌜ Meets (now (s .entry)) c (now (roles .entry)) (now (roles .exit)) (headShown (now (s .entry)) r) (headSaid r) (itemHead (c .row) (stream (now (s .entry)) c)) ⌝ }
+{
+    match attributes::try_take(s, c, roles) {
+        Step::Refused(r) => Headed::Refused(r),
+        Step::At(d) => {
+            let e = visibility::try_take(s, d, roles);
+            data_type::take(s, e, roles)
+        }
+    }
+}
+
+// The where clause and the body.
+pub fn tail(s: &[u8], c: Cursor, roles: &mut [u8], kind: DataType) -> Counted
+    requires { ⌜ InList (now s) c ⌝ }
+    ensures { λ r. ⌜ Meets (now (s .entry)) c (now (roles .entry)) (now (roles .exit)) (tailShown r) (countSaid r) (itemTail (kindOf kind) (c .row) (stream (now (s .entry)) c)) ⌝ }
+{
+    match generics::try_take_constraints(s, c, roles) {
+        Step::Refused(r) => Counted::Refused(r),
+        Step::At(d) => match kind {
+            DataType::Struct => body::take_struct(s, d, roles),
+            DataType::Enum => body::take_enum(s, d, roles),
+        },
+    }
+}
+
+// One item from c on; it says where it ended.
+pub fn item(s: &[u8], c: Cursor, roles: &mut [u8]) -> ItemStep
+    requires { ⌜ InList (now s) c ⌝ }
+    ensures { λ r. ⌜ Meets (now (s .entry)) c (now (roles .entry)) (now (roles .exit)) (itemShown (now (s .entry)) r) (itemSaid r) (item (c .row) (stream (now (s .entry)) c)) ⌝ }
+{
+    match head(s, c, roles) {
+        Headed::Refused(r) => ItemStep::Refused(r),
+        Headed::At(h) => {
+            let kind = h.kind;
+            let name = h.name;
+            let d = h.next;
+            match generics::try_take(s, d, roles) {
+                Counted::Refused(r) => ItemStep::Refused(r),
+                Counted::At(e, parameters) => match tail(s, e, roles, kind) {
+                    Counted::Refused(r) => ItemStep::Refused(r),
+                    Counted::At(next, count) => ItemStep::At(ItemAt {
+                        kind,
+                        name,
+                        parameters,
+                        count,
+                        next,
+                    }),
+                },
+            }
+        }
+    }
+}
+
+// The answer of an item, by its kind.
+pub fn parsed(i: ItemAt) -> Parse
+    ensures { λ r. ⌜ r ≡ parsedOf i ⌝ }
+{
+    let kind = i.kind;
+    match kind {
+        DataType::Struct => Parse::Struct(i),
+        DataType::Enum => Parse::Enum(i),
+    }
+}
+
+// A refusal, with 255 in every role byte.
+fn refuse(roles: &mut [u8], r: Refusal) -> Parse
+    ensures { λ p. ⌜ p ≡ Parse.Refused r ⌝ }
+    ensures { λ _. ⌜ now (roles .exit) ≡ replicate (length (now (roles .entry))) 255 ⌝ }
+{
+    let len = roles.len();
+    fill(roles, 0, len, 255);
+    Parse::Refused(r)
+}
+
+// After an item that ended before the row `end`: 0 for the rows left over, then 255.
+fn leave(roles: &mut [u8], end: usize, rows: usize)
+    ensures { λ _. ⌜ now (roles .exit) ≡ sets (sets (now (roles .entry)) end (replicate (rows - end) 0)) rows (replicate (length (now (roles .entry)) - rows) 255) ⌝ }
+{
+    fill(roles, end, rows, 0);
+    let len = roles.len();
+    fill(roles, rows, len, 255);
+}
+
+// Reads a list that passed the check with so many rows, with a role byte for each.
+fn read(s: &[u8], roles: &mut [u8], rows: usize) -> Parse
+    requires { ⌜ list.check (now s) ≡ list.passed rows ⌝ }
+    requires { ⌜ rows ≤ length (now roles) ⌝ }
+    ensures { λ r. ⌜ Answered (now (s .entry)) r (now (roles .entry)) (now (roles .exit)) ⌝ }
+{
+    match item(s, Cursor { at: 10, row: 0 }, roles) {
+        ItemStep::Refused(r) => refuse(roles, r),
+        ItemStep::At(i) => {
+            let next = i.next;
+            let end = next.row;
+            leave(roles, end, rows);
+            parsed(i)
+        }
+    }
+}
+
+// virtue's Parse::new: a declaration and its role bytes, or a refusal and 255 throughout.
+pub fn new(s: &[u8], roles: &mut [u8]) -> Parse
+    ensures answered { λ r. ⌜ Answered (now (s .entry)) r (now (roles .entry)) (now (roles .exit)) ⌝ }
+    ensures assigned { λ r. ⌜ SingleAssignment (now (s .entry)) (length (now (roles .entry))) (accepted r) (now (roles .exit)) ⌝ }
+{
+    match check(s) {
+        Checked::Refused(r) => refuse(roles, r),
+        Checked::Passed(rows) => {
+            if roles.len() < rows {
+                return refuse(
+                    roles,
+                    Refusal {
+                        number: 8,
+                        place: END,
+                    },
+                );
+            }
+            read(s, roles, rows)
+        }
+    }
+}
