@@ -1,0 +1,2 @@
+-- What the exported functions answer: one number each.
+pub mod Code
