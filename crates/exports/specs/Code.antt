@@ -5,8 +5,8 @@ use mathlib.Core.List.{List}
 use Prim.Native.Nat.{ℕ, _+_, _*_, min}
 use lib.ListN.{length}
 use Rattle.token_list.specs.Check as list
-use Rattle.parse.specs.Declaration.{Kind, struct, enum}
-use Rattle.parse.specs.Answer as answers
+use Rattle.reading.specs.Declaration.{Kind, struct, enum}
+use Rattle.reading.specs.Answer as answers
 
 abbrev pub refusalCode : ℕ → ℕ → ℕ
 refusalCode n p = n * 65536 + min p 65535

@@ -16,16 +16,16 @@ use Rattle.token_list.specs.Contract.{InList, TokenAt, GroupAt, Skipped}
 use Rattle.token_list.specs.declared.check.Cursor.{Cursor}
 use Rattle.token_list.specs.declared.stream.Token.{Token}
 use Rattle.token_list.proofs.Texts.{and-both, and-fails, and-last, slice-next, slice-none}
-use Rattle.parse.specs.Took.{Took, took, refuse, Reader, onward, after, pure, _>>=_}
-use Rattle.parse.specs.Reading.{Maybe, one, comma, punctIf, closing, worth, worthFrom}
-use Rattle.parse.specs.Token.{negatable}
+use Rattle.reading.specs.Took.{Took, took, refuse, Reader, onward, after, pure, _>>=_}
+use Rattle.reading.specs.Reading.{Maybe, one, comma, punctIf, closing, worth, worthFrom}
+use Rattle.reading.specs.Token.{negatable}
 use Rattle.parse.specs.Contract.{Moved, Said, on, no, Meets, stands, refuses, stream, pastOf, Inside, InsideAt, countShown, bodyShown}
-use Rattle.parse.specs.Declaration.{Field, named, tuple, Variant, fields, variants}
+use Rattle.reading.specs.Declaration.{Field, named, tuple, Variant, fields, variants}
 use Rattle.parse.specs.declared.generics.Counted.{Counted}
 use Rattle.parse.specs.declared.generics.Counted.the-variants as counts
 use Rattle.parse.proofs.Buffer.{sets-append}
 use Rattle.parse.proofs.Meeting.{past-fits, past-in-of, meets-as}
-use Rattle.parse.proofs.Conserved.{Ended, ended-at}
+use Rattle.reading.proofs.Conserved.{Ended, ended-at}
 
 -- ## A value, and the `,` that may follow it
 

@@ -6,9 +6,9 @@ use Prim.Native.Nat.{ℕ}
 use Rattle.token_list.specs.Text.{same}
 use Rattle.token_list.specs.Stream.{Trees}
 use Rattle.token_list.proofs.Texts.{chosen, passed-over}
-use Rattle.parse.specs.Declaration.{Kind, struct, enum}
-use Rattle.parse.specs.Took.{took, refuse, Reader}
-use Rattle.parse.specs.Reading.{found, kindOf, STRUCT, ENUM}
+use Rattle.reading.specs.Declaration.{Kind, struct, enum}
+use Rattle.reading.specs.Took.{took, refuse, Reader}
+use Rattle.reading.specs.Reading.{found, kindOf, STRUCT, ENUM}
 
 module _ (t : List ℕ) (p row : ℕ) (ts : Trees) where
   pub kind-struct : same t STRUCT ≡ true → kindOf (found t p) row ts ≡ took struct [] ts

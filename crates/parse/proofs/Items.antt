@@ -14,10 +14,10 @@ use Rattle.token_list.specs.declared.check.Cursor.{Cursor}
 use Rattle.token_list.specs.declared.check.Refusal.{Refusal}
 use Rattle.token_list.proofs.Texts.{chosen, passed-over}
 use Rattle.token_list.proofs.Passed.{passed-list}
-use Rattle.parse.specs.Declaration.{Declaration}
-use Rattle.parse.specs.Took.{Took, took, refuse, Reader, after, pure, _>>=_}
-use Rattle.parse.specs.Reading.{item}
-use Rattle.parse.specs.Answer.{Answer, declared, refused, itemAnswer, answer, buffer, accepts}
+use Rattle.reading.specs.Declaration.{Declaration}
+use Rattle.reading.specs.Took.{Took, took, refuse, Reader, after, pure, _>>=_}
+use Rattle.reading.specs.Reading.{item}
+use Rattle.reading.specs.Answer.{Answer, declared, refused, itemAnswer, answer, buffer, accepts}
 use Rattle.parse.specs.Contract.{Moved, Meets, stands, refuses, on, no, ItemOf, parsedOf, parsedBy, kindOf, ParsedAs, Answered, accepted}
 use Rattle.parse.specs.declared.data_type.DataType.{DataType}
 use Rattle.parse.specs.declared.data_type.DataType.the-variants as kinds
@@ -26,7 +26,7 @@ use Rattle.parse.specs.declared.item.Parse.{Parse}
 use Rattle.parse.specs.declared.item.Parse.the-variants as parses
 use Rattle.parse.proofs.Buffer.{sets-append}
 use Rattle.parse.proofs.Meeting.{after-assoc}
-use Rattle.parse.proofs.Conserved.{Conserved, conserved, item-conserving}
+use Rattle.reading.proofs.Conserved.{Conserved, conserved, item-conserving}
 
 -- two values read one after the other, and what is made of them
 pub pair-as : {A B P C : Type 0} (row : ℕ) (t : Took A) (m : A → Reader B) (pair : A → B → P) (g : P → C)

@@ -5,7 +5,7 @@ use Prim.Native.Nat.{ℕ, _+_, _-_}
 use borrow.Author.Tests.{eq-eqb, ne-eqb}
 use lib.Dec.{eqb}
 use Rattle.token_list.proofs.Texts.{chosen, passed-over, and-fails}
-use Rattle.parse.specs.Reading.{Stops, Verdict, belongs, ends, unopened, atComma, atAngle, judgePunct}
+use Rattle.reading.specs.Reading.{Stops, Verdict, belongs, ends, unopened, atComma, atAngle, judgePunct}
 
 module _ (st : Stops) (d : ℕ) (m : Bool) (b : ℕ) where
   pub arrow : (m && eqb b 62) ≡ true → judgePunct st d m b ≡ belongs d false

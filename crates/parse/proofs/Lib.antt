@@ -1,14 +1,4 @@
--- Laws on the reading, the grammar, the role buffer and the contracts, which the proofs of the functions cite.
-pub mod Rounds
-pub mod Conserved
-pub mod SoundTokens
-pub mod GrammarSound
-pub mod CompleteTokens
-pub mod GrammarComplete
-pub mod GrammarRoles
-pub mod Promise
-pub mod GrammarWider
-pub mod Examples
+-- Laws on the role buffer and the contracts, which the proofs of the functions cite.
 pub mod Buffer
 pub mod Meeting
 pub mod Judge

@@ -8,11 +8,11 @@ use lib.Seq.{length-sets}
 use Rattle.token_list.specs.Stream.{Trees}
 use Rattle.token_list.specs.Contract.{InList}
 use Rattle.token_list.specs.declared.check.Cursor.{Cursor}
-use Rattle.parse.specs.Took.{Took, took, refuse, Reader, onward, after, pure}
-use Rattle.parse.specs.Reading.{Maybe, done, one, more, every}
+use Rattle.reading.specs.Took.{Took, took, refuse, Reader, onward, after, pure}
+use Rattle.reading.specs.Reading.{Maybe, done, one, more, every}
 use Rattle.parse.specs.Contract.{Moved, Said, on, no, Meets, stands, refuses, stream}
 use Rattle.parse.proofs.Meeting.{moved-none, moved-on}
-use Rattle.parse.proofs.Rounds.{Round, another, Rounding, every-step}
+use Rattle.reading.proofs.Rounds.{Round, another, Rounding, every-step}
 
 -- things that were read before, with their rows
 abbrev pub gathered : {A : Type 0} → List A → List ℕ → Took (List A) → Took (List A)

@@ -12,8 +12,8 @@ use Rattle.token_list.specs.Contract.{InList, LeafAt, GroupAt, rowOf}
 use Rattle.token_list.specs.declared.check.Cursor.{Cursor}
 use Rattle.token_list.specs.declared.stream.Token.{Token}
 use Rattle.token_list.proofs.Texts.{chosen, passed-over}
-use Rattle.parse.specs.Took.{Took, took, refuse, onward}
-use Rattle.parse.specs.Reading.{isPunct, attributes, marked, copied, whole}
+use Rattle.reading.specs.Took.{Took, took, refuse, onward}
+use Rattle.reading.specs.Reading.{isPunct, attributes, marked, copied, whole}
 use Rattle.parse.specs.Contract.{Moved, stream, pastOf, Belonged}
 use Rattle.parse.proofs.Meeting.{leaf-taken, leaf-then, moved-on, group-stream}
 

@@ -13,8 +13,8 @@ use Rattle.token_list.specs.Contract.{InList, TokenAt, LeafAt, GroupAt, Skipped
 use Rattle.token_list.specs.declared.stream.Peeked.{Peeked}
 use Rattle.token_list.specs.declared.check.Cursor.{Cursor}
 use Rattle.token_list.specs.declared.stream.Token.{Token}
-use Rattle.parse.specs.Took.{Took, took, refuse, Reader, onward, after, _>>=_, placeOf, pure}
-use Rattle.parse.specs.Reading.{copied, whole, lone, isPunct, isIdent, isWord, textOf, Word, missing, found, Ending, kept}
+use Rattle.reading.specs.Took.{Took, took, refuse, Reader, onward, after, _>>=_, placeOf, pure}
+use Rattle.reading.specs.Reading.{copied, whole, lone, isPunct, isIdent, isWord, textOf, Word, missing, found, Ending, kept}
 use Rattle.parse.specs.Contract.{Moved, Said, on, no, Meets, stands, refuses, refusal, any, stream, pastOf, Belonged, TextOf, wordShown, wordSaid}
 use Rattle.parse.specs.declared.utils.Word.{Word as WordAt}
 use Rattle.parse.specs.declared.utils.MaybeWord.{MaybeWord}

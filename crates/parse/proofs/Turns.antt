@@ -11,8 +11,8 @@ use Rattle.token_list.specs.Stream.{Trees, end, leaf, group, head, at}
 use Rattle.token_list.specs.Contract.{InList, TokenAt, LeafAt, GroupAt, rowOf}
 use Rattle.token_list.specs.declared.check.Cursor.{Cursor}
 use Rattle.token_list.specs.declared.stream.Token.{Token}
-use Rattle.parse.specs.Took.{Took, took, refuse, onward}
-use Rattle.parse.specs.Reading.{Stops, Ending, atEnd, atAngle, atComma, atGroup, Verdict, belongs, ends, unopened, judge, judgePunct, judgeGroup, judged, runFrom, copied, whole}
+use Rattle.reading.specs.Took.{Took, took, refuse, onward}
+use Rattle.reading.specs.Reading.{Stops, Ending, atEnd, atAngle, atComma, atGroup, Verdict, belongs, ends, unopened, judge, judgePunct, judgeGroup, judged, runFrom, copied, whole}
 use Rattle.parse.specs.Contract.{Moved, stream, pastOf, Belonged}
 use Rattle.parse.proofs.Meeting.{leaf-taken, group-stream, Going, going-start}
 

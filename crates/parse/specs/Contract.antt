@@ -10,8 +10,8 @@ use Rattle.token_list.specs.Contract.{InList, Skipped}
 use Rattle.token_list.specs.declared.check.Cursor.{Cursor}
 use Rattle.token_list.specs.declared.check.Refusal.{Refusal}
 use Rattle.token_list.specs.declared.stream.Token.{Token}
-use Rattle.parse.specs.Took.{Took, took, refuse, Reader, onward, pure, _>>=_}
-use Rattle.parse.specs.Reading as reading
+use Rattle.reading.specs.Took.{Took, took, refuse, Reader, onward, pure, _>>=_}
+use Rattle.reading.specs.Reading as reading
 use Rattle.parse.specs.declared.utils.Step.{Step}
 use Rattle.parse.specs.declared.utils.Step.the-variants as steps
 use Rattle.parse.specs.declared.utils.MaybeWord.{MaybeWord}
@@ -25,8 +25,8 @@ use Rattle.parse.specs.declared.utils.Verdict.{Verdict}
 use Rattle.parse.specs.declared.utils.Verdict.the-variants as verdicts
 use Rattle.parse.specs.declared.utils.RunTurn.{RunTurn}
 use Rattle.parse.specs.declared.utils.RunTurn.the-variants as turns
-use Rattle.parse.specs.Role as role
-use Rattle.parse.specs.Declaration as declaration
+use Rattle.reading.specs.Role as role
+use Rattle.reading.specs.Declaration as declaration
 use Rattle.parse.specs.declared.data_type.DataType.{DataType}
 use Rattle.parse.specs.declared.data_type.DataType.the-variants as kinds
 use Rattle.parse.specs.declared.data_type.Worded.{Worded}
@@ -56,7 +56,7 @@ use Rattle.parse.specs.declared.body.NameStep.the-variants as nameSteps
 use Rattle.parse.specs.declared.body.VariantAt.{VariantAt}
 use Rattle.parse.specs.declared.body.VariantStep.{VariantStep}
 use Rattle.parse.specs.declared.body.VariantStep.the-variants as variantSteps
-use Rattle.parse.specs.Answer as answers
+use Rattle.reading.specs.Answer as answers
 use Rattle.parse.specs.declared.item.ItemAt.{ItemAt}
 use Rattle.parse.specs.declared.item.ItemStep.{ItemStep}
 use Rattle.parse.specs.declared.item.ItemStep.the-variants as itemSteps

@@ -10,7 +10,7 @@ use token_list::check::Refusal;
 use token_list::stream::Peeked;
 use token_list::stream::peek;
 ghost use Rattle.token_list.specs.Contract.{InList};
-ghost use Rattle.parse.specs.Reading.{attributes};
+ghost use Rattle.reading.specs.Reading.{attributes};
 ghost use Rattle.parse.specs.Contract.{Meets, any, stream, stepSaid, AttributeRead};
 
 // One `#`: an attribute or an idle mark was taken, none stands here, or a refusal.

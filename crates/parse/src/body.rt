@@ -29,7 +29,7 @@ ghost use lib.ListN.{length, set};
 ghost use lib.Seq.{slice};
 ghost use Rattle.token_list.specs.Stream.{at, follows};
 ghost use Rattle.token_list.specs.Contract.{InList, GroupAt, Skipped};
-ghost use Rattle.parse.specs.Reading.{every, fieldAfter, namedField, tupleType, tupleField, variantFields, negatable, negativeValue, discriminant, valueIf, variantHere, variant, structBody, enumBody};
+ghost use Rattle.reading.specs.Reading.{every, fieldAfter, namedField, tupleType, tupleField, variantFields, negatable, negativeValue, discriminant, valueIf, variantHere, variant, structBody, enumBody};
 ghost use Rattle.parse.specs.Contract.{Meets, any, stream, stepSaid, fieldPrefix, fieldType, FieldNamed, fieldShown, fieldSaid, typeShown, typeSaid, countShown, countSaid, Inside, fieldsShown, fieldsSaid, valueShown, valueSaid, nameShown, nameSaid, variantName, variantValue, variantShown, variantSaid, bodyShown};
 
 // Where a named field's name stands, and the cursor after the field.

@@ -7,7 +7,7 @@ use token_list::check::Refusal;
 use token_list::stream::Token;
 use token_list::text::text_is;
 ghost use Rattle.token_list.specs.Contract.{InList};
-ghost use Rattle.parse.specs.Reading.{dataType};
+ghost use Rattle.reading.specs.Reading.{dataType};
 ghost use Rattle.parse.specs.Contract.{Meets, stream, itemWord, wordedShown, wordedSaid, headShown, headSaid};
 
 pub enum DataType {

@@ -16,9 +16,9 @@ use token_list::stream::peek;
 ghost use mathlib.Core.List.{List};
 ghost use Prim.Native.Nat.{ℕ};
 ghost use Rattle.token_list.specs.Contract.{InList};
-ghost use Rattle.parse.specs.Role.{bound};
-ghost use Rattle.parse.specs.Declaration.{Parameter};
-ghost use Rattle.parse.specs.Reading.{run, parameterStops, parameterName, marked-run, typeAfter, comma, parameter, every, generics, clause};
+ghost use Rattle.reading.specs.Role.{bound};
+ghost use Rattle.reading.specs.Declaration.{Parameter};
+ghost use Rattle.reading.specs.Reading.{run, parameterStops, parameterName, marked-run, typeAfter, comma, parameter, every, generics, clause};
 ghost use Rattle.parse.specs.Contract.{Meets, any, stream, TextOf, stepSaid, namedShown, namedSaid, ParameterOf, TypeNamed, parameterShown, parameterSaid, namedParameter, afterQuote, afterConst, afterName, countShown, countSaid};
 
 // Where a parameter's name stands, and the cursor after the parameter.

@@ -21,8 +21,8 @@ ghost use lib.ListN.{length, replicate};
 ghost use lib.Seq.{sets};
 ghost use Rattle.token_list.specs.Check as list;
 ghost use Rattle.token_list.specs.Contract.{InList};
-ghost use Rattle.parse.specs.Reading.{item};
-ghost use Rattle.parse.specs.Promise.{SingleAssignment};
+ghost use Rattle.reading.specs.Reading.{item};
+ghost use Rattle.reading.specs.Promise.{SingleAssignment};
 ghost use Rattle.parse.specs.Contract.{Meets, stream, headShown, headSaid, itemHead, tailShown, countSaid, itemTail, kindOf, itemShown, itemSaid, parsedOf, Answered, accepted};
 
 // What was read: the kind, the name's token, how many parameters and fields or variants there are, and

@@ -15,8 +15,8 @@ ghost use lib.ListN.{length, set, replicate};
 ghost use lib.Seq.{sets};
 ghost use Rattle.token_list.specs.Stream.{at, head, follows};
 ghost use Rattle.token_list.specs.Contract.{InList, TokenAt, GroupAt, rowOf};
-ghost use Rattle.parse.specs.Took.{placeOf};
-ghost use Rattle.parse.specs.Reading.{isWord, copied, word, punctIf, judgePunct, judgeGroup, belongs, ends, atComma, runFrom};
+ghost use Rattle.reading.specs.Took.{placeOf};
+ghost use Rattle.reading.specs.Reading.{isWord, copied, word, punctIf, judgePunct, judgeGroup, belongs, ends, atComma, runFrom};
 ghost use Rattle.parse.specs.Contract.{Moved, Meets, on, stream, pastOf, wordSaid, wordShown, loneShown, stopsOf, verdictOf, Turned, ranSaid, ranShown};
 
 // The answer of a reader: where it stopped, or a refusal.

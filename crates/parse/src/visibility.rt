@@ -13,7 +13,7 @@ ghost use mathlib.Core.Path.{_≡_};
 ghost use Prim.Native.Nat.{_≤_};
 ghost use lib.ListN.{length};
 ghost use Rattle.token_list.specs.Contract.{InList, rowOf};
-ghost use Rattle.parse.specs.Reading.{scopeWord, scoped, scopeAfter, anyScope, visibility};
+ghost use Rattle.reading.specs.Reading.{scopeWord, scoped, scopeAfter, anyScope, visibility};
 ghost use Rattle.parse.specs.Contract.{Meets, on, any, stream};
 
 // crate, self, super or in

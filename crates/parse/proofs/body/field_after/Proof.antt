@@ -1,11 +1,11 @@
 use Rattle.parse.proofs.Bodies as bodies
-use Rattle.parse.specs.Took.{Reader, _>>=_}
-use Rattle.parse.specs.Declaration.{Field}
+use Rattle.reading.specs.Took.{Reader, _>>=_}
+use Rattle.reading.specs.Declaration.{Field}
 use Prim.Native.Nat.{ℕ}
 use mathlib.Core.List.{List}
 use Rattle.parse.proofs.Meeting as meeting
 use Rattle.parse.specs.Contract as contract
-use Rattle.parse.specs.Reading as reading
+use Rattle.reading.specs.Reading as reading
 use Rattle.token_list.proofs.Texts.{chosen, passed-over, and-last, and-fails}
 use Rattle.token_list.specs.Contract.{InList}
 use borrow.Author.Tests.{eq-eqb, ne-eqb, not-true, not-false}

@@ -1,10 +1,10 @@
 use Rattle.parse.proofs.Bodies as bodies
-use Rattle.parse.specs.Declaration.{named, tuple}
+use Rattle.reading.specs.Declaration.{named, tuple}
 use Rattle.token_list.specs.Stream.{at}
 use Prim.Native.Nat.{_+_}
 use Rattle.parse.proofs.Meeting as meeting
 use Rattle.parse.specs.Contract as contract
-use Rattle.parse.specs.Reading as reading
+use Rattle.reading.specs.Reading as reading
 use Rattle.token_list.proofs.Texts.{chosen, passed-over, and-last, and-fails}
 use Rattle.token_list.specs.Contract.{InList}
 use borrow.Author.Tests.{eq-eqb, ne-eqb, not-true, not-false}

@@ -1,15 +1,15 @@
 use Rattle.parse.specs.declared.data_type.Worded.{Worded}
 use Rattle.parse.specs.Contract.{Meets}
-use Rattle.parse.specs.Took.{Took, Reader, after, pure, _>>=_}
-use Rattle.parse.specs.Declaration as declaration
-use Rattle.parse.specs.Role as role
+use Rattle.reading.specs.Took.{Took, Reader, after, pure, _>>=_}
+use Rattle.reading.specs.Declaration as declaration
+use Rattle.reading.specs.Role as role
 use Rattle.token_list.specs.declared.check.Cursor.{Cursor}
 use Rattle.token_list.specs.Stream.{Trees}
 use Prim.Native.Nat.{ℕ}
 use mathlib.Core.List.{List}
 use Rattle.parse.proofs.Meeting as meeting
 use Rattle.parse.specs.Contract as contract
-use Rattle.parse.specs.Reading as reading
+use Rattle.reading.specs.Reading as reading
 use Rattle.token_list.proofs.Texts.{chosen, passed-over, and-last, and-fails}
 use Rattle.token_list.specs.Contract.{InList}
 use borrow.Author.Tests.{eq-eqb, ne-eqb, not-true, not-false}

@@ -1,8 +1,8 @@
 use Rattle.parse.proofs.Items as items
 use Rattle.parse.specs.declared.data_type.DataType.{DataType}
 use Rattle.parse.specs.Contract.{Meets}
-use Rattle.parse.specs.Took.{Reader, after, pure, _>>=_}
-use Rattle.parse.specs.Declaration.{Kind, Parameter, Declaration}
+use Rattle.reading.specs.Took.{Reader, after, pure, _>>=_}
+use Rattle.reading.specs.Declaration.{Kind, Parameter, Declaration}
 use Rattle.token_list.specs.declared.check.Cursor.{Cursor}
 use Rattle.token_list.specs.Stream.{Trees}
 use Prim.Native.Nat.{ℕ}
@@ -10,7 +10,7 @@ use mathlib.Core.List.{List}
 use mathlib.Core.Path.{fun-ext}
 use Rattle.parse.proofs.Meeting as meeting
 use Rattle.parse.specs.Contract as contract
-use Rattle.parse.specs.Reading as reading
+use Rattle.reading.specs.Reading as reading
 use Rattle.token_list.proofs.Texts.{chosen, passed-over, and-last, and-fails}
 use Rattle.token_list.specs.Contract.{InList}
 use borrow.Author.Tests.{eq-eqb, ne-eqb, not-true, not-false}

@@ -1,14 +1,14 @@
 use Rattle.parse.proofs.Items as items
-use Rattle.parse.proofs.Promise.{promise-of}
+use Rattle.reading.proofs.Promise.{promise-of}
 use Rattle.parse.specs.declared.item.Parse.{Parse}
-use Rattle.parse.specs.Promise.{SingleAssignment}
+use Rattle.reading.specs.Promise.{SingleAssignment}
 use Rattle.token_list.specs.Contract as listed
 use lib.ListN.{length}
 use Prim.Native.Nat.{ℕ}
 use mathlib.Core.List.{List}
 use Rattle.parse.proofs.Meeting as meeting
 use Rattle.parse.specs.Contract as contract
-use Rattle.parse.specs.Reading as reading
+use Rattle.reading.specs.Reading as reading
 use Rattle.token_list.proofs.Texts.{chosen, passed-over, and-last, and-fails}
 use Rattle.token_list.specs.Contract.{InList}
 use borrow.Author.Tests.{eq-eqb, ne-eqb, not-true, not-false}

@@ -1,5 +1,5 @@
 use Rattle.parse.proofs.Meeting.{peeked}
-use Rattle.parse.specs.Took.{placeOf}
+use Rattle.reading.specs.Took.{placeOf}
 use Rattle.token_list.specs.Contract.{stands as standsAt}
 use mathlib.Core.Path.{_≡_, sym, ap, subst}
 use borrow.Author.Needs.{needs}

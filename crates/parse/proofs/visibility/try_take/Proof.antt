@@ -1,6 +1,6 @@
 use Rattle.token_list.specs.Stream.{at, head}
 use Rattle.parse.specs.declared.utils.MaybeWord.{MaybeWord}
-use Rattle.parse.specs.Took.{Reader, onward}
+use Rattle.reading.specs.Took.{Reader, onward}
 use Rattle.token_list.specs.declared.check.Cursor.{Cursor}
 use Rattle.token_list.specs.Stream.{Trees}
 use Rattle.token_list.specs.Text.{same}
@@ -9,7 +9,7 @@ use Prim.Native.Nat.{ℕ, _+_}
 use mathlib.Core.List.{List}
 use Rattle.parse.proofs.Meeting as meeting
 use Rattle.parse.specs.Contract as contract
-use Rattle.parse.specs.Reading as reading
+use Rattle.reading.specs.Reading as reading
 use Rattle.token_list.proofs.Texts.{chosen, passed-over, and-last, and-fails}
 use Rattle.token_list.specs.Contract.{InList}
 use borrow.Author.Tests.{eq-eqb, ne-eqb, not-true, not-false}

@@ -7,7 +7,7 @@ use Prim.Native.String.{String, [] as empty, _∷_ as _and_}
 use lib.Dec.{eqb}
 use Rattle.token_list.specs.Check.{END}
 use Rattle.token_list.specs.Text.{same}
-use Rattle.parse.specs.Answer.{Answer, declared, answer}
+use Rattle.reading.specs.Answer.{Answer, declared, answer}
 
 -- what the paper says: the roles, only that the list is accepted, or a refusal's number and place
 pub data Expected : Type 0 where

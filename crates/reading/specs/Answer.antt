@@ -6,10 +6,10 @@ use lib.Dec.{ltb}
 use lib.ListN.{length, replicate}
 use Rattle.token_list.specs.Check as list
 use Rattle.token_list.specs.Stream.{Trees, size, at}
-use Rattle.parse.specs.Role as role
-use Rattle.parse.specs.Declaration.{Declaration}
-use Rattle.parse.specs.Took.{Took, took, refuse}
-use Rattle.parse.specs.Reading.{item}
+use Rattle.reading.specs.Role as role
+use Rattle.reading.specs.Declaration.{Declaration}
+use Rattle.reading.specs.Took.{Took, took, refuse}
+use Rattle.reading.specs.Reading.{item}
 
 pub data Answer : Type 0 where
   -- the declaration, and the role of each row

@@ -7,15 +7,15 @@ use lib.Dec.{eqb}
 use lib.ListN.{replicate}
 use Rattle.token_list.specs.Row.{Row}
 use Rattle.token_list.specs.Stream.{Trees, end, leaf, group, size}
-use Rattle.parse.specs.Role as role
-use Rattle.parse.specs.Token.{isIdent, isLiteral, isPunct, isWord, starts, isEnd, negatable, CONST, WHERE, parameterStops, fieldStops, clauseStops}
-use Rattle.parse.specs.Grammar as g
-use Rattle.parse.specs.Grammar.{everything}
-use Rattle.parse.specs.Declaration.{Kind, struct, enum, Parameter, Field, Fields, Value, absent, Variant, Body, Declaration}
-use Rattle.parse.specs.Took.{Took, took, Reader, onward, after, _>>=_, pure}
-use Rattle.parse.specs.Reading as r
-use Rattle.parse.specs.Reading.{Maybe, done, one, Word, rounds, every, more}
-use Rattle.parse.proofs.SoundTokens.{Meets, met, refused, met-by, choice, onward-met, onward-still, after-met, run-sound, attributes-sound, visibility-sound, name-then, kindWord, dataType-sound}
+use Rattle.reading.specs.Role as role
+use Rattle.reading.specs.Token.{isIdent, isLiteral, isPunct, isWord, starts, isEnd, negatable, CONST, WHERE, parameterStops, fieldStops, clauseStops}
+use Rattle.reading.specs.Grammar as g
+use Rattle.reading.specs.Grammar.{everything}
+use Rattle.reading.specs.Declaration.{Kind, struct, enum, Parameter, Field, Fields, Value, absent, Variant, Body, Declaration}
+use Rattle.reading.specs.Took.{Took, took, Reader, onward, after, _>>=_, pure}
+use Rattle.reading.specs.Reading as r
+use Rattle.reading.specs.Reading.{Maybe, done, one, Word, rounds, every, more}
+use Rattle.reading.proofs.SoundTokens.{Meets, met, refused, met-by, choice, onward-met, onward-still, after-met, run-sound, attributes-sound, visibility-sound, name-then, kindWord, dataType-sound}
 
 -- ## Marks and generics
 

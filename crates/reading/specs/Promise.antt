@@ -9,7 +9,7 @@ use lib.ListN.{length, replicate}
 use Rattle.token_list.specs.Text.{all}
 use Rattle.token_list.specs.Check.{check, passed}
 use Rattle.token_list.specs.Stream.{Trees, at, rowsAt}
-use Rattle.parse.specs.Grammar.{Obeys, everything}
+use Rattle.reading.specs.Grammar.{Obeys, everything}
 
 -- the stream of all rows of a list, after its line of names
 abbrev pub stream : List ℕ → Trees

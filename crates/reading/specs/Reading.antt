@@ -9,10 +9,10 @@ use Rattle.token_list.specs.Text.{same, all, digit, member}
 use Rattle.token_list.specs.Row.{Row, first}
 use Rattle.token_list.specs.Check.{END}
 use Rattle.token_list.specs.Stream.{Trees, end, leaf, group, size}
-use Rattle.parse.specs.Role as role
-pub use Rattle.parse.specs.Token.{isIdent, isLiteral, isPunct, isWord, whole, copied, lone, PUB, STRUCT, ENUM, CONST, WHERE, scopeWord, scoped, worthFrom, worth, negatable, Stops, parameterStops, fieldStops, clauseStops}
-use Rattle.parse.specs.Declaration.{Kind, struct, enum, Parameter, lifetime, constant, type, Field, Fields, unit, named, tuple, Value, absent, literal, negative, Variant, Body, fields, variants, Declaration}
-use Rattle.parse.specs.Took.{Took, took, refuse, Reader, onward, after, _>>=_, pure, placeOf, wrong}
+use Rattle.reading.specs.Role as role
+pub use Rattle.reading.specs.Token.{isIdent, isLiteral, isPunct, isWord, whole, copied, lone, PUB, STRUCT, ENUM, CONST, WHERE, scopeWord, scoped, worthFrom, worth, negatable, Stops, parameterStops, fieldStops, clauseStops}
+use Rattle.reading.specs.Declaration.{Kind, struct, enum, Parameter, lifetime, constant, type, Field, Fields, unit, named, tuple, Value, absent, literal, negative, Variant, Body, fields, variants, Declaration}
+use Rattle.reading.specs.Took.{Took, took, refuse, Reader, onward, after, _>>=_, pure, placeOf, wrong}
 
 -- ## Words and punctuation (parse/utils.rs)
 

@@ -11,15 +11,15 @@ use Rattle.token_list.specs.Row.{Row, first}
 use Rattle.token_list.specs.Stream.{Trees, end, leaf, group}
 use Rattle.token_list.proofs.Texts.{chosen, passed-over, and-last, and-fails}
 use Rattle.token_list.proofs.Streams.{and-parts}
-use Rattle.parse.specs.Role as role
-use Rattle.parse.specs.Token.{isIdent, isLiteral, isPunct, isWord, copied, lone, starts, isGroup, PUB, STRUCT, ENUM, Stops}
-use Rattle.parse.specs.Grammar as g
-use Rattle.parse.specs.Grammar.{everything}
-use Rattle.parse.specs.Declaration.{Kind, struct, enum}
-use Rattle.parse.specs.Took.{Took, took, refuse, Reader, onward, after, _>>=_, pure}
-use Rattle.parse.specs.Reading as r
-use Rattle.parse.specs.Reading.{one, Word, missing, found, Ending, Verdict, belongs, ends, unopened}
-use Rattle.parse.proofs.SoundTokens.{kindWord}
+use Rattle.reading.specs.Role as role
+use Rattle.reading.specs.Token.{isIdent, isLiteral, isPunct, isWord, copied, lone, starts, isGroup, PUB, STRUCT, ENUM, Stops}
+use Rattle.reading.specs.Grammar as g
+use Rattle.reading.specs.Grammar.{everything}
+use Rattle.reading.specs.Declaration.{Kind, struct, enum}
+use Rattle.reading.specs.Took.{Took, took, refuse, Reader, onward, after, _>>=_, pure}
+use Rattle.reading.specs.Reading as r
+use Rattle.reading.specs.Reading.{one, Word, missing, found, Ending, Verdict, belongs, ends, unopened}
+use Rattle.reading.proofs.SoundTokens.{kindWord}
 
 -- a reader's answer: it takes, with these roles and this rest, and P holds of the value
 pub record Taken {A : Type 0} (P : A → Type 0) (t : Took A) (rs : List ℕ) (us : Trees) : Type 0 where

@@ -5,10 +5,10 @@ use mathlib.Core.List.{List}
 use Prim.Native.Nat.{ℕ}
 use Rattle.token_list.specs.Row.{Row}
 use Rattle.token_list.specs.Stream.{Trees}
-use Rattle.parse.specs.Token.{Stops}
-use Rattle.parse.specs.Grammar as g
-use Rattle.parse.specs.Grammar.{Difference, everything}
-use Rattle.parse.proofs.Promise.{obeys-unique}
+use Rattle.reading.specs.Token.{Stops}
+use Rattle.reading.specs.Grammar as g
+use Rattle.reading.specs.Grammar.{Difference, everything}
+use Rattle.reading.proofs.Promise.{obeys-unique}
 
 module _ (fewer more : Difference → Bool) (wider : (d : Difference) → fewer d ≡ true → more d ≡ true) where
   unless : (d : Difference) (b : Bool) → g.Unless fewer d b → g.Unless more d b

@@ -10,10 +10,10 @@ use Rattle.token_list.specs.Row.{Row}
 use Rattle.token_list.specs.Stream.{Trees, size}
 use Rattle.token_list.proofs.Texts.{and-both}
 use Rattle.token_list.proofs.Streams.{and-parts}
-use Rattle.parse.specs.Role as role
-use Rattle.parse.specs.Token.{Stops, copied, whole}
-use Rattle.parse.specs.Grammar as g
-use Rattle.parse.specs.Grammar.{Difference}
+use Rattle.reading.specs.Role as role
+use Rattle.reading.specs.Token.{Stops, copied, whole}
+use Rattle.reading.specs.Grammar as g
+use Rattle.reading.specs.Grammar.{Difference}
 
 abbrev pub Named : List ℕ → Type 0
 Named rs = all (λ r. ltb r 19) rs ≡ true

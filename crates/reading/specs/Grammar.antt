@@ -11,8 +11,8 @@ use lib.Dec.{eqb, leb}
 use lib.ListN.{length, replicate}
 use Rattle.token_list.specs.Row.{Row}
 use Rattle.token_list.specs.Stream.{Trees, end, leaf, group, size}
-use Rattle.parse.specs.Role as role
-use Rattle.parse.specs.Token.{isIdent, isLiteral, isPunct, isWord, copied, lone, starts, opens, isGroup, isEnd, scoped, negatable, PUB, STRUCT, ENUM, CONST, WHERE, Stops, parameterStops, fieldStops, clauseStops}
+use Rattle.reading.specs.Role as role
+use Rattle.reading.specs.Token.{isIdent, isLiteral, isPunct, isWord, copied, lone, starts, opens, isGroup, isEnd, scoped, negatable, PUB, STRUCT, ENUM, CONST, WHERE, Stops, parameterStops, fieldStops, clauseStops}
 
 -- Where document 01, with the Rust, admits what the Reference refuses or reads otherwise: docs/DIFFERENCES.md has an entry for
 -- each. What stands inside runs, copied groups and names is not looked at, so these of its entries are no cases here:

@@ -5,12 +5,12 @@ use mathlib.Core.List.{[], _∷_}
 use Rattle.token_list.specs.Check.{check}
 use Rattle.token_list.specs.Row.{formOf}
 use Rattle.token_list.specs.Stream.{before, at}
-use Rattle.parse.specs.Token.{negatable}
-use Rattle.parse.specs.Answer.{answer}
-use Rattle.parse.specs.Examples.{allAgree, examples, bytes, VALVE, ARROW}
-use Rattle.parse.specs.Promise.{stream}
-use Rattle.parse.specs.Grammar as g
-use Rattle.parse.specs.Grammar.{Obeys, nothing}
+use Rattle.reading.specs.Token.{negatable}
+use Rattle.reading.specs.Answer.{answer}
+use Rattle.reading.specs.Examples.{allAgree, examples, bytes, VALVE, ARROW}
+use Rattle.reading.specs.Promise.{stream}
+use Rattle.reading.specs.Grammar as g
+use Rattle.reading.specs.Grammar.{Obeys, nothing}
 
 pub paper : allAgree examples ≡ true
 unfolding answer check formOf before at negatable

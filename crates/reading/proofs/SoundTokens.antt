@@ -9,14 +9,14 @@ use Rattle.token_list.specs.Text.{same}
 use Rattle.token_list.specs.Row.{Row, first}
 use Rattle.token_list.specs.Stream.{Trees, end, leaf, group}
 use Rattle.token_list.proofs.Texts.{and-both, and-last, and-fails}
-use Rattle.parse.specs.Role as role
-use Rattle.parse.specs.Token.{isIdent, isPunct, isWord, copied, lone, PUB, STRUCT, ENUM, Stops}
-use Rattle.parse.specs.Grammar as g
-use Rattle.parse.specs.Grammar.{everything}
-use Rattle.parse.specs.Declaration.{Kind, struct, enum}
-use Rattle.parse.specs.Took.{Took, took, refuse, Reader, onward, after, _>>=_, pure}
-use Rattle.parse.specs.Reading as r
-use Rattle.parse.specs.Reading.{Word, missing, found, Ending, belongs, ends, unopened}
+use Rattle.reading.specs.Role as role
+use Rattle.reading.specs.Token.{isIdent, isPunct, isWord, copied, lone, PUB, STRUCT, ENUM, Stops}
+use Rattle.reading.specs.Grammar as g
+use Rattle.reading.specs.Grammar.{everything}
+use Rattle.reading.specs.Declaration.{Kind, struct, enum}
+use Rattle.reading.specs.Took.{Took, took, refuse, Reader, onward, after, _>>=_, pure}
+use Rattle.reading.specs.Reading as r
+use Rattle.reading.specs.Reading.{Word, missing, found, Ending, belongs, ends, unopened}
 
 -- what holds of the value, the roles and the rest, where a reader takes
 pub data Meets {A : Type 0} (N : A → List ℕ → Trees → Type 0) : Took A → Type 0 where

@@ -11,17 +11,17 @@ use Rattle.token_list.specs.Row.{Row, first}
 use Rattle.token_list.specs.Stream.{Trees, end, leaf, group, size}
 use Rattle.token_list.proofs.Texts.{chosen, passed-over}
 use Rattle.token_list.proofs.Streams.{and-parts}
-use Rattle.parse.specs.Role as role
-use Rattle.parse.specs.Token.{isIdent, isLiteral, isPunct, isWord, starts, isGroup, isEnd, negatable, CONST, WHERE, parameterStops, fieldStops, clauseStops}
-use Rattle.parse.specs.Grammar as g
-use Rattle.parse.specs.Grammar.{everything}
-use Rattle.parse.specs.Declaration.{Kind, struct, enum, Parameter, Field, Fields, Value, absent, Variant, Body, Declaration}
-use Rattle.parse.specs.Took.{Took, took, Reader, onward, after, _>>=_, pure}
-use Rattle.parse.specs.Reading as r
-use Rattle.parse.specs.Reading.{Maybe, done, one, every, more}
-use Rattle.parse.proofs.Conserved as c
-use Rattle.parse.proofs.SoundTokens.{kindWord}
-use Rattle.parse.proofs.CompleteTokens.{Taken, Takes, Any, same-as, taken-as, onward-taken, and-then, with-roles, pure-takes, and-pure, eqb-other, punct-other, ident-no-punct, punct-no-literal, run-complete, attributes-complete, visibility-complete, name-then, dataType-complete}
+use Rattle.reading.specs.Role as role
+use Rattle.reading.specs.Token.{isIdent, isLiteral, isPunct, isWord, starts, isGroup, isEnd, negatable, CONST, WHERE, parameterStops, fieldStops, clauseStops}
+use Rattle.reading.specs.Grammar as g
+use Rattle.reading.specs.Grammar.{everything}
+use Rattle.reading.specs.Declaration.{Kind, struct, enum, Parameter, Field, Fields, Value, absent, Variant, Body, Declaration}
+use Rattle.reading.specs.Took.{Took, took, Reader, onward, after, _>>=_, pure}
+use Rattle.reading.specs.Reading as r
+use Rattle.reading.specs.Reading.{Maybe, done, one, every, more}
+use Rattle.reading.proofs.Conserved as c
+use Rattle.reading.proofs.SoundTokens.{kindWord}
+use Rattle.reading.proofs.CompleteTokens.{Taken, Takes, Any, same-as, taken-as, onward-taken, and-then, with-roles, pure-takes, and-pure, eqb-other, punct-other, ident-no-punct, punct-no-literal, run-complete, attributes-complete, visibility-complete, name-then, dataType-complete}
 
 -- ## Marks and generics
 

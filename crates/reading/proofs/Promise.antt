@@ -10,17 +10,17 @@ use lib.ListN.{length, replicate, length-append, length-replicate}
 use Rattle.token_list.specs.Check as list
 use Rattle.token_list.specs.Stream.{Trees, size, at, rowsAt}
 use Rattle.token_list.proofs.Passed.{passed-list}
-use Rattle.parse.specs.Role as role
-use Rattle.parse.specs.Grammar.{Obeys, everything}
-use Rattle.parse.specs.Declaration.{Declaration}
-use Rattle.parse.specs.Took.{Took, took, refuse}
-use Rattle.parse.specs.Reading.{item}
-use Rattle.parse.specs.Answer.{Answer, declared, refused, itemAnswer, checkedAnswer, answer, buffer, accepts}
-use Rattle.parse.specs.Promise.{stream, Assignment, OneEach, SingleAssignment}
-use Rattle.parse.proofs.Conserved.{conserved, Conserved, item-conserving}
-use Rattle.parse.proofs.GrammarSound.{obeys-sound}
-use Rattle.parse.proofs.GrammarComplete.{Read, obeys-complete}
-use Rattle.parse.proofs.GrammarRoles.{obeys-roles}
+use Rattle.reading.specs.Role as role
+use Rattle.reading.specs.Grammar.{Obeys, everything}
+use Rattle.reading.specs.Declaration.{Declaration}
+use Rattle.reading.specs.Took.{Took, took, refuse}
+use Rattle.reading.specs.Reading.{item}
+use Rattle.reading.specs.Answer.{Answer, declared, refused, itemAnswer, checkedAnswer, answer, buffer, accepts}
+use Rattle.reading.specs.Promise.{stream, Assignment, OneEach, SingleAssignment}
+use Rattle.reading.proofs.Conserved.{conserved, Conserved, item-conserving}
+use Rattle.reading.proofs.GrammarSound.{obeys-sound}
+use Rattle.reading.proofs.GrammarComplete.{Read, obeys-complete}
+use Rattle.reading.proofs.GrammarRoles.{obeys-roles}
 
 -- ## Assignments of a stream
 

@@ -8,10 +8,10 @@ use native.Mathlib.Omega.{arith}
 use lib.ListN.{length, length-append, length-replicate}
 use Rattle.token_list.specs.Row.{Row}
 use Rattle.token_list.specs.Stream.{Trees, end, leaf, group, size}
-use Rattle.parse.specs.Role as role
-use Rattle.parse.specs.Took.{Took, took, refuse, Reader, onward, after, _>>=_, pure}
-use Rattle.parse.specs.Reading as r
-use Rattle.parse.specs.Reading.{Maybe, done, one, rounds, every, more}
+use Rattle.reading.specs.Role as role
+use Rattle.reading.specs.Took.{Took, took, refuse, Reader, onward, after, _>>=_, pure}
+use Rattle.reading.specs.Reading as r
+use Rattle.reading.specs.Reading.{Maybe, done, one, rounds, every, more}
 
 -- the roles of the rows that were taken, and the rows that are left
 pub data Conserved {A : Type 0} (ts : Trees) : Took A → Type 0 where

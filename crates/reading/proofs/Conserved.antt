@@ -10,13 +10,13 @@ use lib.ListN.{length, replicate, length-append, length-replicate}
 use Rattle.token_list.specs.Text.{same}
 use Rattle.token_list.specs.Row.{Row, first}
 use Rattle.token_list.specs.Stream.{Trees, end, leaf, group, size}
-use Rattle.parse.specs.Role as role
-use Rattle.parse.specs.Declaration.{Kind, struct, enum, Parameter, Field, Fields, Value, Variant, Body, Declaration}
-use Rattle.parse.specs.Took.{Took, took, refuse, Reader, onward, after, _>>=_, pure, wrong}
-use Rattle.parse.specs.Reading as r
-use Rattle.parse.specs.Reading.{Maybe, done, one, Word, missing, found, Stops, Ending, Verdict, belongs, ends, unopened, rounds, every, more}
-pub use Rattle.parse.proofs.Rounds.{Conserved, Conserving, conserved, onward-conserved, after-conserved, bind, pure-conserving, choice, reader-choice, nothing-taken, from-conserved, copied-length, copied-conserved, copied-alone, one-row, Shorter, onward-shorter, onward-still, after-shorter, least, after-still, shorter-choice, from-shorter, looser, Round, Rounding, round-conserved, shorter-round, round-choice, onward-round, after-round, Ended, ended-at, Last, Lasting, onward-last, after-last, bind-last, last-choice, closing-conserved, pure-after-ended, fuel, every-step, every-conserving, every-ended}
-use Rattle.parse.proofs.Rounds.{taken, shorter, another, finished, ended, last, refused}
+use Rattle.reading.specs.Role as role
+use Rattle.reading.specs.Declaration.{Kind, struct, enum, Parameter, Field, Fields, Value, Variant, Body, Declaration}
+use Rattle.reading.specs.Took.{Took, took, refuse, Reader, onward, after, _>>=_, pure, wrong}
+use Rattle.reading.specs.Reading as r
+use Rattle.reading.specs.Reading.{Maybe, done, one, Word, missing, found, Stops, Ending, Verdict, belongs, ends, unopened, rounds, every, more}
+pub use Rattle.reading.proofs.Rounds.{Conserved, Conserving, conserved, onward-conserved, after-conserved, bind, pure-conserving, choice, reader-choice, nothing-taken, from-conserved, copied-length, copied-conserved, copied-alone, one-row, Shorter, onward-shorter, onward-still, after-shorter, least, after-still, shorter-choice, from-shorter, looser, Round, Rounding, round-conserved, shorter-round, round-choice, onward-round, after-round, Ended, ended-at, Last, Lasting, onward-last, after-last, bind-last, last-choice, closing-conserved, pure-after-ended, fuel, every-step, every-conserving, every-ended}
+use Rattle.reading.proofs.Rounds.{taken, shorter, another, finished, ended, last, refused}
 
 -- ## The readers
 

@@ -1,0 +1,11 @@
+-- Laws on the reading and the grammar, which proofs above cite.
+pub mod Rounds
+pub mod Conserved
+pub mod SoundTokens
+pub mod GrammarSound
+pub mod CompleteTokens
+pub mod GrammarComplete
+pub mod GrammarRoles
+pub mod Promise
+pub mod GrammarWider
+pub mod Examples

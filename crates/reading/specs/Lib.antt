@@ -1,0 +1,11 @@
+-- What a declaration is to the reader (document 01 and the Rust Reference 1.63): the roles, the role grammar, the reading, the
+-- whole answer, and the promise that each row has one role.
+pub mod Role
+pub mod Token
+pub mod Declaration
+pub mod Took
+pub mod Grammar
+pub mod Reading
+pub mod Answer
+pub mod Promise
+pub mod Examples
