@@ -1,0 +1,2 @@
+-- Laws on the answers' numbers.
+pub mod Codes
