@@ -1,6 +1,11 @@
 // This repository's own answers, compared with recorded ones: one function for each section.
 use crate::header::Section;
 use report::check::report_check;
+use report::put::put_refusal;
+use report::roles::Roles;
+use report::roles::read_roles;
+use token_list::check::Refusal;
+use token_list::text::is_one_of;
 use token_list::text::text_is;
 ghost use mathlib.Core.Path.{_≡_};
 ghost use Prim.Native.Nat.{_≤_};
@@ -8,8 +13,9 @@ ghost use lib.ListN.{length};
 ghost use lib.Seq.{slice};
 ghost use Rattle.token_list.specs.Text.{same};
 ghost use Rattle.token_list.specs.Check.{check};
-ghost use Rattle.report.specs.Text.{answerText};
-ghost use Rattle.replay.specs.Answer.{right};
+ghost use Rattle.report.specs.Text.{answerText, refusalText};
+ghost use Rattle.parse.specs.Answer.{answer};
+ghost use Rattle.replay.specs.Answer.{letterFits, lettersFit, acceptedFits, rolesFit, everyFits, right};
 
 // Whether the bytes from start to end are the report of the list check.
 fn is_check(list: &[u8], s: &[u8], start: usize, end: usize) -> bool
@@ -21,14 +27,107 @@ fn is_check(list: &[u8], s: &[u8], start: usize, end: usize) -> bool
     text_is(s, start, end, &out[..n])
 }
 
+// Whether the bytes from start to end are the text of a refusal.
+fn is_refusal(refusal: Refusal, s: &[u8], start: usize, end: usize) -> bool
+    requires { ⌜ end ≤ length (now s) ⌝ }
+    ensures { λ r. ⌜ r ≡ same (slice start end (now (s .entry))) (refusalText (refusal .number) (refusal .place)) ⌝ }
+{
+    let mut out = [0u8; 64];
+    let n = put_refusal(&mut out, 0, refusal);
+    text_is(s, start, end, &out[..n])
+}
+
+// Whether a letter stands for a role. A `.` does where the Rust's answer need not name the row: not in
+// `every`, and not for roles whose rows it always names.
+fn letter_fits(letter: u8, role: u8, every: bool) -> bool
+    ensures { λ r. ⌜ r ≡ letterFits every letter role ⌝ }
+{
+    if letter == b'.' {
+        if every {
+            return false;
+        }
+        let named = [9u8, 11, 13, 17, 18];
+        return !is_one_of(role, &named);
+    }
+    letter as usize == 97 + role as usize
+}
+
+// Whether the bytes from start to end are a letter for each role, then LF.
+fn letters_fit(s: &[u8], start: usize, end: usize, roles: &[u8], every: bool) -> bool
+    requires { ⌜ end ≤ length (now s) ⌝ }
+    ensures { λ r. ⌜ r ≡ lettersFit every (slice start end (now (s .entry))) (now (roles .entry)) ⌝ }
+{
+    let mut at = start;
+    let mut i = 0;
+    while i < roles.len() {
+        if end <= at {
+            return false;
+        }
+        if !letter_fits(s[at], roles[i], every) {
+            return false;
+        }
+        at += 1;
+        i += 1;
+    }
+    text_is(s, at, end, b"\n")
+}
+
+// Whether the bytes from start to end are the line `accepted` and the letters of the roles.
+fn accepted_fits(s: &[u8], start: usize, end: usize, roles: &[u8]) -> bool
+    requires { ⌜ (start ≤ end) × (end ≤ length (now s)) ⌝ }
+    ensures { λ r. ⌜ r ≡ acceptedFits (slice start end (now (s .entry))) (now (roles .entry)) ⌝ }
+{
+    if end - start < 9 {
+        return false;
+    }
+    let letters = start + 9;
+    if !text_is(s, start, letters, b"accepted\n") {
+        return false;
+    }
+    letters_fit(s, letters, end, roles, false)
+}
+
+// A byte for each row that a list may have.
+fn role_buffer() -> [u8; 4096]
+    ensures { λ r. ⌜ 4096 ≡ length r ⌝ }
+{
+    [0; 4096]
+}
+
+// Whether the bytes from start to end are the refusal, or name no other role than the list's rows have.
+fn is_roles(list: &[u8], s: &[u8], start: usize, end: usize) -> bool
+    requires { ⌜ (start ≤ end) × (end ≤ length (now s)) ⌝ }
+    ensures { λ r. ⌜ r ≡ rolesFit (slice start end (now (s .entry))) (answer (now (list .entry)) 4096) ⌝ }
+{
+    let mut roles = role_buffer();
+    match read_roles(list, &mut roles) {
+        Roles::Refused(r) => is_refusal(r, s, start, end),
+        Roles::Rows(n) => accepted_fits(s, start, end, &roles[..n]),
+    }
+}
+
+// Whether the bytes from start to end are the letters of every row's role.
+fn is_every(list: &[u8], s: &[u8], start: usize, end: usize) -> bool
+    requires { ⌜ end ≤ length (now s) ⌝ }
+    ensures { λ r. ⌜ r ≡ everyFits (slice start end (now (s .entry))) (answer (now (list .entry)) 4096) ⌝ }
+{
+    let mut roles = role_buffer();
+    match read_roles(list, &mut roles) {
+        Roles::Refused(_) => false,
+        Roles::Rows(n) => letters_fit(s, start, end, &roles[..n], true),
+    }
+}
+
 // Whether the bytes from start to end are the answer that the section asks for.
 pub fn is_right(section: Section, list: &[u8], s: &[u8], start: usize, end: usize) -> bool
-    requires { ⌜ end ≤ length (now s) ⌝ }
+    requires { ⌜ (start ≤ end) × (end ≤ length (now s)) ⌝ }
     ensures { λ r. ⌜ r ≡ right section (now (list .entry)) (slice start end (now (s .entry))) ⌝ }
 {
     match section {
         Section::List => false,
         Section::Check => is_check(list, s, start, end),
+        Section::Roles => is_roles(list, s, start, end),
+        Section::Every => is_every(list, s, start, end),
         Section::Other => true,
     }
 }

@@ -9,6 +9,8 @@ ghost use Rattle.replay.specs.State.{headed};
 pub enum Section {
     List,
     Check,
+    Roles,
+    Every,
     Other,
 }
 
@@ -78,6 +80,12 @@ fn section_named(s: &[u8], start: usize, end: usize) -> Section
     if text_is(s, start, end, b"check") {
         return Section::Check;
     }
+    if text_is(s, start, end, b"roles") {
+        return Section::Roles;
+    }
+    if text_is(s, start, end, b"every") {
+        return Section::Every;
+    }
     Section::Other
 }
 
@@ -88,6 +96,8 @@ pub fn put_name(out: &mut [u8], at: usize, section: Section) -> usize
 {
     match section {
         Section::Check => put_bytes(out, at, b"check"),
+        Section::Roles => put_bytes(out, at, b"roles"),
+        Section::Every => put_bytes(out, at, b"every"),
         Section::List => at,
         Section::Other => at,
     }

@@ -140,24 +140,32 @@ fn step(buf: &mut [u8], list: &mut [u8], s: State) -> Turn
             next.from = start;
             match section {
                 Section::List => take_list(buf, list, next, size),
-                Section::Check => compare(buf, list, next, section, size),
                 Section::Other => {
                     next.skip = size;
                     Turn::On(next)
                 }
+                _ => compare(buf, list, next, section, size),
             }
         }
     }
 }
 
-fn print_counts(s: State) {
+// A line with a name, which ends in a space, and a count.
+fn print_count(name: &[u8], count: usize)
+    requires { ⌜ length (now name) ≤ 16 ⌝ }
+{
     let mut out = [0u8; 64];
-    let word = put_bytes(&mut out, 0, b"check ");
-    let checks = put_number(&mut out, word, s.checks);
-    let second = put_bytes(&mut out, checks, b"\ndifferences ");
-    let differences = put_number(&mut out, second, s.differences);
-    let end = put_byte(&mut out, differences, b'\n');
+    let word = put_bytes(&mut out, 0, name);
+    let number = put_number(&mut out, word, count);
+    let end = put_byte(&mut out, number, b'\n');
     io::write_all(STDOUT_FILENO, &out[..end]);
+}
+
+fn print_counts(s: State) {
+    print_count(b"check ", s.checks);
+    print_count(b"roles ", s.roles);
+    print_count(b"every ", s.everys);
+    print_count(b"differences ", s.differences);
 }
 
 // Turns to the end of the input, counted down since nothing says that it ends.

@@ -14,6 +14,8 @@ pub struct State {
     pub list: usize,
     pub cases: usize,
     pub checks: usize,
+    pub roles: usize,
+    pub everys: usize,
     pub differences: usize,
 }
 
@@ -27,6 +29,8 @@ pub fn start() -> State
         list: 0,
         cases: 0,
         checks: 0,
+        roles: 0,
+        everys: 0,
         differences: 0,
     }
 }
@@ -46,6 +50,14 @@ pub fn counted(s: State, section: Section) -> State
     match section {
         Section::Check => {
             next.checks = count(s.checks);
+            next
+        }
+        Section::Roles => {
+            next.roles = count(s.roles);
+            next
+        }
+        Section::Every => {
+            next.everys = count(s.everys);
             next
         }
         Section::List => next,

@@ -1,2 +1,3 @@
--- Laws on the texts, which the proofs of the functions cite.
+-- Laws on the texts and on the roles, which the proofs of the functions cite.
 pub mod Texts
+pub mod Lines

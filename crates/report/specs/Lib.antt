@@ -1,3 +1,5 @@
--- What the report crate's contracts say. Text has the texts themselves, from document 01; Contract says what writing one means.
+-- What the report crate's contracts say. Text has the texts of answers, from document 01, Roles the report of the roles; Contract says
+-- what writing a text means.
 pub mod Text
+pub mod Roles
 pub mod Contract

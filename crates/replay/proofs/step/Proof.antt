@@ -1,7 +1,7 @@
-use native.Mathlib.Omega.{arith}
-use mathlib.Core.Path.{subst}
-use Rattle.replay.specs.State.{headed}
 use Prim.Native.Nat.{_≤_}
+use Rattle.replay.specs.State.{headed}
+use mathlib.Core.Path.{subst}
+use native.Mathlib.Omega.{arith}
 use borrow.Author.Needs.{needs}
 use Rattle.replay.proofs.step.Statement.{statement}
 use Rattle.replay.proofs.step.Tie as tie
@@ -58,12 +58,9 @@ enum-told-3 c = search needs
 
 compare-requires : tie.Need-compare-requires
 compare-requires c κs =
-    let d = c .before .before .before .before .before in
+    let d = c .before .before .before .before in
     let w = d .before .before .before .before .before .before .before .before .before .ready in
     record { order = begins d; room = omega (arith, w .ensures .room, w .kept .0); list = d .before .before .before .before .before .before .before .before .before .before .before .before .before .pre .list }
-
-enum-told-4 : tie.Need-enum-told-4
-enum-told-4 c = search needs
 
 same-length-4 : tie.Need-same-length-4
 same-length-4 c = search needs
@@ -78,25 +75,25 @@ same-length-6 : tie.Need-same-length-6
 same-length-6 c = search needs
 
 returns-5 : tie.Need-returns-5
-returns-5 c = rw (← c .before .before .before .before .before .before .before .before .before .before .before .before .before .before .before .before .before .before .before .ready .kept .0) (c .before .before .before .before .take-list .ensures)
+returns-5 c = rw (← (c .before .before .before .before .before .before .before .before .before .before .before .before .before .before .before .before .before .before .before .ready) .kept .0) ((c .before .before .before .before .take-list) .ensures)
 
 same-length-7 : tie.Need-same-length-7
 same-length-7 c = search needs
 
+returns-6 : tie.Need-returns-6
+returns-6 c =
+    let d = c .before .before .before in
+    let w = d .before .before .before .before .before .before .before .before .before .ready in
+    record { order = begins d; room = omega (arith, w .ensures .room, w .kept .0); list = d .before .before .before .before .before .before .before .before .before .before .before .before .before .pre .list }
+
 same-length-8 : tie.Need-same-length-8
 same-length-8 c = search needs
-
-returns-6 : tie.Need-returns-6
-returns-6 c = rw (← c .before .before .before .before .before .before .before .before .before .before .before .before .before .before .before .before .before .ready .kept .0) (c .before .before .compare .ensures)
 
 same-length-9 : tie.Need-same-length-9
 same-length-9 c = search needs
 
 returns-7 : tie.Need-returns-7
-returns-7 c =
-    let d = c .before .before .before in
-    let w = d .before .before .before .before .before .before .before .before .before .ready in
-    record { order = begins d; room = omega (arith, w .ensures .room, w .kept .0); list = d .before .before .before .before .before .before .before .before .before .before .before .before .before .pre .list }
+returns-7 c = rw (← (c .before .before .before .before .before .before .before .before .before .before .before .before .before .before .before .before .ready) .kept .0) ((c .before .before .compare) .ensures)
 
 pub step-spec : {M : Type 1} → statement M
 step-spec =
@@ -117,14 +114,13 @@ step-spec =
     take-list-requires
     enum-told-3
     compare-requires
-    enum-told-4
     same-length-4
     returns-4
     same-length-5
     same-length-6
     returns-5
     same-length-7
-    same-length-8
     returns-6
+    same-length-8
     same-length-9
     returns-7)

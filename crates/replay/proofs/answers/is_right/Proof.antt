@@ -14,17 +14,47 @@ is-check-requires c κs = search needs
 enum-told-3 : tie.Need-enum-told-3
 enum-told-3 c = search needs
 
+is-roles-requires : tie.Need-is-roles-requires
+is-roles-requires c κs = search needs
+
+enum-told-4 : tie.Need-enum-told-4
+enum-told-4 c = search needs
+
+is-every-requires : tie.Need-is-every-requires
+is-every-requires c κs = search needs
+
+enum-told-5 : tie.Need-enum-told-5
+enum-told-5 c = search needs
+
 returns : tie.Need-returns
 returns c = search needs
 
 returns-2 : tie.Need-returns-2
-returns-2 c =
-    rw (c .before .enum-told2 .given .1) (c .is-check .ensures)
+returns-2 c = rw ((c .before .enum-told2) .given .1) ((c .is-check) .ensures)
 
 returns-3 : tie.Need-returns-3
-returns-3 c = search needs
+returns-3 c = rw ((c .before .enum-told3) .given .1) ((c .is-roles) .ensures)
+
+returns-4 : tie.Need-returns-4
+returns-4 c = rw ((c .before .enum-told4) .given .1) ((c .is-every) .ensures)
+
+returns-5 : tie.Need-returns-5
+returns-5 c = search needs
 
 pub is-right-spec : {M : Type 1} → statement M
 is-right-spec =
     tie.close
-    (tie.spec enum-told enum-told-2 is-check-requires enum-told-3 returns returns-2 returns-3)
+    (tie.spec
+    enum-told
+    enum-told-2
+    is-check-requires
+    enum-told-3
+    is-roles-requires
+    enum-told-4
+    is-every-requires
+    enum-told-5
+    returns
+    returns-2
+    returns-3
+    returns-4
+    returns-5)

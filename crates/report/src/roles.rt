@@ -1,0 +1,87 @@
+// The roles of a list: a line for each row, or the refusal.
+use crate::put::put_byte;
+use crate::put::put_bytes;
+use crate::put::put_number;
+use crate::put::put_refusal;
+use parse::item::Parse;
+use parse::item::new;
+use token_list::check::Refusal;
+ghost use mathlib.Core.Path.{_≡_};
+ghost use Prim.Native.Nat.{_+_, _*_, _^_, _≤_, _<_};
+ghost use lib.ListN.{length};
+ghost use Rattle.parse.specs.Answer.{answer, buffer};
+ghost use Rattle.report.specs.Contract.{Put};
+ghost use Rattle.report.specs.Roles.{assigned, roleLine, roleLines, rolesText, readAs};
+
+// How many rows have a role, or the refusal.
+pub enum Roles {
+    Rows(usize),
+    Refused(Refusal),
+}
+
+// How many bytes stand before the first 255.
+fn count_assigned(roles: &[u8]) -> usize
+    ensures { λ r. ⌜ r ≡ assigned (now (roles .entry)) ⌝ }
+{
+    let mut i = 0;
+    while i < roles.len() {
+        if roles[i] == 255 {
+            return i;
+        }
+        i += 1;
+    }
+    i
+}
+
+// Reads the list, with a byte of `roles` for each row.
+pub fn read_roles(list: &[u8], roles: &mut [u8]) -> Roles
+    ensures { λ r. ⌜ readAs r (now (roles .exit)) (answer (now (list .entry)) (length (now (roles .entry)))) ⌝ }
+    ensures { λ _. ⌜ now (roles .exit) ≡ buffer (length (now (roles .entry))) (answer (now (list .entry)) (length (now (roles .entry)))) ⌝ }
+{
+    match new(list, roles) {
+        Parse::Refused(r) => Roles::Refused(r),
+        Parse::Struct(_) => Roles::Rows(count_assigned(roles)),
+        Parse::Enum(_) => Roles::Rows(count_assigned(roles)),
+    }
+}
+
+fn put_line(out: &mut [u8], at: usize, row: usize, role: u8) -> usize
+    requires { ⌜ (at + 64 < 2 ^ 64) × (row < 10000) ⌝ }
+    ensures { λ r. ⌜ Put (now (out .entry)) (now (out .exit)) at r (roleLine row role) ⌝ }
+    ensures { λ r. ⌜ r ≤ at + 9 ⌝ }
+{
+    let number = put_number(out, at, row);
+    let space = put_byte(out, number, b' ');
+    let value = put_number(out, space, role as usize);
+    put_byte(out, value, b'\n')
+}
+
+fn put_lines(out: &mut [u8], at: usize, roles: &[u8]) -> usize
+    requires { ⌜ (at + 65536 < 2 ^ 64) × (length (now roles) ≤ 4096) ⌝ }
+    ensures { λ r. ⌜ Put (now (out .entry)) (now (out .exit)) at r (roleLines 0 (now (roles .entry))) ⌝ }
+    ensures { λ r. ⌜ r ≤ at + 9 * length (now (roles .entry)) ⌝ }
+{
+    let mut i = 0;
+    let mut end = at;
+    while i < roles.len() {
+        end = put_line(out, end, i, roles[i]);
+        i += 1;
+    }
+    end
+}
+
+// Reads the list and writes the report at the start of out; answers its length.
+pub fn report_roles(list: &[u8], roles: &mut [u8], out: &mut [u8]) -> usize
+    requires { ⌜ length (now roles) ≤ 4096 ⌝ }
+    ensures { λ r. ⌜ Put (now (out .entry)) (now (out .exit)) 0 r (rolesText (answer (now (list .entry)) (length (now (roles .entry))))) ⌝ }
+    ensures { λ _. ⌜ now (roles .exit) ≡ buffer (length (now (roles .entry))) (answer (now (list .entry)) (length (now (roles .entry)))) ⌝ }
+    ensures { λ r. ⌜ r ≤ 65536 ⌝ }
+{
+    match read_roles(list, roles) {
+        Roles::Refused(r) => put_refusal(out, 0, r),
+        Roles::Rows(n) => {
+            let names = put_bytes(out, 0, b"row role\n");
+            put_lines(out, names, &roles[..n])
+        }
+    }
+}
