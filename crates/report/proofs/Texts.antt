@@ -72,6 +72,9 @@ few (suc k) (suc f) n h =
     either (ltb n 10) _ _ (suc (suc k)) (omega arith)
     (omega (arith, length-append (digits f (n / 10)) ((48 + n % 10) ∷ []), few k f (n / 10) less))
 
-pub decimal-few : (n : ℕ) → n < 2 ^ 64 → length (decimal n) ≤ 20
+pub decimal-digits : (k n : ℕ) → n < 10 ^ suc k → length (decimal n) ≤ suc k
 unfolding decimal
-decimal-few n h = few 19 n n (omega arith)
+decimal-digits k n h = few k n n h
+
+pub decimal-few : (n : ℕ) → n < 2 ^ 64 → length (decimal n) ≤ 20
+decimal-few n h = decimal-digits 19 n (omega arith)

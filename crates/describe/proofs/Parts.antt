@@ -1,0 +1,66 @@
+-- Laws on a body and the things that stand in it.
+use mathlib.Core.Path.{_≡_, refl, ap, _∙_, sym, subst, subst⁻¹}
+use mathlib.Core.Bool.{Bool, true, false, cond}
+use mathlib.Core.List.{List, [], _∷_, _++_}
+use Prim.Native.Nat.{ℕ, _+_}
+use lib.Dec.{eqb}
+use Rattle.token_list.specs.Row.{Row}
+use Rattle.token_list.specs.Stream.{Trees, end, leaf, group, at}
+use Rattle.token_list.specs.Contract.{InList, LeafAt, GroupAt, rowOf}
+use Rattle.token_list.specs.declared.check.Cursor.{Cursor}
+use Rattle.token_list.specs.declared.stream.Token.{Token}
+use Rattle.parse.specs.Declaration as declaration
+use Rattle.parse.specs.Took.{Took, took, refuse, Reader, onward, after, pure}
+use Rattle.parse.specs.Reading as reading
+use Rattle.parse.specs.Contract.{stream, pastOf, InsideAt}
+use Rattle.parse.proofs.Meeting.{past-in}
+use Rattle.describe.specs.Value.{bodyValue}
+use Rattle.describe.proofs.Inside.{took-not-refuse, took-value}
+
+-- by either branch of a choice
+either : {A B : Type 0} (b : Bool) {t u v : Took A} → (t ≡ v → B) → (u ≡ v → B) → cond b t u ≡ v → B
+either true f g e = f e
+either false f g e = g e
+
+-- what is made of a group's inside was read in it
+module _ {A B : Type 0} (m : Reader A) (f : A → B) where
+  pub within : (row : ℕ) (ts us : Trees) {b : B} {rs : List ℕ} {vs : Trees} → reading.enclosed (λ r ts. after r (m r ts) (λ a. pure (f a))) row ts us ≡ took b rs vs
+      → (a : A) × (b ≡ f a) × (qs : List ℕ) × (ws : Trees) × (m (row + 1) ts ≡ took a qs ws)
+  within row ts us {b} {rs} {vs} e = go (m (row + 1) ts) refl e
+    where
+      go : (t : Took A) → m (row + 1) ts ≡ t → reading.closing us (after (row + 1) t (λ a. pure (f a))) ≡ took b rs vs
+          → (a : A) × (b ≡ f a) × (qs : List ℕ) × (ws : Trees) × (m (row + 1) ts ≡ took a qs ws)
+      go (took a qs ws) g h = (a, sym (took-value h), qs, ws, g)
+      go (refuse n p) g h = took-not-refuse h
+
+-- ## Bodies
+
+-- a struct's body is fields
+struct-fields : (row : ℕ) (ts : Trees) {b : declaration.Body} {rs : List ℕ} {us : Trees} → reading.structBody row ts ≡ took b rs us → (f : declaration.Fields) × (b ≡ declaration.fields f)
+struct-fields row end e = took-not-refuse e
+struct-fields row (leaf r us) e = either (reading.isPunct 59 r) (λ h. (declaration.unit, sym (took-value h))) took-not-refuse e
+struct-fields row (group d ts us) e =
+    either (eqb d 123) (λ h. let w = within reading.namedFields declaration.fields row ts us h in (w .0, w .1))
+    (either (eqb d 40) (λ h. let w = within reading.tupleFields declaration.fields row ts us h in (w .0, w .1)) took-not-refuse) e
+
+pub struct-value : {s : List ℕ} {c : Cursor} {b : declaration.Body} (k : ℕ) → InsideAt reading.structBody s c b → bodyValue k b ≡ declaration.absent
+struct-value {s} {c} {b} k i = ap (bodyValue k) (struct-fields (c .row) (stream s c) (i .gives) .1)
+
+module _ {s : List ℕ} {c : Cursor} {b : declaration.Body} (i : InsideAt reading.enumBody s c b) where
+  -- an enum's body is a group of variants
+  pub enum-group : (t : Token) (d : Cursor) → GroupAt s (c .at) t → d ≡ pastOf c t → (vs : List declaration.Variant) × (b ≡ declaration.variants vs) × InsideAt (reading.every reading.variant) s d vs
+  enum-group t d g e =
+      let w = within (reading.every reading.variant) declaration.variants (c .row) (at s (t .next) .here) (g .after) (ap (reading.enumBody (c .row)) (sym (g .here)) ∙ i .gives) in (
+        w .0,
+        w .1,
+        subst⁻¹ (λ (x : Cursor). InsideAt (reading.every reading.variant) s x (w .0)) e
+            (record { inList = past-in s c t (i .inList) (g .token); roles = w .2; rest = w .3; gives = w .4 }),
+      )
+
+  -- or `;`
+  pub enum-leaf : (t : Token) → LeafAt s (c .at) t → b ≡ declaration.variants []
+  enum-leaf t l =
+      either (reading.isPunct 59 (rowOf s t)) (λ h. sym (took-value h)) took-not-refuse (ap (reading.enumBody (c .row)) (sym (l .here)) ∙ i .gives)
+
+  pub enum-end : {B : Type 0} → stream s c ≡ end → B
+  enum-end e = took-not-refuse (ap (reading.enumBody (c .row)) (sym e) ∙ i .gives)
