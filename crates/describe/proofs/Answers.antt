@@ -4,7 +4,7 @@ use mathlib.Core.Bool.{Bool, true, false, cond}
 use mathlib.Core.List.{List, [], _∷_, _++_}
 use Prim.Native.Nat.{ℕ, _+_, _≤_, _<_}
 use native.Mathlib.Omega.{arith}
-use borrow.Author.Tests.{lt-ltb, le-ltb, le-leb}
+use borrow.Author.Tests.{lt-ltb, le-ltb, le-leb, ltb-false}
 use lib.Dec.{ltb}
 use lib.ListN.{length, take, length-take}
 use lib.Seq.{slice, sets}
@@ -16,7 +16,7 @@ use Rattle.token_list.specs.declared.stream.Token.{Token}
 use Rattle.token_list.proofs.Passed.{passed-list}
 use Rattle.token_list.proofs.Texts.{chosen, passed-over}
 use Rattle.report.specs.Contract.{Put}
-use Rattle.report.proofs.Texts.{kept, shown}
+use Rattle.report.proofs.Texts.{kept, shown, joined}
 use Rattle.parse.specs.Declaration as declaration
 use Rattle.parse.specs.Token.{worth}
 use Rattle.parse.specs.Took.{Took, took, refuse}
@@ -25,7 +25,10 @@ use Rattle.parse.specs.Contract.{Said, on, no, Meets, stands, refuses, ValueOf}
 use Rattle.parse.specs.declared.body.ValueAt.{ValueAt}
 use Rattle.parse.specs.declared.body.ValueAt.the-variants as valueAts
 use Rattle.describe.specs.Value.{negativeText, Answer, none, inList, inScratch, refused, valueAnswer, itemAnswer, checkedAnswer, answer, scratch}
-use Rattle.describe.specs.Contract.{part, placed, Placed}
+use Rattle.describe.specs.Listing as listing
+use Rattle.describe.specs.Contract.{part, placed, Placed, listedAs, ListedAs}
+use Rattle.describe.specs.declared.listing.Listed.{Listed}
+use Rattle.describe.specs.declared.listing.Listed.the-variants as listeds
 use Rattle.describe.specs.declared.value.ValuePlace.{ValuePlace}
 use Rattle.describe.specs.declared.value.ValuePlace.the-variants as places
 use Rattle.describe.proofs.Worths.{part-front}
@@ -93,3 +96,48 @@ module _ (s : List ℕ) (k n : ℕ) where
   pub value-read : {r : ℕ} → list.check s ≡ list.Answer.passed r → 20 ≤ n → answer s k n ≡ itemAnswer k (item 0 (at s 10 .here))
   unfolding answer
   value-read e h = ap (λ (a : list.Answer). checkedAnswer s k n a) e ∙ passed-over _ _ _ (le-ltb n 20 h)
+
+-- ## A listing
+
+abbrev isPassed : list.Answer → Type 0
+isPassed (list.Answer.passed n) = Unit {0}
+isPassed (list.Answer.refused n p) = ⊥
+
+pub passed-size : (s : List ℕ) {n : ℕ} → list.check s ≡ list.Answer.passed n → length s ≤ 65536
+unfolding list.check
+passed-size s {n} e = go _ (ltb 65536 (length s)) refl e
+  where
+    go : (a : list.Answer) (b : Bool) → ltb 65536 (length s) ≡ b → cond b (list.Answer.refused 1 list.END) a ≡ list.Answer.passed n → length s ≤ 65536
+    go a true h q = absurd (subst⁻¹ isPassed q tt)
+    go a false h q = ltb-false 65536 (length s) h
+
+pub put-listing : {k l m o : List ℕ} {i j r : ℕ} (x : declaration.Declaration) → Put k l 0 i (listing.itemLines x) → Put l m i j (listing.numbered listing.parameterLine 0 (x .parameters))
+    → Put m o j r (listing.bodyLines (x .body)) → Put k o 0 r (listing.listing x)
+unfolding listing.listing
+put-listing x p q t = joined p (joined q t)
+
+module _ {x : List ℕ} (text : List ℕ) where
+  pub fits-not : (n : ℕ) → n ≡ length text → length x < n → ListedAs x x (listing.fitted (length x) text) (listeds.Refused (record { number = 8; place = 65535 }))
+  fits-not n e h =
+      let q = chosen _ (listing.refused 8 list.END) (listing.listed text) (lt-ltb (length x) (length text) (omega (arith, e, h))) in
+      record { answer = sym q; output = sym (ap (listing.output x) q) }
+
+  pub fits : {y : List ℕ} (n : ℕ) → n ≡ length text → n ≤ length x → {r : ℕ} → Put x y 0 r text → ListedAs x y (listing.fitted (length x) text) (listeds.Written r)
+  fits {y} n e h {r} p =
+      let q = passed-over _ (listing.refused 8 list.END) (listing.listed text) (le-ltb (length x) (length text) (omega (arith, e, h))) in
+      record { answer = ap listing.listed (shown p (omega (arith, p .next, e, h))) ∙ sym q; output = p .bytes ∙ sym (ap (listing.output x) q) }
+
+pub listed-as : {x y : List ℕ} {r : Listed} {a b : listing.Answer} → b ≡ a → ListedAs x y a r → ListedAs x y b r
+listed-as {x} {y} {r} e p = subst⁻¹ (λ (z : listing.Answer). ListedAs x y z r) e p
+
+pub listed-refused : {x : List ℕ} {r : Listed} {a : listing.Answer} → listedAs x r ≡ a → x ≡ listing.output x a → ListedAs x x a r
+listed-refused e f = record { answer = e; output = f }
+
+module _ (s : List ℕ) (n : ℕ) where
+  pub listing-checked : {m p : ℕ} → list.check s ≡ list.Answer.refused m p → listing.answer s n ≡ listing.refused m p
+  unfolding listing.answer
+  listing-checked e = ap (listing.checkedAnswer s n) e
+
+  pub listing-read : {r : ℕ} → list.check s ≡ list.Answer.passed r → listing.answer s n ≡ listing.itemAnswer n (item 0 (at s 10 .here))
+  unfolding listing.answer
+  listing-read e = ap (listing.checkedAnswer s n) e

@@ -3,3 +3,4 @@ pub mod Inside
 pub mod Parts
 pub mod Worths
 pub mod Answers
+pub mod Lined

@@ -83,7 +83,7 @@ take-none : (n : ℕ) → _≡_ {A = List ℕ} [] (take n [])
 take-none zero = refl
 take-none (suc n) = refl
 
-drop-of-take : (a e : ℕ) (s : List ℕ) → drop a (take e s) ≡ take (e - a) (drop a s)
+pub drop-of-take : (a e : ℕ) (s : List ℕ) → drop a (take e s) ≡ take (e - a) (drop a s)
 drop-of-take zero e s = let n : e ≡ e - 0 = omega arith in ap (λ (n : ℕ). take n s) n
 drop-of-take (suc a) zero s = let n : 0 ≡ 0 - suc a = omega arith in ap (λ (n : ℕ). take n (drop (suc a) s)) n
 drop-of-take (suc a) (suc e) [] = take-none (suc e - suc a)

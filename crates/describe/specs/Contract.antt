@@ -3,14 +3,19 @@ use mathlib.Core.Path.{_≡_}
 use mathlib.Core.List.{List, [], _∷_}
 use Prim.Native.Nat.{ℕ}
 use lib.ListN.{length, take}
-use lib.Dec.{leb}
+use lib.Dec.{leb, eqb}
 use lib.Seq.{slice}
-use mathlib.Core.Bool.{cond}
+use mathlib.Core.Bool.{Bool, true, false, cond}
+use Rattle.token_list.specs.Stream.{Trees}
+use Rattle.token_list.specs.declared.check.Cursor.{Cursor}
 use Rattle.parse.specs.Declaration as declaration
 use Rattle.parse.specs.Took.{Reader, pure, _>>=_}
 use Rattle.parse.specs.Reading as reading
 use Rattle.parse.specs.Contract.{Said, on, no, refusal, TextOf, InsideAt, kindOf, bodyCount}
 use Rattle.describe.specs.Value as value
+use Rattle.describe.specs.Listing as listing
+use Rattle.describe.specs.declared.listing.Listed.{Listed}
+use Rattle.describe.specs.declared.listing.Listed.the-variants as listeds
 use Rattle.describe.specs.declared.value.ValuePlace.{ValuePlace}
 use Rattle.describe.specs.declared.value.ValuePlace.the-variants as places
 use Rattle.describe.specs.declared.declaration.DeclarationAt.{DeclarationAt}
@@ -60,3 +65,23 @@ placed s x (places.Refused r) = value.refused (r .number) (r .place)
 pub record Placed (s before after : List ℕ) (a : value.Answer) (r : ValuePlace) : Type 0 where
   pub answer : placed s after r ≡ a
   pub scratch : after ≡ value.scratch before a
+
+-- ## The answers of listing
+
+-- the fields f of a struct's group with the delimiter `mark`, whose inside is at c
+abbrev pub fieldsIn : Bool → List ℕ → Cursor → declaration.Fields → Type 0
+fieldsIn true s c f = (fs : List declaration.Field) × (f ≡ declaration.named fs) × InsideAt (reading.every reading.namedField) s c fs
+fieldsIn false s c f = (ts : List Trees) × (f ≡ declaration.tuple ts) × InsideAt (reading.every reading.tupleField) s c ts
+
+abbrev pub StructAt : List ℕ → ℕ → Cursor → declaration.Fields → Type 0
+StructAt s mark c f = fieldsIn (eqb mark 123) s c f
+
+-- what an answer says, of the output x
+abbrev pub listedAs : List ℕ → Listed → listing.Answer
+listedAs x (listeds.Written n) = listing.listed (take n x)
+listedAs x (listeds.Refused r) = listing.refused (r .number) (r .place)
+
+-- the output was `before` and is `after`
+pub record ListedAs (before after : List ℕ) (a : listing.Answer) (r : Listed) : Type 0 where
+  pub answer : listedAs after r ≡ a
+  pub output : after ≡ listing.output before a
