@@ -1,8 +1,8 @@
 -- Laws on the answers of the calls.
 use mathlib.Core.Path.{_≡_, refl, ap, _∙_, sym, subst, subst⁻¹}
 use mathlib.Core.Bool.{Bool, true, false, cond}
-use mathlib.Core.List.{List, [], _∷_, _++_}
-use Prim.Native.Nat.{ℕ, _+_, _≤_, _<_}
+use mathlib.Core.List.{List}
+use Prim.Native.Nat.{ℕ, _≤_, _<_}
 use native.Mathlib.Omega.{arith}
 use borrow.Author.Tests.{lt-ltb, le-ltb, le-leb, ltb-false}
 use lib.Dec.{ltb}
@@ -21,12 +21,12 @@ use Rattle.parse.specs.Declaration as declaration
 use Rattle.parse.specs.Token.{worth}
 use Rattle.parse.specs.Took.{Took, took, refuse}
 use Rattle.parse.specs.Reading.{item}
-use Rattle.parse.specs.Contract.{Said, on, no, Meets, stands, refuses, ValueOf}
+use Rattle.parse.specs.Contract.{on, no, Meets, stands, refuses, ValueOf}
 use Rattle.parse.specs.declared.body.ValueAt.{ValueAt}
 use Rattle.parse.specs.declared.body.ValueAt.the-variants as valueAts
-use Rattle.describe.specs.Value.{negativeText, Answer, none, inList, inScratch, refused, valueAnswer, itemAnswer, checkedAnswer, answer, scratch}
+use Rattle.describe.specs.Value.{negativeText, Answer, inList, inScratch, refused, valueAnswer, itemAnswer, checkedAnswer, answer, scratch}
 use Rattle.describe.specs.Listing as listing
-use Rattle.describe.specs.Contract.{part, placed, Placed, listedAs, ListedAs}
+use Rattle.describe.specs.Contract.{placed, Placed, listedAs, ListedAs}
 use Rattle.describe.specs.declared.listing.Listed.{Listed}
 use Rattle.describe.specs.declared.listing.Listed.the-variants as listeds
 use Rattle.describe.specs.declared.value.ValuePlace.{ValuePlace}

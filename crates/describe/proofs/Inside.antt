@@ -1,17 +1,15 @@
 -- Laws on what a reader gives at a cursor, and on reading it there again.
 use mathlib.Core.Path.{_≡_, refl, ap, _∙_, sym, subst, subst⁻¹}
-use mathlib.Core.Bool.{Bool, true, false, cond}
-use mathlib.Core.List.{List, [], _∷_, _++_}
-use Prim.Native.Nat.{ℕ, _+_, _≤_, _<_}
+use mathlib.Core.List.{List, [], _∷_}
+use Prim.Native.Nat.{ℕ, _<_}
 use native.Mathlib.Omega.{arith}
 use lib.ListN.{length}
-use Rattle.token_list.specs.Stream.{Trees, end, leaf, group, at}
-use Rattle.token_list.specs.Contract.{InList, LeafAt, GroupAt, rowOf}
+use Rattle.token_list.specs.Stream.{Trees, at}
+use Rattle.token_list.specs.Contract.{InList}
 use Rattle.token_list.specs.declared.check.Cursor.{Cursor}
-use Rattle.token_list.specs.declared.stream.Token.{Token}
 use Rattle.parse.specs.Took.{Took, took, refuse, Reader, onward, after, pure}
 use Rattle.parse.specs.Reading.{Maybe, done, one, more, every}
-use Rattle.parse.specs.Contract.{Moved, Said, on, no, Meets, stands, refuses, stream, pastOf, InsideAt}
+use Rattle.parse.specs.Contract.{Moved, Said, on, no, Meets, stands, refuses, stream, InsideAt}
 use Rattle.parse.proofs.Rounds.{Rounding, Round, another, every-step}
 
 -- ## What an answer tells

@@ -1,22 +1,22 @@
 -- Laws on lines: a text of several parts, and the lines of things that are read one after the other.
-use mathlib.Core.Path.{_≡_, refl, ap, _∙_, sym, subst, subst⁻¹}
-use mathlib.Core.Bool.{Bool, true, false, cond, false≢true}
+use mathlib.Core.Path.{_≡_, refl, ap, _∙_, sym}
+use mathlib.Core.Bool.{true, false, false≢true}
 use mathlib.Core.List.{List, [], _∷_, _++_, append-assoc, append-nil}
-use Prim.Native.Nat.{ℕ, zero, suc, _+_, _≤_, _<_}
+use Prim.Native.Nat.{ℕ, suc, _+_, _≤_}
 use native.Mathlib.Omega.{arith}
 use lib.ListN.{length, length-append}
 use Rattle.token_list.specs.Contract.{InList}
 use Rattle.token_list.specs.declared.check.Cursor.{Cursor}
 use Rattle.report.specs.Contract.{Put}
 use Rattle.report.proofs.Texts.{nothing, joined}
-use Rattle.parse.specs.Took.{Took, Reader}
+use Rattle.parse.specs.Took.{Reader}
 use Rattle.parse.specs.Reading.{Maybe, done, one, every}
 use Rattle.parse.specs.Contract.{on, no, Meets, stream, InsideAt}
 use Rattle.parse.proofs.Rounds.{Rounding}
 use Rattle.parse.specs.Declaration.{Parameter, lifetime, constant, type}
 use Rattle.parse.specs.Contract.{isLifetime, parameterText}
 use Rattle.describe.specs.Listing.{line, numbered, parameterName}
-use Rattle.describe.proofs.Inside.{OneAt, inside-more, inside-done, inside-refused, forward}
+use Rattle.describe.proofs.Inside.{inside-more, inside-done, inside-refused, forward}
 use Rattle.describe.proofs.Worths.{put-as}
 
 -- a part and a name, and the rest of the line

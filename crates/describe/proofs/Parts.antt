@@ -1,12 +1,11 @@
 -- Laws on a body and the things that stand in it.
-use mathlib.Core.Path.{_≡_, refl, ap, _∙_, sym, subst, subst⁻¹}
+use mathlib.Core.Path.{_≡_, refl, ap, _∙_, sym, subst⁻¹}
 use mathlib.Core.Bool.{Bool, true, false, cond}
-use mathlib.Core.List.{List, [], _∷_, _++_}
+use mathlib.Core.List.{List, [], _∷_}
 use Prim.Native.Nat.{ℕ, _+_}
 use lib.Dec.{eqb}
-use Rattle.token_list.specs.Row.{Row}
 use Rattle.token_list.specs.Stream.{Trees, end, leaf, group, at}
-use Rattle.token_list.specs.Contract.{InList, LeafAt, GroupAt, rowOf}
+use Rattle.token_list.specs.Contract.{LeafAt, GroupAt, rowOf}
 use Rattle.token_list.specs.declared.check.Cursor.{Cursor}
 use Rattle.token_list.specs.declared.stream.Token.{Token}
 use Rattle.parse.specs.Declaration as declaration
@@ -86,7 +85,7 @@ module _ {s : List ℕ} {c : Cursor} {b : declaration.Body} (i : InsideAt readin
 
       go : (z : Bool)
           → cond z (reading.enclosed (reading.structFields reading.namedFields) (c .row) (at s (t .next) .here) (g .after))
-            (cond (eqb (t .mark) 40) (reading.enclosed (reading.structFields reading.tupleFields) (c .row) (at s (t .next) .here) (g .after)) (refuse 17 (c .row)))
+          (cond (eqb (t .mark) 40) (reading.enclosed (reading.structFields reading.tupleFields) (c .row) (at s (t .next) .here) (g .after)) (refuse 17 (c .row)))
           ≡ took b (i .roles) (i .rest)
           → (f : declaration.Fields) × (b ≡ declaration.fields f) × fieldsIn z s d f
       go true h =
@@ -96,9 +95,9 @@ module _ {s : List ℕ} {c : Cursor} {b : declaration.Body} (i : InsideAt readin
       go false h =
           either (eqb (t .mark) 40)
           (λ h.
-              let w = within reading.tupleFields declaration.fields (c .row) (at s (t .next) .here) (g .after) h in
-              let v = made declaration.tuple (c .row + 1) (reading.every reading.tupleField (c .row + 1) (at s (t .next) .here)) (w .4) in
-              (w .0, w .1, (v .0, v .1, here (reading.every reading.tupleField) (v .4))))
+          let w = within reading.tupleFields declaration.fields (c .row) (at s (t .next) .here) (g .after) h in
+          let v = made declaration.tuple (c .row + 1) (reading.every reading.tupleField (c .row + 1) (at s (t .next) .here)) (w .4) in
+          (w .0, w .1, (v .0, v .1, here (reading.every reading.tupleField) (v .4))))
           took-not-refuse h
 
   pub struct-leaf : (t : Token) → LeafAt s (c .at) t → b ≡ declaration.fields declaration.unit

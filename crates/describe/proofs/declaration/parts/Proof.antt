@@ -1,6 +1,5 @@
-use mathlib.Core.Path.{_≡_, refl, sym, _∙_, ap, subst, subst⁻¹}
+use mathlib.Core.Path.{refl}
 use Rattle.describe.proofs.Inside.{meets-inside}
-use Rattle.describe.specs.Contract.{partsAfter}
 use Rattle.parse.proofs.Meeting as meeting
 use Rattle.parse.specs.Contract as contract
 use Rattle.parse.specs.Reading as reading

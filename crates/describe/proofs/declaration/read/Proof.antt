@@ -1,8 +1,7 @@
-use mathlib.Core.Path.{_≡_, refl, sym, _∙_, ap, subst, subst⁻¹}
+use mathlib.Core.Path.{sym, _∙_, ap}
 use Rattle.describe.specs.Contract.{partsAfter}
 use Rattle.parse.proofs.Meeting as meeting
 use Rattle.parse.specs.Contract as contract
-use Rattle.parse.specs.Reading as reading
 use borrow.Author.Needs.{needs}
 use Rattle.describe.proofs.declaration.read.Statement.{statement}
 use Rattle.describe.proofs.declaration.read.Tie as tie

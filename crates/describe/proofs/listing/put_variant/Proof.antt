@@ -1,25 +1,10 @@
 use native.Mathlib.Omega.{arith}
-use Prim.Native.Nat.{ℕ, _+_, _-_, _*_, _≤_}
-use lib.Seq.{slice, length-slice}
-use lib.ListN.{length}
-use mathlib.Core.Bool.{true, false}
-use mathlib.Core.List.{List, [], _∷_, _++_}
-use mathlib.Core.Path.{_≡_, refl, sym, _∙_, ap, subst, subst⁻¹}
-use Rattle.token_list.proofs.Texts.{slice-none}
-use Rattle.parse.proofs.Meeting as meeting
-use Rattle.parse.proofs.Conserved as conserved
-use Rattle.parse.specs.Contract as contract
-use Rattle.parse.specs.Reading as reading
-use Rattle.parse.specs.Token.{worth, negatable}
-use Rattle.parse.specs.Declaration as declaration
-use Rattle.report.proofs.Texts.{joined, nothing}
-use Rattle.report.specs.Text.{decimal}
-use Rattle.describe.proofs.Answers.{meets-tells}
-use Rattle.describe.proofs.Inside.{forward}
-use Rattle.describe.proofs.Lined.{put-line, quoted, unquoted, Lined, lined-start, lined-more, lined-done, lined-refused}
-use Rattle.describe.proofs.Worths.{put-as, drop-of-take}
-use Rattle.describe.specs.Value.{negativeText}
-use Rattle.describe.specs.Listing.{PARAM, VARIANT, FIELD, DASH, line, kindText, number, parameterLine, namedLine, tupleLine, variantLines}
+use lib.Seq.{slice}
+use mathlib.Core.Path.{ap}
+use Rattle.report.proofs.Texts.{joined}
+use Rattle.describe.proofs.Lined.{put-line}
+use Rattle.describe.proofs.Worths.{put-as}
+use Rattle.describe.specs.Listing.{VARIANT, line, number}
 use borrow.Author.Needs.{needs}
 use Rattle.describe.proofs.listing.put_variant.Statement.{statement}
 use Rattle.describe.proofs.listing.put_variant.Tie as tie

@@ -1,5 +1,5 @@
 use native.Mathlib.Omega.{arith}
-use mathlib.Core.Path.{_≡_, ap, sym, _∙_, subst, subst⁻¹}
+use mathlib.Core.Path.{ap, sym, _∙_, subst}
 use Rattle.parse.specs.Token.{negatable}
 use Rattle.parse.specs.Contract as contract
 use Rattle.describe.proofs.Answers.{placed-absent, placed-literal, placed-negative}

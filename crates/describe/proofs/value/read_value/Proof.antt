@@ -1,4 +1,4 @@
-use mathlib.Core.Path.{_≡_, ap, sym, _∙_, subst, subst⁻¹}
+use mathlib.Core.Path.{ap, sym}
 use Rattle.parse.proofs.Meeting as meeting
 use Rattle.describe.proofs.Answers.{meets-tells, meets-refusal, placed-as, placed-refused}
 use Rattle.describe.specs.Contract.{declarationShown, declarationSaid}

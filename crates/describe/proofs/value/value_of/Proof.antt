@@ -1,6 +1,6 @@
 use lib.ListN.{length}
 use native.Mathlib.Omega.{arith}
-use mathlib.Core.Path.{_≡_, ap, sym, _∙_, subst, subst⁻¹}
+use mathlib.Core.Path.{ap, sym, _∙_}
 use Rattle.token_list.specs.Contract.{checked}
 use Rattle.describe.proofs.Answers.{start-in, placed-as, placed-refused, value-checked, value-short, value-read}
 use Rattle.describe.specs.Value.{scratch}

@@ -1,6 +1,6 @@
 use native.Mathlib.Omega.{arith}
 use lib.Seq.{length-take-le}
-use mathlib.Core.Path.{_≡_, sym, _∙_, ap}
+use mathlib.Core.Path.{sym, _∙_, ap}
 use Rattle.describe.specs.Contract.{placed}
 use Rattle.describe.specs.Value.{textOf}
 use Rattle.describe.proofs.Worths.{part-beyond, part-none, part-some, part-front}

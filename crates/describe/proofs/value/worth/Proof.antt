@@ -1,8 +1,6 @@
-use borrow.Author.Needs.{needs}
 use native.Mathlib.Omega.{arith}
-use Prim.Native.Nat.{ℕ, _-_}
+use Prim.Native.Nat.{_-_}
 use lib.Seq.{slice}
-use lib.ListN.{length}
 use Rattle.parse.specs.Token.{worth}
 use Rattle.describe.proofs.Worths.{Counting, counting, counting-next, counting-end}
 use Rattle.describe.proofs.value.worth.Statement.{statement}
