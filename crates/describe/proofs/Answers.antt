@@ -12,6 +12,7 @@ use Rattle.token_list.specs.Check as list
 use Rattle.token_list.specs.Stream.{Trees, at}
 use Rattle.token_list.specs.Contract.{InList}
 use Rattle.token_list.specs.declared.check.Cursor.{Cursor}
+use Rattle.token_list.specs.declared.check.Refusal.{Refusal}
 use Rattle.token_list.specs.declared.stream.Token.{Token}
 use Rattle.token_list.proofs.Passed.{passed-list}
 use Rattle.token_list.proofs.Texts.{chosen, passed-over}
@@ -120,18 +121,18 @@ module _ {x : List ℕ} (text : List ℕ) where
   pub fits-not : (n : ℕ) → n ≡ length text → length x < n → ListedAs x x (listing.fitted (length x) text) (listeds.Refused (record { number = 8; place = 65535 }))
   fits-not n e h =
       let q = chosen _ (listing.refused 8 list.END) (listing.listed text) (lt-ltb (length x) (length text) (omega (arith, e, h))) in
-      record { answer = sym q; output = sym (ap (listing.output x) q) }
+      record { room = tt; answer = sym q; output = sym (ap (listing.output x) q) }
 
   pub fits : {y : List ℕ} (n : ℕ) → n ≡ length text → n ≤ length x → {r : ℕ} → Put x y 0 r text → ListedAs x y (listing.fitted (length x) text) (listeds.Written r)
   fits {y} n e h {r} p =
       let q = passed-over _ (listing.refused 8 list.END) (listing.listed text) (le-ltb (length x) (length text) (omega (arith, e, h))) in
-      record { answer = ap listing.listed (shown p (omega (arith, p .next, e, h))) ∙ sym q; output = p .bytes ∙ sym (ap (listing.output x) q) }
+      record { room = omega (arith, p .next, e, h, kept p); answer = ap listing.listed (shown p (omega (arith, p .next, e, h))) ∙ sym q; output = p .bytes ∙ sym (ap (listing.output x) q) }
 
 pub listed-as : {x y : List ℕ} {r : Listed} {a b : listing.Answer} → b ≡ a → ListedAs x y a r → ListedAs x y b r
 listed-as {x} {y} {r} e p = subst⁻¹ (λ (z : listing.Answer). ListedAs x y z r) e p
 
-pub listed-refused : {x : List ℕ} {r : Listed} {a : listing.Answer} → listedAs x r ≡ a → x ≡ listing.output x a → ListedAs x x a r
-listed-refused e f = record { answer = e; output = f }
+pub listed-refused : {x : List ℕ} {r : Refusal} {a : listing.Answer} → listedAs x (listeds.Refused r) ≡ a → x ≡ listing.output x a → ListedAs x x a (listeds.Refused r)
+listed-refused e f = record { room = tt; answer = e; output = f }
 
 module _ (s : List ℕ) (n : ℕ) where
   pub listing-checked : {m p : ℕ} → list.check s ≡ list.Answer.refused m p → listing.answer s n ≡ listing.refused m p

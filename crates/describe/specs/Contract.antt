@@ -1,7 +1,7 @@
 -- What ties the code's answers to the texts.
 use mathlib.Core.Path.{_≡_}
 use mathlib.Core.List.{List, [], _∷_}
-use Prim.Native.Nat.{ℕ}
+use Prim.Native.Nat.{ℕ, _≤_}
 use lib.ListN.{length, take}
 use lib.Dec.{leb, eqb}
 use lib.Seq.{slice}
@@ -81,7 +81,12 @@ abbrev pub listedAs : List ℕ → Listed → listing.Answer
 listedAs x (listeds.Written n) = listing.listed (take n x)
 listedAs x (listeds.Refused r) = listing.refused (r .number) (r .place)
 
+abbrev pub within : List ℕ → Listed → Type 0
+within x (listeds.Written n) = n ≤ length x
+within x (listeds.Refused r) = Unit
+
 -- the output was `before` and is `after`
 pub record ListedAs (before after : List ℕ) (a : listing.Answer) (r : Listed) : Type 0 where
+  pub room : within after r
   pub answer : listedAs after r ≡ a
   pub output : after ≡ listing.output before a
