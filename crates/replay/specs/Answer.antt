@@ -7,7 +7,7 @@ use lib.ListN.{length, take, drop}
 use Rattle.token_list.specs.Text.{same, member}
 use Rattle.token_list.specs.Check.{check}
 use Rattle.report.specs.Text.{answerText, refusalText}
-use Rattle.parse.specs.Answer.{Answer, declared, refused, answer}
+use Rattle.reading.specs.Answer.{Answer, declared, refused, answer}
 use Rattle.replay.specs.declared.header.Section.{Section}
 use Rattle.replay.specs.declared.header.Section.the-variants.{List as Listed, Check, Roles, Every, Other}
 

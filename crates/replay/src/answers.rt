@@ -14,7 +14,7 @@ ghost use lib.Seq.{slice};
 ghost use Rattle.token_list.specs.Text.{same};
 ghost use Rattle.token_list.specs.Check.{check};
 ghost use Rattle.report.specs.Text.{answerText, refusalText};
-ghost use Rattle.parse.specs.Answer.{answer};
+ghost use Rattle.reading.specs.Answer.{answer};
 ghost use Rattle.replay.specs.Answer.{letterFits, lettersFit, acceptedFits, rolesFit, everyFits, right};
 
 // Whether the bytes from start to end are the report of the list check.

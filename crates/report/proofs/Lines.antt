@@ -15,17 +15,17 @@ use Rattle.token_list.specs.Check as list
 use Rattle.token_list.specs.Stream.{size, at}
 use Rattle.token_list.specs.declared.check.Refusal.{Refusal}
 use Rattle.token_list.proofs.Texts.{drop-next}
-use Rattle.parse.specs.Role.{left-over}
-use Rattle.parse.specs.Took.{Took, took, refuse}
-use Rattle.parse.specs.Declaration.{Declaration}
-use Rattle.parse.specs.Reading.{item}
-use Rattle.parse.specs.Grammar.{everything}
-use Rattle.parse.specs.Answer.{Answer, declared, refused, itemAnswer, checkedAnswer, answer, buffer, accepts}
+use Rattle.reading.specs.Role.{left-over}
+use Rattle.reading.specs.Took.{Took, took, refuse}
+use Rattle.reading.specs.Declaration.{Declaration}
+use Rattle.reading.specs.Reading.{item}
+use Rattle.reading.specs.Grammar.{everything}
+use Rattle.reading.specs.Answer.{Answer, declared, refused, itemAnswer, checkedAnswer, answer, buffer, accepts}
 use Rattle.parse.specs.Contract.{Answered, ParsedAs, accepted}
 use Rattle.parse.specs.declared.item.Parse.{Parse}
 use Rattle.parse.specs.declared.item.Parse.the-variants as parses
-use Rattle.parse.proofs.GrammarSound.{obeys-sound}
-use Rattle.parse.proofs.GrammarRoles.{obeys-roles}
+use Rattle.reading.proofs.GrammarSound.{obeys-sound}
+use Rattle.reading.proofs.GrammarRoles.{obeys-roles}
 use Rattle.parse.proofs.Items.{accepted-as}
 use Rattle.report.specs.Roles.{assigned, roleLine, roleLines, readAs}
 use Rattle.report.specs.declared.roles.Roles.{Roles}

@@ -5,7 +5,7 @@ use mathlib.Core.List.{List, [], _∷_, _++_}
 use Prim.Native.Nat.{ℕ, zero, suc, _≤_}
 use lib.Dec.{eqb}
 use lib.ListN.{length, take}
-use Rattle.parse.specs.Answer.{Answer, declared, refused}
+use Rattle.reading.specs.Answer.{Answer, declared, refused}
 use Rattle.report.specs.Text.{decimal, refusalText}
 use Rattle.report.specs.declared.roles.Roles.{Roles}
 use Rattle.report.specs.declared.roles.Roles.the-variants.{Rows, Refused}

@@ -9,7 +9,7 @@ use token_list::check::Refusal;
 ghost use mathlib.Core.Path.{_≡_};
 ghost use Prim.Native.Nat.{_+_, _*_, _^_, _≤_, _<_};
 ghost use lib.ListN.{length};
-ghost use Rattle.parse.specs.Answer.{answer, buffer};
+ghost use Rattle.reading.specs.Answer.{answer, buffer};
 ghost use Rattle.report.specs.Contract.{Put};
 ghost use Rattle.report.specs.Roles.{assigned, roleLine, roleLines, rolesText, readAs};
 

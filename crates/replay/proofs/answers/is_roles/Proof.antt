@@ -2,7 +2,7 @@ use mathlib.Core.Path.{_≡_, sym, ap, _∙_}
 use lib.ListN.{length}
 use lib.Seq.{slice, length-take-le}
 use Rattle.replay.specs.Answer.{everyFits, rolesFit}
-use Rattle.parse.specs.Answer.{answer}
+use Rattle.reading.specs.Answer.{answer}
 use Rattle.report.proofs.Lines.{found, not-found}
 use borrow.Author.Needs.{needs}
 use Rattle.replay.proofs.answers.is_roles.Statement.{statement}

@@ -2,7 +2,7 @@ use native.Mathlib.Omega.{arith}
 use mathlib.Core.Path.{_≡_, sym, ap}
 use lib.ListN.{length}
 use lib.Seq.{length-take-le}
-use Rattle.parse.specs.Answer.{answer}
+use Rattle.reading.specs.Answer.{answer}
 use Rattle.report.specs.Roles.{rolesText}
 use Rattle.report.proofs.Lines.{found, not-found}
 use Rattle.report.proofs.Texts.{joined}

@@ -1,0 +1,108 @@
+-- Laws on values: the worth of digits, and the text of a negative.
+use mathlib.Core.Path.{_≡_, refl, ap, _∙_, sym, subst, subst⁻¹}
+use mathlib.Core.Bool.{Bool, true, false, _&&_, false≢true}
+use mathlib.Core.List.{List, [], _∷_}
+use Prim.Native.Nat.{ℕ, zero, suc, _+_, _-_, _*_, _≤_, _<_}
+use native.Mathlib.Omega.{arith}
+use lib.Dec.{leb}
+use lib.ListN.{length, getD, take, drop}
+use lib.Seq.{slice}
+use borrow.Author.Tests.{leb-true, le-leb, lt-leb, eq-eqb, ne-eqb}
+use Rattle.token_list.specs.Text.{all, digit}
+use Rattle.token_list.proofs.Texts.{chosen, passed-over, slice-next, slice-none}
+use Rattle.report.specs.Text.{decimal}
+use Rattle.report.specs.Contract.{Put}
+use Rattle.report.proofs.Texts.{decimal-within}
+use Rattle.reading.specs.Declaration as declaration
+use Rattle.reading.specs.Token.{negatable, worth, worthFrom}
+use Rattle.describe.specs.Value.{negativeText, valueAt}
+use Rattle.describe.specs.Contract.{part}
+
+-- ## Digits
+
+both-true : (a b : Bool) → (a && b) ≡ true → (a ≡ true) × (b ≡ true)
+both-true true b e = (refl, e)
+both-true false b e = absurd (false≢true e)
+
+worth-grows : (n : ℕ) (bs : List ℕ) → n ≤ worthFrom n bs
+worth-grows n [] = omega arith
+worth-grows n (b ∷ bs) = omega (arith, worth-grows (n * 10 + (b - 48)) bs)
+
+-- digits that, with n read before them, are worth w
+pub record Counting (w n : ℕ) (t : List ℕ) : Type 0 where
+  pub digits : all digit t ≡ true
+  pub same : worthFrom n t ≡ w
+  pub few : w ≤ 9223372036854775807
+
+pub counting : (t : List ℕ) → negatable t ≡ true → Counting (worth t) 0 t
+unfolding negatable
+counting t e = let b = both-true _ _ e in record { digits = b .0; same = refl; few = leb-true _ _ (b .1) }
+
+pub counting-first : {w n b : ℕ} {bs : List ℕ} → Counting w n (b ∷ bs) → (48 ≤ b) × (b ≤ 57) × (n * 10 + (b - 48) ≤ 9223372036854775807) × Counting w (n * 10 + (b - 48)) bs
+counting-first {w} {n} {b} {bs} k =
+    let d = both-true _ _ (k .digits) in (
+      leb-true _ _ (both-true (leb 48 b) (leb b 57) (d .0) .0),
+      leb-true _ _ (both-true (leb 48 b) (leb b 57) (d .0) .1),
+      omega (arith, k .same, k .few, worth-grows (n * 10 + (b - 48)) bs),
+      record { digits = d .1; same = k .same; few = k .few },
+    )
+
+module _ (s : List ℕ) (e : ℕ) (fits : e ≤ length s) where
+  pub counting-next : {w n : ℕ} (i : ℕ) → i < e → Counting w n (slice i e s)
+      → (48 ≤ getD s i 0) × (getD s i 0 ≤ 57) × (n * 10 + (getD s i 0 - 48) ≤ 9223372036854775807) × Counting w (n * 10 + (getD s i 0 - 48)) (slice (i + 1) e s)
+  counting-next {w} {n} i h k = counting-first (subst (Counting w n) (slice-next s i e h fits) k)
+
+pub counting-end : {w n : ℕ} (s : List ℕ) (i e : ℕ) → e ≤ i → Counting w n (slice i e s) → n ≡ w
+counting-end {w} {n} s i e h k = ap (worthFrom n) (sym (slice-none s i e h)) ∙ k .same
+
+-- ## The text of a negative
+
+pub negative-none : (n : ℕ) → n ≡ 0 → negativeText n ≡ 48 ∷ []
+unfolding negativeText
+negative-none n e = chosen _ _ _ (eq-eqb n 0 e)
+
+pub negative-some : (n : ℕ) → (n ≡ 0 → ⊥) → negativeText n ≡ 45 ∷ decimal n
+unfolding negativeText
+negative-some n e = passed-over _ _ _ (ne-eqb n 0 e)
+
+pub decimal-i64 : (n : ℕ) → n ≤ 9223372036854775807 → length (decimal n) ≤ 19
+decimal-i64 n h = decimal-within 18 n (omega arith)
+
+pub put-as : {k l s t : List ℕ} {h i : ℕ} → s ≡ t → Put k l h i t → Put k l h i s
+put-as {k} {l} {h = h} {i} e p = subst⁻¹ (Put k l h i) e p
+
+-- ## Parts
+
+pub part-beyond : (a e : ℕ) (s : List ℕ) → length s < e → part a e s ≡ []
+part-beyond a e s h = passed-over _ _ _ (lt-leb e (length s) h)
+
+pub part-none : (a e : ℕ) (s : List ℕ) → e ≤ length s → e ≤ a → part a e s ≡ []
+part-none a e s h k = chosen _ _ _ (le-leb e (length s) h) ∙ slice-none s a e k
+
+take-none : (n : ℕ) → _≡_ {A = List ℕ} [] (take n [])
+take-none zero = refl
+take-none (suc n) = refl
+
+pub drop-of-take : (a e : ℕ) (s : List ℕ) → drop a (take e s) ≡ take (e - a) (drop a s)
+drop-of-take zero e s = let n : e ≡ e - 0 = omega arith in ap (λ (n : ℕ). take n s) n
+drop-of-take (suc a) zero s = let n : 0 ≡ 0 - suc a = omega arith in ap (λ (n : ℕ). take n (drop (suc a) s)) n
+drop-of-take (suc a) (suc e) [] = take-none (suc e - suc a)
+drop-of-take (suc a) (suc e) (b ∷ s) = let n : e - a ≡ suc e - suc a = omega arith in drop-of-take a e s ∙ ap (λ (n : ℕ). take n (drop a s)) n
+
+pub part-some : (a e : ℕ) (s : List ℕ) → e ≤ length s → part a e s ≡ take (e - a) (drop a s)
+part-some a e s h = chosen _ _ _ (le-leb e (length s) h) ∙ drop-of-take a e s
+
+pub part-front : (n : ℕ) (s : List ℕ) → n ≤ length s → part 0 n s ≡ take n s
+part-front n s h = chosen _ _ _ (le-leb n (length s) h)
+
+-- ## Positions
+
+pub value-first : {k : ℕ} {vs ws : List declaration.Variant} {v : declaration.Variant} → k ≡ 0 → vs ≡ v ∷ ws → valueAt k vs ≡ v .value
+value-first {ws = ws} {v = v} e f = λ i. valueAt (e i) (f i)
+
+pub value-later : {k : ℕ} {vs ws : List declaration.Variant} {v : declaration.Variant} → (k ≡ 0 → ⊥) → vs ≡ v ∷ ws → valueAt k vs ≡ valueAt (k - 1) ws
+value-later {k} {vs} {ws} {v} e f = ap (valueAt k) f ∙ go k e
+  where
+    go : (k : ℕ) → (k ≡ 0 → ⊥) → valueAt k (v ∷ ws) ≡ valueAt (k - 1) ws
+    go zero e = absurd (e refl)
+    go (suc k) e = ap (λ (n : ℕ). valueAt n ws) (omega arith)

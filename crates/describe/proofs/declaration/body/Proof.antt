@@ -1,0 +1,44 @@
+use mathlib.Core.Path.{ap}
+use Rattle.parse.proofs.Meeting.{meets-as}
+use Rattle.parse.specs.Contract as contract
+use Rattle.reading.specs.Reading as reading
+use borrow.Author.Needs.{needs}
+use Rattle.describe.proofs.declaration.body.Statement.{statement}
+use Rattle.describe.proofs.declaration.body.Tie as tie
+
+enum-told : tie.Need-enum-told
+enum-told c = search needs
+
+take-struct-requires : tie.Need-take-struct-requires
+take-struct-requires c κs = search needs
+
+enum-told-2 : tie.Need-enum-told-2
+enum-told-2 c = search needs
+
+take-enum-requires : tie.Need-take-enum-requires
+take-enum-requires c κs = search needs
+
+same-length : tie.Need-same-length
+same-length c = search needs
+
+returns : tie.Need-returns
+returns c = meets-as (ap (λ k. reading.bodyOf (contract.kindOf k) ((c .before .before .before .before .before .before .before .before .args) .c .row) (contract.stream ((c .before .before .before .before .before .before .before .before .args) .s .now) ((c .before .before .before .before .before .before .before .before .args) .c))) ((c .before .before .before .before .enum-told) .given .1)) ((c .before .before .take-struct) .ensures)
+
+same-length-2 : tie.Need-same-length-2
+same-length-2 c = search needs
+
+returns-2 : tie.Need-returns-2
+returns-2 c = meets-as (ap (λ k. reading.bodyOf (contract.kindOf k) ((c .before .before .before .before .before .before .before .before .args) .c .row) (contract.stream ((c .before .before .before .before .before .before .before .before .args) .s .now) ((c .before .before .before .before .before .before .before .before .args) .c))) ((c .before .before .before .before .enum-told2) .given .1)) ((c .before .before .take-enum) .ensures)
+
+pub body-spec : {M : Type 1} → statement M
+body-spec =
+    tie.close
+    (tie.spec
+    enum-told
+    take-struct-requires
+    enum-told-2
+    take-enum-requires
+    same-length
+    returns
+    same-length-2
+    returns-2)

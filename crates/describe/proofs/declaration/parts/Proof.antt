@@ -1,0 +1,81 @@
+use mathlib.Core.Path.{refl}
+use Rattle.describe.proofs.Inside.{meets-inside}
+use Rattle.parse.proofs.Meeting as meeting
+use Rattle.parse.specs.Contract as contract
+use Rattle.reading.specs.Reading as reading
+use borrow.Author.Needs.{needs}
+use Rattle.describe.proofs.declaration.parts.Statement.{statement}
+use Rattle.describe.proofs.declaration.parts.Tie as tie
+
+try-take-requires : tie.Need-try-take-requires
+try-take-requires c κs = search needs
+
+enum-known-r : tie.Need-enum-known-r
+enum-known-r c = search needs
+
+enum-known-d : tie.Need-enum-known-d
+enum-known-d c = search needs
+
+try-take-constraints-requires : tie.Need-try-take-constraints-requires
+try-take-constraints-requires c κs = meeting.landed (meeting.say contract.countShown contract.countSaid ((c .before .before .d) .given .1) ((c .before .before .before .before .before .before .try-take) .ensures))
+
+enum-known-r-2 : tie.Need-enum-known-r-2
+enum-known-r-2 c = search needs
+
+enum-known-e : tie.Need-enum-known-e
+enum-known-e c = search needs
+
+body-requires : tie.Need-body-requires
+body-requires c κs = meeting.landed (meeting.say (λ x. contract.any) contract.stepSaid ((c .before .before .e) .given .1) ((c .before .before .before .before .before .before .try-take-constraints) .ensures))
+
+enum-known-r-3 : tie.Need-enum-known-r-3
+enum-known-r-3 c = search needs
+
+enum-known-end : tie.Need-enum-known-end
+enum-known-end c = search needs
+
+same-length : tie.Need-same-length
+same-length c = search needs
+
+returns : tie.Need-returns
+returns c = λ n t. meeting.meets-no _ (meeting.say contract.countShown contract.countSaid ((c .before .r) .given .1) ((c .before .before .before .before .before .try-take) .ensures))
+
+same-length-2 : tie.Need-same-length-2
+same-length-2 c = search needs
+
+returns-2 : tie.Need-returns-2
+returns-2 c = λ n t. meeting.meets-then _ (meeting.say contract.countShown contract.countSaid ((c .before .before .before .before .before .before .before .before .d) .given .1) ((c .before .before .before .before .before .before .before .before .before .before .before .before .try-take) .ensures)) (λ p _. meeting.meets-no _ (meeting.say (λ x. contract.any) contract.stepSaid ((c .before .r2) .given .1) ((c .before .before .before .before .before .try-take-constraints) .ensures)))
+
+same-length-3 : tie.Need-same-length-3
+same-length-3 c = search needs
+
+returns-3 : tie.Need-returns-3
+returns-3 c = λ n t. meeting.meets-then _ (meeting.say contract.countShown contract.countSaid ((c .before .before .before .before .before .before .before .before .before .before .before .before .before .before .before .d) .given .1) ((c .before .before .before .before .before .before .before .before .before .before .before .before .before .before .before .before .before .before .before .try-take) .ensures)) (λ p _. meeting.meets-then _ (meeting.say (λ x. contract.any) contract.stepSaid ((c .before .before .before .before .before .before .before .before .e) .given .1) ((c .before .before .before .before .before .before .before .before .before .before .before .before .try-take-constraints) .ensures)) (λ x _. meeting.meets-no _ (meeting.say contract.bodyShown contract.countSaid ((c .before .r3) .given .1) ((c .before .before .before .before .before .body) .ensures))))
+
+same-length-4 : tie.Need-same-length-4
+same-length-4 c = search needs
+
+returns-4 : tie.Need-returns-4
+returns-4 c = λ n t. meeting.meets-then _ (meets-inside reading.generics (c .before .before .before .before .before .before .before .before .before .before .before .before .before .before .before .before .before .before .before .before .before .before .before .pre) (meeting.say contract.countShown contract.countSaid ((c .before .before .before .before .before .before .before .before .before .before .before .before .before .before .before .d) .given .1) ((c .before .before .before .before .before .before .before .before .before .before .before .before .before .before .before .before .before .before .before .try-take) .ensures))) (λ p i. meeting.meets-then _ (meeting.say (λ x. contract.any) contract.stepSaid ((c .before .before .before .before .before .before .before .before .e) .given .1) ((c .before .before .before .before .before .before .before .before .before .before .before .before .try-take-constraints) .ensures)) (λ x _. meeting.meets-map _ _ (λ b k. record { kind = refl; name = t; count = k .0; parameters = i .1; body = k .1 }) (meets-inside (reading.bodyOf (contract.kindOf ((c .before .before .before .before .before .before .before .before .before .before .before .before .before .before .before .before .before .before .before .before .before .before .before .args) .kind))) (meeting.landed (meeting.say (λ x. contract.any) contract.stepSaid ((c .before .before .before .before .before .before .before .before .e) .given .1) ((c .before .before .before .before .before .before .before .before .before .before .before .before .try-take-constraints) .ensures))) (meeting.say contract.bodyShown contract.countSaid ((c .before .end) .given .1) ((c .before .before .before .before .before .body) .ensures)))))
+
+pub parts-spec : {M : Type 1} → statement M
+parts-spec =
+    tie.close
+    (tie.spec
+    try-take-requires
+    enum-known-r
+    enum-known-d
+    try-take-constraints-requires
+    enum-known-r-2
+    enum-known-e
+    body-requires
+    enum-known-r-3
+    enum-known-end
+    same-length
+    returns
+    same-length-2
+    returns-2
+    same-length-3
+    returns-3
+    same-length-4
+    returns-4)

@@ -1,0 +1,68 @@
+use mathlib.Core.Path.{sym, _∙_, ap}
+use Rattle.describe.specs.Contract.{partsAfter}
+use Rattle.parse.proofs.Meeting as meeting
+use Rattle.parse.specs.Contract as contract
+use borrow.Author.Needs.{needs}
+use Rattle.describe.proofs.declaration.read.Statement.{statement}
+use Rattle.describe.proofs.declaration.read.Tie as tie
+
+try-take-requires : tie.Need-try-take-requires
+try-take-requires c κs = search needs
+
+enum-known-r : tie.Need-enum-known-r
+enum-known-r c = search needs
+
+enum-known-d : tie.Need-enum-known-d
+enum-known-d c = search needs
+
+try-take-requires-2 : tie.Need-try-take-requires-2
+try-take-requires-2 c κs = meeting.landed (meeting.say (λ x. contract.any) contract.stepSaid ((c .before .before .d) .given .1) ((c .before .before .before .before .before .before .try-take) .ensures))
+
+take-requires : tie.Need-take-requires
+take-requires c κs = meeting.landed ((c .before .before .before .try-take2) .ensures)
+
+enum-known-r-2 : tie.Need-enum-known-r-2
+enum-known-r-2 c = search needs
+
+enum-known-h : tie.Need-enum-known-h
+enum-known-h c = search needs
+
+parts-requires : tie.Need-parts-requires
+parts-requires c κs = meeting.landed (meeting.say (contract.headShown ((c .before .before .before .before .before .before .before .before .before .before .before .before .before .before .before .before .before .before .before .before .before .before .before .args) .s .now)) contract.headSaid ((c .before .before .before .before .h) .given .1) ((c .before .before .before .before .before .before .before .before .take) .ensures))
+
+same-length : tie.Need-same-length
+same-length c = search needs
+
+returns : tie.Need-returns
+returns c = meeting.meets-no _ (meeting.say (λ x. contract.any) contract.stepSaid ((c .before .r) .given .1) ((c .before .before .before .before .before .try-take) .ensures))
+
+same-length-2 : tie.Need-same-length-2
+same-length-2 c = search needs
+
+returns-2 : tie.Need-returns-2
+returns-2 c = meeting.meets-then _ (meeting.say (λ x. contract.any) contract.stepSaid ((c .before .before .before .before .before .before .before .before .before .before .before .before .d) .given .1) ((c .before .before .before .before .before .before .before .before .before .before .before .before .before .before .before .before .try-take) .ensures)) (λ a _. meeting.meets-then _ ((c .before .before .before .before .before .before .before .before .before .try-take2) .ensures) (λ v _. meeting.meets-no _ (meeting.say (contract.headShown ((c .before .before .before .before .before .before .before .before .before .before .before .before .before .before .before .before .before .before .before .before .args) .s .now)) contract.headSaid ((c .before .r2) .given .1) ((c .before .before .before .before .before .take) .ensures))))
+
+same-length-3 : tie.Need-same-length-3
+same-length-3 c = (c .before .before .parts) .kept .1 .1 .0 ∙ (c .before .before .before .before .before .before .before .before .before .before .before .take) .kept .1 .1 .0 ∙ (c .before .before .before .before .before .before .before .before .before .before .before .before .before .before .before .try-take2) .kept .1 .1 .0 ∙ (c .before .before .before .before .before .before .before .before .before .before .before .before .before .before .before .before .before .before .before .before .before .before .try-take) .kept .1 .1 .0
+
+returns-3 : tie.Need-returns-3
+returns-3 c = meeting.meets-then _ (meeting.say (λ x. contract.any) contract.stepSaid ((c .before .before .before .before .before .before .before .before .before .before .before .before .before .before .before .before .before .before .d) .given .1) ((c .before .before .before .before .before .before .before .before .before .before .before .before .before .before .before .before .before .before .before .before .before .before .try-take) .ensures)) (λ a _. meeting.meets-then _ ((c .before .before .before .before .before .before .before .before .before .before .before .before .before .before .before .try-take2) .ensures) (λ v _. meeting.meets-then (λ x. partsAfter (x .kind) (x .name)) (meeting.say (contract.headShown ((c .before .before .before .before .before .before .before .before .before .before .before .before .before .before .before .before .before .before .before .before .before .before .before .before .before .before .args) .s .now)) contract.headSaid ((c .before .before .before .before .before .before .before .h) .given .1) ((c .before .before .before .before .before .before .before .before .before .before .before .take) .ensures)) (λ x k. meeting.meets-as (ap (λ kd. partsAfter kd (x .name) ((c .before .before .before .before .before .before .before .h) .given .0 .0 .next .row) (contract.stream ((c .before .before .before .before .before .before .before .before .before .before .before .before .before .before .before .before .before .before .before .before .before .before .before .before .before .before .args) .s .now) ((c .before .before .before .before .before .before .before .h) .given .0 .0 .next))) (sym (k .0))) ((c .before .before .parts) .ensures (x .name) (k .1)))))
+
+pub read-spec : {M : Type 1} → statement M
+read-spec =
+    tie.close
+    (tie.spec
+    try-take-requires
+    enum-known-r
+    enum-known-d
+    try-take-requires-2
+    take-requires
+    enum-known-r-2
+    enum-known-h
+    parts-requires
+    same-length
+    returns
+    same-length-2
+    returns-2
+    same-length-3
+    returns-3)

@@ -1,0 +1,62 @@
+use native.Mathlib.Omega.{arith}
+use mathlib.Core.Path.{ap, subst}
+use Rattle.parse.specs.Contract as contract
+use Rattle.report.proofs.Texts.{nothing}
+use Rattle.describe.proofs.Worths.{put-as}
+use Rattle.describe.specs.Listing.{fieldLines}
+use borrow.Author.Needs.{needs}
+use Rattle.describe.proofs.listing.field_lines.Statement.{statement}
+use Rattle.describe.proofs.listing.field_lines.Tie as tie
+
+enum-told : tie.Need-enum-told
+enum-told c = search needs
+
+enum-known-fields : tie.Need-enum-known-fields
+enum-known-fields c = search needs
+
+named-lines-requires : tie.Need-named-lines-requires
+named-lines-requires c κs = (subst (λ v. contract.FieldsOf ((c .before .before .before .before .before .before .before .before .args) .s .now) v ((c .before .before .before .before .before .before .before .before .pre) .0 .0)) ((c .before .before .before .fields) .given .1) ((c .before .before .before .before .before .before .before .before .pre) .0 .1) .2 .inList, ((c .before .before .before .before .before .before .before .before .pre) .1 .0, (c .before .before .before .before .before .before .before .before .pre) .1 .1))
+
+enum-known-fields-2 : tie.Need-enum-known-fields-2
+enum-known-fields-2 c = search needs
+
+tuple-lines-requires : tie.Need-tuple-lines-requires
+tuple-lines-requires c κs = (subst (λ v. contract.FieldsOf ((c .before .before .before .before .before .before .before .before .args) .s .now) v ((c .before .before .before .before .before .before .before .before .pre) .0 .0)) ((c .before .before .before .fields2) .given .1) ((c .before .before .before .before .before .before .before .before .pre) .0 .1) .2 .inList, ((c .before .before .before .before .before .before .before .before .pre) .1 .0, (c .before .before .before .before .before .before .before .before .pre) .1 .1))
+
+returns : tie.Need-returns
+returns c = (λ f k. put-as (ap fieldLines (subst (λ v. contract.FieldsOf ((c .before .before .before .before .before .args) .s .now) v f) ((c .enum-told) .given .1) k)) (nothing _ _), omega arith)
+
+same-length : tie.Need-same-length
+same-length c = search needs
+
+same-length-2 : tie.Need-same-length-2
+same-length-2 c = search needs
+
+returns-2 : tie.Need-returns-2
+returns-2 c = (λ f k. let a = subst (λ v. contract.FieldsOf ((c .before .before .before .before .before .before .before .before .before .before .before .before .before .args) .s .now) v f) ((c .before .before .before .before .before .before .before .before .fields) .given .1) k in put-as (ap fieldLines (a .1)) ((c .before .before .before .before .named-lines) .ensures .0 (a .0) (a .2)), (c .before .before .before .before .named-lines) .ensures .1)
+
+same-length-3 : tie.Need-same-length-3
+same-length-3 c = search needs
+
+same-length-4 : tie.Need-same-length-4
+same-length-4 c = search needs
+
+returns-3 : tie.Need-returns-3
+returns-3 c = (λ f k. let a = subst (λ v. contract.FieldsOf ((c .before .before .before .before .before .before .before .before .before .before .before .before .before .args) .s .now) v f) ((c .before .before .before .before .before .before .before .before .fields2) .given .1) k in put-as (ap fieldLines (a .1)) ((c .before .before .before .before .tuple-lines) .ensures .0 (a .0) (a .2)), (c .before .before .before .before .tuple-lines) .ensures .1)
+
+pub field-lines-spec : {M : Type 1} → statement M
+field-lines-spec =
+    tie.close
+    (tie.spec
+    enum-told
+    enum-known-fields
+    named-lines-requires
+    enum-known-fields-2
+    tuple-lines-requires
+    returns
+    same-length
+    same-length-2
+    returns-2
+    same-length-3
+    same-length-4
+    returns-3)

@@ -1,0 +1,41 @@
+use native.Mathlib.Omega.{arith}
+use lib.Seq.{slice}
+use mathlib.Core.Path.{sym}
+use Rattle.parse.specs.Contract as contract
+use Rattle.report.proofs.Texts.{joined}
+use Rattle.report.specs.Text.{decimal}
+use Rattle.describe.proofs.Lined.{put-line}
+use Rattle.describe.proofs.Worths.{put-as}
+use Rattle.describe.specs.Listing.{line, kindText}
+use borrow.Author.Needs.{needs}
+use Rattle.describe.proofs.listing.put_item.Statement.{statement}
+use Rattle.describe.proofs.listing.put_item.Tie as tie
+
+slice-aggregate-put-bytes : tie.Need-slice-aggregate-put-bytes
+slice-aggregate-put-bytes c = search needs
+
+put-bytes-requires : tie.Need-put-bytes-requires
+put-bytes-requires c κs = search needs
+
+put-kind-requires : tie.Need-put-kind-requires
+put-kind-requires c κs = search needs
+
+put-position-requires : tie.Need-put-position-requires
+put-position-requires c κs = search needs
+
+same-length : tie.Need-same-length
+same-length c = search needs
+
+returns : tie.Need-returns
+returns c = (λ x k. joined ((c .before .before .before .before .before .before .before .before .before .before .before .put-bytes) .ensures) (put-as (λ i. line (kindText (k .kind i)) (k .name .bytes i) (decimal (sym (k .count) i))) (put-line (kindText (contract.kindOf ((c .before .before .before .before .before .before .before .before .before .before .before .before .before .before .before .before .args) .d .kind))) (slice ((c .before .before .before .before .before .before .before .before .before .before .before .before .before .before .before .before .args) .d .name .start) ((c .before .before .before .before .before .before .before .before .before .before .before .before .before .before .before .before .args) .d .name .end) ((c .before .before .before .before .before .before .before .before .before .before .before .before .before .before .before .before .args) .s .now)) (decimal ((c .before .before .before .before .before .before .before .before .before .before .before .before .before .before .before .before .args) .d .count)) ((c .before .before .before .before .before .before .put-kind) .ensures .0) ((c .before .before .put-position) .ensures .0))), omega (arith, (c .before .before .before .before .before .before .before .before .before .before .before .put-bytes) .ensures .next, (c .before .before .before .before .before .before .put-kind) .ensures .1, (c .before .before .put-position) .ensures .1))
+
+pub put-item-spec : {M : Type 1} → statement M
+put-item-spec =
+    tie.close
+    (tie.spec
+    slice-aggregate-put-bytes
+    put-bytes-requires
+    put-kind-requires
+    put-position-requires
+    same-length
+    returns)

@@ -1,0 +1,28 @@
+use native.Mathlib.Omega.{arith}
+use lib.Seq.{slice}
+use Rattle.report.specs.Text.{decimal}
+use Rattle.describe.proofs.Lined.{put-line}
+use Rattle.describe.specs.Listing.{FIELD}
+use borrow.Author.Needs.{needs}
+use Rattle.describe.proofs.listing.put_named.Statement.{statement}
+use Rattle.describe.proofs.listing.put_named.Tie as tie
+
+slice-aggregate-put-head : tie.Need-slice-aggregate-put-head
+slice-aggregate-put-head c = search needs
+
+put-head-requires : tie.Need-put-head-requires
+put-head-requires c κs = search needs
+
+put-position-requires : tie.Need-put-position-requires
+put-position-requires c κs = search needs
+
+same-length : tie.Need-same-length
+same-length c = search needs
+
+returns : tie.Need-returns
+returns c = (put-line FIELD (slice ((c .before .before .before .before .before .before .before .before .before .before .before .args) .name .start) ((c .before .before .before .before .before .before .before .before .before .before .before .args) .name .end) ((c .before .before .before .before .before .before .before .before .before .before .before .args) .s .now)) (decimal ((c .before .before .before .before .before .before .before .before .before .before .before .args) .n)) ((c .before .before .before .before .before .before .put-head) .ensures .0) ((c .before .before .put-position) .ensures .0), omega (arith, (c .before .before .before .before .before .before .put-head) .ensures .1, (c .before .before .put-position) .ensures .1))
+
+pub put-named-spec : {M : Type 1} → statement M
+put-named-spec =
+    tie.close
+    (tie.spec slice-aggregate-put-head put-head-requires put-position-requires same-length returns)

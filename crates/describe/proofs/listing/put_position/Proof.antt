@@ -1,0 +1,25 @@
+use native.Mathlib.Omega.{arith}
+use Rattle.report.proofs.Texts.{joined}
+use borrow.Author.Needs.{needs}
+use Rattle.describe.proofs.listing.put_position.Statement.{statement}
+use Rattle.describe.proofs.listing.put_position.Tie as tie
+
+put-byte-requires : tie.Need-put-byte-requires
+put-byte-requires c κs = search needs
+
+put-number-requires : tie.Need-put-number-requires
+put-number-requires c κs = search needs
+
+put-byte-requires-2 : tie.Need-put-byte-requires-2
+put-byte-requires-2 c κs = search needs
+
+same-length : tie.Need-same-length
+same-length c = search needs
+
+returns : tie.Need-returns
+returns c = (joined ((c .before .before .before .before .before .before .before .before .before .before .put-byte) .ensures) (joined ((c .before .before .before .before .before .before .put-number) .ensures .0) ((c .before .before .put-byte2) .ensures)), omega (arith, (c .before .before .before .before .before .before .before .before .before .before .put-byte) .ensures .next, (c .before .before .before .before .before .before .put-number) .ensures .1, (c .before .before .put-byte2) .ensures .next))
+
+pub put-position-spec : {M : Type 1} → statement M
+put-position-spec =
+    tie.close
+    (tie.spec put-byte-requires put-number-requires put-byte-requires-2 same-length returns)

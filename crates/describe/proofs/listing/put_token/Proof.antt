@@ -1,0 +1,41 @@
+use native.Mathlib.Omega.{arith}
+use lib.Seq.{length-slice}
+use Rattle.token_list.proofs.Texts.{slice-none}
+use Rattle.report.proofs.Texts.{nothing}
+use Rattle.describe.proofs.Worths.{put-as, drop-of-take}
+use borrow.Author.Needs.{needs}
+use Rattle.describe.proofs.listing.put_token.Statement.{statement}
+use Rattle.describe.proofs.listing.put_token.Tie as tie
+
+sub-put-bytes : tie.Need-sub-put-bytes
+sub-put-bytes c = search needs
+
+part-put-bytes-start : tie.Need-part-put-bytes-start
+part-put-bytes-start c = search needs
+
+part-put-bytes-end : tie.Need-part-put-bytes-end
+part-put-bytes-end c = search needs
+
+put-bytes-requires : tie.Need-put-bytes-requires
+put-bytes-requires c κs = search needs
+
+same-length : tie.Need-same-length
+same-length c = search needs
+
+returns : tie.Need-returns
+returns c = let p = put-as (drop-of-take ((c .before .before .before .before .before .before .before .before .args) .t .start) ((c .before .before .before .before .before .before .before .before .args) .t .end) ((c .before .before .before .before .before .before .before .before .args) .s .now)) ((c .before .before .put-bytes) .ensures) in (p, omega (arith, p .next, length-slice ((c .before .before .before .before .before .before .before .before .args) .t .start) ((c .before .before .before .before .before .before .before .before .args) .t .end) ((c .before .before .before .before .before .before .before .before .args) .s .now) ((c .before .before .before .before .before .before .before .before .pre) .0), (c .before .before .before .before .before .before .before .before .pre) .0, (c .before .before .before .before .before .before .before .before .pre) .1 .0))
+
+returns-2 : tie.Need-returns-2
+returns-2 c = (put-as (slice-none ((c .before .before .before .args) .s .now) ((c .before .before .before .args) .t .start) ((c .before .before .before .args) .t .end) (omega arith)) (nothing _ _), omega arith)
+
+pub put-token-spec : {M : Type 1} → statement M
+put-token-spec =
+    tie.close
+    (tie.spec
+    sub-put-bytes
+    part-put-bytes-start
+    part-put-bytes-end
+    put-bytes-requires
+    same-length
+    returns
+    returns-2)

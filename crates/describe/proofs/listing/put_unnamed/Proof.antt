@@ -1,0 +1,32 @@
+use native.Mathlib.Omega.{arith}
+use Rattle.report.specs.Text.{decimal}
+use Rattle.describe.proofs.Lined.{put-line}
+use Rattle.describe.specs.Listing.{FIELD, DASH}
+use borrow.Author.Needs.{needs}
+use Rattle.describe.proofs.listing.put_unnamed.Statement.{statement}
+use Rattle.describe.proofs.listing.put_unnamed.Tie as tie
+
+slice-aggregate-put-bytes : tie.Need-slice-aggregate-put-bytes
+slice-aggregate-put-bytes c = search needs
+
+put-bytes-requires : tie.Need-put-bytes-requires
+put-bytes-requires c κs = search needs
+
+put-position-requires : tie.Need-put-position-requires
+put-position-requires c κs = search needs
+
+same-length : tie.Need-same-length
+same-length c = search needs
+
+returns : tie.Need-returns
+returns c = (put-line FIELD DASH (decimal ((c .before .before .before .before .before .before .before .before .before .before .args) .n)) ((c .before .before .before .before .before .before .put-bytes) .ensures) ((c .before .before .put-position) .ensures .0), omega (arith, (c .before .before .before .before .before .before .put-bytes) .ensures .next, (c .before .before .put-position) .ensures .1))
+
+pub put-unnamed-spec : {M : Type 1} → statement M
+put-unnamed-spec =
+    tie.close
+    (tie.spec
+    slice-aggregate-put-bytes
+    put-bytes-requires
+    put-position-requires
+    same-length
+    returns)

@@ -1,0 +1,50 @@
+use Rattle.describe.specs.Contract.{declarationShown, declarationSaid}
+use lib.ListN.{length}
+use mathlib.Core.Path.{sym, ap}
+use Rattle.parse.proofs.Meeting as meeting
+use Rattle.describe.proofs.Answers.{meets-tells, meets-refusal, listed-as, listed-refused}
+use Rattle.describe.specs.Listing.{itemAnswer, output}
+use borrow.Author.Needs.{needs}
+use Rattle.describe.proofs.listing.read_listing.Statement.{statement}
+use Rattle.describe.proofs.listing.read_listing.Tie as tie
+
+read-requires : tie.Need-read-requires
+read-requires c κs = search needs
+
+enum-known-r : tie.Need-enum-known-r
+enum-known-r c = search needs
+
+enum-known-d : tie.Need-enum-known-d
+enum-known-d c = search needs
+
+fit-listing-requires : tie.Need-fit-listing-requires
+fit-listing-requires c κs = let m = meets-tells (meeting.say (declarationShown ((c .before .before .before .before .before .before .before .before .before .before .before .before .args) .s .now)) declarationSaid ((c .before .before .before .d) .given .1) ((c .before .before .before .before .before .before .before .read) .ensures)) in ((m .0, m .4), (c .before .before .before .before .before .before .before .before .before .before .before .before .pre) .1)
+
+same-length : tie.Need-same-length
+same-length c = search needs
+
+returns : tie.Need-returns
+returns c = let e = meets-refusal (meeting.say (declarationShown ((c .before .before .before .before .before .before .before .before .before .before .args) .s .now)) declarationSaid ((c .before .r) .given .1) ((c .before .before .before .before .before .read) .ensures)) in listed-refused (sym (ap (itemAnswer (length ((c .before .before .before .before .before .before .before .before .before .before .args) .out .now))) e)) (sym (ap (λ t. output ((c .before .before .before .before .before .before .before .before .before .before .args) .out .now) (itemAnswer (length ((c .before .before .before .before .before .before .before .before .before .before .args) .out .now)) t)) e))
+
+same-length-2 : tie.Need-same-length-2
+same-length-2 c = search needs
+
+same-length-3 : tie.Need-same-length-3
+same-length-3 c = search needs
+
+returns-2 : tie.Need-returns-2
+returns-2 c = let m = meets-tells (meeting.say (declarationShown ((c .before .before .before .before .before .before .before .before .before .before .before .before .before .before .before .before .before .args) .s .now)) declarationSaid ((c .before .before .before .before .before .before .before .before .d) .given .1) ((c .before .before .before .before .before .before .before .before .before .before .before .before .read) .ensures)) in listed-as (ap (itemAnswer (length ((c .before .before .before .before .before .before .before .before .before .before .before .before .before .before .before .before .before .args) .out .now))) (m .3)) ((c .before .before .before .before .fit-listing) .ensures (m .0) (m .4))
+
+pub read-listing-spec : {M : Type 1} → statement M
+read-listing-spec =
+    tie.close
+    (tie.spec
+    read-requires
+    enum-known-r
+    enum-known-d
+    fit-listing-requires
+    same-length
+    returns
+    same-length-2
+    same-length-3
+    returns-2)

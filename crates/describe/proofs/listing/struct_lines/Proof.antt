@@ -1,0 +1,46 @@
+use borrow.Author.Tests.{eq-eqb, ne-eqb}
+use Rattle.describe.specs.Contract.{fieldsIn}
+use native.Mathlib.Omega.{arith}
+use mathlib.Core.Path.{ap, subst}
+use Rattle.describe.proofs.Worths.{put-as}
+use Rattle.describe.specs.Listing.{fieldLines}
+use borrow.Author.Needs.{needs}
+use Rattle.describe.proofs.listing.struct_lines.Statement.{statement}
+use Rattle.describe.proofs.listing.struct_lines.Tie as tie
+
+named-lines-requires : tie.Need-named-lines-requires
+named-lines-requires c κs = search needs
+
+same-length : tie.Need-same-length
+same-length c = search needs
+
+same-length-2 : tie.Need-same-length-2
+same-length-2 c = search needs
+
+returns : tie.Need-returns
+returns c = (λ f k. let a = subst (λ z. fieldsIn z ((c .before .before .before .before .before .before .before .before .before .before .before .args) .s .now) ((c .before .before .before .before .before .before .before .before .before .before .before .args) .c) f) (eq-eqb ((c .before .before .before .before .before .before .before .before .before .before .before .args) .mark) 123 (omega arith)) k in put-as (ap fieldLines (a .1)) ((c .before .before .before .before .named-lines) .ensures .0 (a .0) (a .2)), (c .before .before .before .before .named-lines) .ensures .1)
+
+tuple-lines-requires : tie.Need-tuple-lines-requires
+tuple-lines-requires c κs = search needs
+
+same-length-3 : tie.Need-same-length-3
+same-length-3 c = search needs
+
+same-length-4 : tie.Need-same-length-4
+same-length-4 c = search needs
+
+returns-2 : tie.Need-returns-2
+returns-2 c = (λ f k. let a = subst (λ z. fieldsIn z ((c .before .before .before .before .before .before .before .before .before .before .before .args) .s .now) ((c .before .before .before .before .before .before .before .before .before .before .before .args) .c) f) (ne-eqb ((c .before .before .before .before .before .before .before .before .before .before .before .args) .mark) 123 (λ e. omega arith)) k in put-as (ap fieldLines (a .1)) ((c .before .before .before .before .tuple-lines) .ensures .0 (a .0) (a .2)), (c .before .before .before .before .tuple-lines) .ensures .1)
+
+pub struct-lines-spec : {M : Type 1} → statement M
+struct-lines-spec =
+    tie.close
+    (tie.spec
+    named-lines-requires
+    same-length
+    same-length-2
+    returns
+    tuple-lines-requires
+    same-length-3
+    same-length-4
+    returns-2)

@@ -1,0 +1,93 @@
+use borrow.Author.Needs.{needs}
+use native.Mathlib.Omega.{arith}
+use Prim.Native.Nat.{_+_, _-_, _*_, _≤_}
+use lib.ListN.{length}
+use mathlib.Core.Path.{_≡_, refl, _∙_}
+use Rattle.parse.proofs.Meeting as meeting
+use Rattle.reading.proofs.Conserved as conserved
+use Rattle.parse.specs.Contract as contract
+use Rattle.reading.specs.Reading as reading
+use Rattle.report.proofs.Texts.{joined}
+use Rattle.describe.proofs.Answers.{meets-tells}
+use Rattle.describe.proofs.Inside.{forward}
+use Rattle.describe.proofs.Lined.{Lined, lined-start, lined-more, lined-done, lined-refused}
+use Rattle.describe.specs.Listing.{variantLines}
+use Rattle.describe.proofs.listing.variant_lines.Statement.{statement}
+use Rattle.describe.proofs.listing.variant_lines.Tie as tie
+
+abbrev Inv-loop : tie.InvT-loop
+Inv-loop s roles₀ out₀ start c₀ at₀ count₀ roles out c at count = Lined variantLines reading.variant s c₀ c out₀ out start at count × (at ≤ start + 4300200000 * count) × (length roles ≡ length roles₀) × (length out ≡ length out₀)
+
+abbrev μ-loop : tie.MeasureT-loop
+μ-loop s roles₀ out₀ start c₀ at₀ count₀ roles out c at count = length s - c .at
+
+loop-holds : tie.Need-loop-holds Inv-loop μ-loop
+loop-holds c = (lined-start variantLines reading.variant conserved.variant-round ((c .before .before .before .pre) .0), omega arith, refl, refl)
+
+variant-requires : tie.Need-variant-requires Inv-loop μ-loop
+variant-requires c κs = (c .before .loop) .inv .0 .inList
+
+enum-known-v : tie.Need-enum-known-v Inv-loop μ-loop
+enum-known-v c = search needs
+
+put-variant-requires : tie.Need-put-variant-requires Inv-loop μ-loop
+put-variant-requires c κs = ((meets-tells (meeting.say (contract.variantShown ((c .before .before .before .before .before .before .before .before .before .before .before .before .args) .s .now)) contract.variantSaid ((c .before .before .v) .given .1) ((c .before .before .before .before .before .before .variant) .ensures)) .4 .0, meets-tells (meeting.say (contract.variantShown ((c .before .before .before .before .before .before .before .before .before .before .before .before .args) .s .now)) contract.variantSaid ((c .before .before .v) .given .1) ((c .before .before .before .before .before .before .variant) .ensures)) .4 .2), ((c .before .before .before .before .before .before .before .before .before .before .before .before .pre) .1 .0, omega (arith, (c .before .before .before .before .before .before .before .before .loop) .inv .1, (c .before .before .before .before .before .before .before .before .loop) .inv .0 .few, (c .before .before .before .before .before .before .before .before .loop) .inv .0 .inList .within, (c .before .before .before .before .before .before .before .before .before .before .before .before .pre) .1 .0, (c .before .before .before .before .before .before .before .before .before .before .before .before .pre) .1 .1)))
+
+field-lines-requires : tie.Need-field-lines-requires Inv-loop μ-loop
+field-lines-requires c κs = ((meets-tells (meeting.say (contract.variantShown ((c .before .before .before .before .before .before .before .before .before .before .before .before .before .before .before .before .before .args) .s .now)) contract.variantSaid ((c .before .before .before .before .before .before .before .v) .given .1) ((c .before .before .before .before .before .before .before .before .before .before .before .variant) .ensures)) .4 .0 .fields, meets-tells (meeting.say (contract.variantShown ((c .before .before .before .before .before .before .before .before .before .before .before .before .before .before .before .before .before .args) .s .now)) contract.variantSaid ((c .before .before .before .before .before .before .before .v) .given .1) ((c .before .before .before .before .before .before .before .before .before .before .before .variant) .ensures)) .4 .2 .fields), ((c .before .before .before .before .before .before .before .before .before .before .before .before .before .before .before .before .before .pre) .1 .0, omega (arith, (c .before .before .before .before .put-variant) .ensures .1, (c .before .before .before .before .before .before .before .before .before .before .before .before .before .loop) .inv .1, (c .before .before .before .before .before .before .before .before .before .before .before .before .before .loop) .inv .0 .few, (c .before .before .before .before .before .before .before .before .before .before .before .before .before .loop) .inv .0 .inList .within, (c .before .before .before .before .before .before .before .before .before .before .before .before .before .before .before .before .before .pre) .1 .0, (c .before .before .before .before .before .before .before .before .before .before .before .before .before .before .before .before .before .pre) .1 .1)))
+
+add-count : tie.Need-add-count Inv-loop μ-loop
+add-count c = omega (arith, (c .before .before .before .before .before .before .before .before .before .before .before .before .before .before .before .before .before .before .before .loop) .inv .0 .few, (c .before .before .before .before .before .before .before .before .before .before .before .before .before .before .before .before .before .before .before .loop) .inv .0 .inList .within, (c .before .before .before .before .before .before .before .before .before .before .before .before .before .before .before .before .before .before .before .before .before .before .before .pre) .1 .0)
+
+loop-less : tie.Need-loop-less Inv-loop μ-loop
+loop-less c = let n = forward reading.variant conserved.variant-round (meeting.say (contract.variantShown ((c .before .before .before .before .before .before .before .before .before .before .before .before .before .before .before .before .before .before .before .before .before .before .before .args) .s .now)) contract.variantSaid ((c .before .before .before .before .before .before .before .before .before .before .before .before .before .v) .given .1) ((c .before .before .before .before .before .before .before .before .before .before .before .before .before .before .before .before .before .variant) .ensures)) (λ v h. h) in omega (arith, n .0, n .1 .within)
+
+loop-again : tie.Need-loop-again Inv-loop μ-loop
+loop-again c = (lined-more variantLines reading.variant conserved.variant-round ((c .before .before .before .before .before .before .before .before .before .before .before .before .before .before .before .before .before .before .before .loop) .inv .0) (meeting.say (contract.variantShown ((c .before .before .before .before .before .before .before .before .before .before .before .before .before .before .before .before .before .before .before .before .before .before .before .args) .s .now)) contract.variantSaid ((c .before .before .before .before .before .before .before .before .before .before .before .before .before .v) .given .1) ((c .before .before .before .before .before .before .before .before .before .before .before .before .before .before .before .before .before .variant) .ensures)) (λ v h. h) (λ a t. joined ((c .before .before .before .before .before .before .before .before .before .before .put-variant) .ensures .0 a t) ((c .before .before .before .before .before .field-lines) .ensures .0 (a .fields) (t .fields))), omega (arith, (c .before .before .before .before .before .before .before .before .before .before .put-variant) .ensures .1, (c .before .before .before .before .before .field-lines) .ensures .1, (c .before .before .before .before .before .before .before .before .before .before .before .before .before .before .before .before .before .before .before .loop) .inv .1), (c .before .before .before .before .before .field-lines) .kept .1 .1 .0 ∙ (c .before .before .before .before .before .before .before .before .before .before .before .before .before .before .before .before .before .variant) .kept .1 .1 .0 ∙ (c .before .before .before .before .before .before .before .before .before .before .before .before .before .before .before .before .before .before .before .loop) .inv .2, (c .before .before .before .before .before .field-lines) .kept .1 .1 .1 .0 ∙ (c .before .before .before .before .before .before .before .before .before .before .put-variant) .kept .1 .1 .1 .0 ∙ (c .before .before .before .before .before .before .before .before .before .before .before .before .before .before .before .before .before .before .before .loop) .inv .3)
+
+enum-told : tie.Need-enum-told Inv-loop μ-loop
+enum-told c = search needs
+
+same-length : tie.Need-same-length Inv-loop μ-loop
+same-length c = (c .before .before .before .before .variant) .kept .1 .1 .0 ∙ (c .before .before .before .before .before .before .loop) .inv .2
+
+same-length-2 : tie.Need-same-length-2 Inv-loop μ-loop
+same-length-2 c = (c .before .before .before .before .before .before .loop) .inv .3
+
+returns : tie.Need-returns Inv-loop μ-loop
+returns c = (λ xs k. lined-done variantLines reading.variant conserved.variant-round ((c .before .before .before .before .before .before .loop) .inv .0) (meeting.say (contract.variantShown ((c .before .before .before .before .before .before .before .before .before .before .args) .s .now)) contract.variantSaid ((c .enum-told) .given .1) ((c .before .before .before .before .variant) .ensures)) (λ v h. h) xs k, omega (arith, (c .before .before .before .before .before .before .loop) .inv .1, (c .before .before .before .before .before .before .loop) .inv .0 .few, (c .before .before .before .before .before .before .loop) .inv .0 .inList .within, (c .before .before .before .before .before .before .before .before .before .before .pre) .1 .0))
+
+enum-told-2 : tie.Need-enum-told-2 Inv-loop μ-loop
+enum-told-2 c = search needs
+
+same-length-3 : tie.Need-same-length-3 Inv-loop μ-loop
+same-length-3 c = (c .before .before .before .before .variant) .kept .1 .1 .0 ∙ (c .before .before .before .before .before .before .loop) .inv .2
+
+same-length-4 : tie.Need-same-length-4 Inv-loop μ-loop
+same-length-4 c = (c .before .before .before .before .before .before .loop) .inv .3
+
+returns-2 : tie.Need-returns-2 Inv-loop μ-loop
+returns-2 c = (λ xs k. lined-refused variantLines reading.variant conserved.variant-round ((c .before .before .before .before .before .before .loop) .inv .0) (meeting.say (contract.variantShown ((c .before .before .before .before .before .before .before .before .before .before .args) .s .now)) contract.variantSaid ((c .enum-told2) .given .1) ((c .before .before .before .before .variant) .ensures)) xs k, omega (arith, (c .before .before .before .before .before .before .loop) .inv .1, (c .before .before .before .before .before .before .loop) .inv .0 .few, (c .before .before .before .before .before .before .loop) .inv .0 .inList .within, (c .before .before .before .before .before .before .before .before .before .before .pre) .1 .0))
+
+pub variant-lines-spec : {M : Type 1} → statement M
+variant-lines-spec =
+    tie.close
+    (tie.spec
+    Inv-loop
+    μ-loop
+    loop-holds
+    variant-requires
+    enum-known-v
+    put-variant-requires
+    field-lines-requires
+    add-count
+    loop-less
+    loop-again
+    enum-told
+    same-length
+    same-length-2
+    returns
+    enum-told-2
+    same-length-3
+    same-length-4
+    returns-2)

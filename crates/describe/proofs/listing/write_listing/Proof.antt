@@ -1,0 +1,45 @@
+use Rattle.token_list.specs.Contract.{checked}
+use lib.ListN.{length}
+use mathlib.Core.Path.{sym, _∙_, ap}
+use Rattle.describe.proofs.Answers.{start-in, passed-size, listed-as, listed-refused, listing-checked, listing-read}
+use Rattle.describe.specs.Listing.{output}
+use borrow.Author.Needs.{needs}
+use Rattle.describe.proofs.listing.write_listing.Statement.{statement}
+use Rattle.describe.proofs.listing.write_listing.Tie as tie
+
+check-requires : tie.Need-check-requires
+check-requires c κs = search needs
+
+enum-known-r : tie.Need-enum-known-r
+enum-known-r c = search needs
+
+enum-told : tie.Need-enum-told
+enum-told c = search needs
+
+slice-aggregate-read-listing : tie.Need-slice-aggregate-read-listing
+slice-aggregate-read-listing c = search needs
+
+read-listing-requires : tie.Need-read-listing-requires
+read-listing-requires c κs = (start-in (sym ((c .before .before .before .before .check) .ensures) ∙ ap checked ((c .before .before .enum-told) .given .1)), passed-size ((c .before .before .before .before .before .before .before .args) .list .now) (sym ((c .before .before .before .before .check) .ensures) ∙ ap checked ((c .before .before .enum-told) .given .1)))
+
+returns : tie.Need-returns
+returns c = let e = listing-checked ((c .before .before .before .before .before .before .args) .list .now) (length ((c .before .before .before .before .before .before .args) .out .now)) (sym ((c .before .before .before .check) .ensures) ∙ ap checked ((c .before .r) .given .1)) in listed-refused (sym e) (sym (ap (output ((c .before .before .before .before .before .before .args) .out .now)) e))
+
+same-length : tie.Need-same-length
+same-length c = search needs
+
+returns-2 : tie.Need-returns-2
+returns-2 c = listed-as (listing-read ((c .before .before .before .before .before .before .before .before .before .before .before .args) .list .now) (length ((c .before .before .before .before .before .before .before .before .before .before .before .args) .out .now)) (sym ((c .before .before .before .before .before .before .before .before .check) .ensures) ∙ ap checked ((c .before .before .before .before .before .before .enum-told) .given .1))) ((c .before .before .before .read-listing) .ensures)
+
+pub write-listing-spec : {M : Type 1} → statement M
+write-listing-spec =
+    tie.close
+    (tie.spec
+    check-requires
+    enum-known-r
+    enum-told
+    slice-aggregate-read-listing
+    read-listing-requires
+    returns
+    same-length
+    returns-2)

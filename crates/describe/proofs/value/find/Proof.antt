@@ -1,0 +1,86 @@
+use borrow.Author.Needs.{needs}
+use native.Mathlib.Omega.{arith}
+use Prim.Native.Nat.{_-_}
+use lib.ListN.{length}
+use mathlib.Core.List.{List}
+use mathlib.Core.Path.{_≡_, refl, _∙_, ap, subst⁻¹}
+use Rattle.token_list.specs.Contract.{InList}
+use Rattle.parse.proofs.Meeting as meeting
+use Rattle.reading.proofs.Conserved as conserved
+use Rattle.parse.specs.Contract as contract
+use Rattle.reading.specs.Reading as reading
+use Rattle.reading.specs.Declaration as declaration
+use Rattle.describe.specs.Value.{valueAt}
+use Rattle.describe.proofs.Inside.{inside-more, inside-done, inside-refused, forward}
+use Rattle.describe.proofs.Worths.{value-first, value-later}
+use Rattle.describe.proofs.value.find.Statement.{statement}
+use Rattle.describe.proofs.value.find.Tie as tie
+
+abbrev Inv-loop : tie.InvT-loop
+Inv-loop s roles₀ position c₀ left₀ roles c left = InList s c × (length roles ≡ length roles₀) × ((vs : List declaration.Variant) → contract.InsideAt (reading.every reading.variant) s c₀ vs → (ws : List declaration.Variant) × contract.InsideAt (reading.every reading.variant) s c ws × (valueAt position vs ≡ valueAt left ws))
+
+abbrev μ-loop : tie.MeasureT-loop
+μ-loop s roles₀ position c₀ left₀ roles c left = length s - c .at
+
+loop-holds : tie.Need-loop-holds Inv-loop μ-loop
+loop-holds c = ((c .before .before .pre), refl, λ vs i. (vs, i, refl))
+
+variant-requires : tie.Need-variant-requires Inv-loop μ-loop
+variant-requires c κs = (c .before .loop) .inv .0
+
+enum-known-v : tie.Need-enum-known-v Inv-loop μ-loop
+enum-known-v c = search needs
+
+same-length : tie.Need-same-length Inv-loop μ-loop
+same-length c = (c .before .before .before .before .before .before .variant) .kept .1 .1 .0 ∙ (c .before .before .before .before .before .before .before .before .loop) .inv .1
+
+returns : tie.Need-returns Inv-loop μ-loop
+returns c = λ vs i. let o = (c .before .before .before .before .before .before .before .before .loop) .inv .2 vs i in let m = inside-more reading.variant conserved.variant-round (o .1) (meeting.say (contract.variantShown ((c .before .before .before .before .before .before .before .before .before .before .before .args) .s .now)) contract.variantSaid ((c .before .before .v) .given .1) ((c .before .before .before .before .before .before .variant) .ensures)) (λ v h. h) in subst⁻¹ (contract.ValueOf ((c .before .before .before .before .before .before .before .before .before .before .before .args) .s .now) ((c .before .before .v) .given .0 .0 .value)) (o .2 ∙ value-first (omega arith) (m .split)) (m .shown .value)
+
+sub-left : tie.Need-sub-left Inv-loop μ-loop
+sub-left c = omega arith
+
+loop-less : tie.Need-loop-less Inv-loop μ-loop
+loop-less c = let f = forward reading.variant conserved.variant-round (meeting.say (contract.variantShown ((c .before .before .before .before .before .before .before .before .before .before .before .before .args) .s .now)) contract.variantSaid ((c .before .before .before .v) .given .1) ((c .before .before .before .before .before .before .before .variant) .ensures)) (λ v h. h) in omega (arith, f .0, f .1 .within)
+
+loop-again : tie.Need-loop-again Inv-loop μ-loop
+loop-again c = (forward reading.variant conserved.variant-round (meeting.say (contract.variantShown ((c .before .before .before .before .before .before .before .before .before .before .before .before .args) .s .now)) contract.variantSaid ((c .before .before .before .v) .given .1) ((c .before .before .before .before .before .before .before .variant) .ensures)) (λ v h. h) .1, (c .before .before .before .before .before .before .before .variant) .kept .1 .1 .0 ∙ (c .before .before .before .before .before .before .before .before .before .loop) .inv .1, λ vs i. let o = (c .before .before .before .before .before .before .before .before .before .loop) .inv .2 vs i in let m = inside-more reading.variant conserved.variant-round (o .1) (meeting.say (contract.variantShown ((c .before .before .before .before .before .before .before .before .before .before .before .before .args) .s .now)) contract.variantSaid ((c .before .before .before .v) .given .1) ((c .before .before .before .before .before .before .before .variant) .ensures)) (λ v h. h) in (m .others, m .inside, o .2 ∙ value-later (λ e. omega arith) (m .split)))
+
+enum-told : tie.Need-enum-told Inv-loop μ-loop
+enum-told c = search needs
+
+same-length-2 : tie.Need-same-length-2 Inv-loop μ-loop
+same-length-2 c = (c .before .before .before .before .variant) .kept .1 .1 .0 ∙ (c .before .before .before .before .before .before .loop) .inv .1
+
+returns-2 : tie.Need-returns-2 Inv-loop μ-loop
+returns-2 c = λ vs i. let o = (c .before .before .before .before .before .before .loop) .inv .2 vs i in o .2 ∙ ap (valueAt ((c .before .before .before .before .before .before .loop) .left)) (inside-done reading.variant conserved.variant-round (o .1) (meeting.say (contract.variantShown ((c .before .before .before .before .before .before .before .before .before .args) .s .now)) contract.variantSaid ((c .enum-told) .given .1) ((c .before .before .before .before .variant) .ensures)) (λ v h. h))
+
+enum-told-2 : tie.Need-enum-told-2 Inv-loop μ-loop
+enum-told-2 c = search needs
+
+same-length-3 : tie.Need-same-length-3 Inv-loop μ-loop
+same-length-3 c = (c .before .before .before .before .variant) .kept .1 .1 .0 ∙ (c .before .before .before .before .before .before .loop) .inv .1
+
+returns-3 : tie.Need-returns-3 Inv-loop μ-loop
+returns-3 c = λ vs i. inside-refused reading.variant conserved.variant-round ((c .before .before .before .before .before .before .loop) .inv .2 vs i .1) (meeting.say (contract.variantShown ((c .before .before .before .before .before .before .before .before .before .args) .s .now)) contract.variantSaid ((c .enum-told2) .given .1) ((c .before .before .before .before .variant) .ensures))
+
+pub find-spec : {M : Type 1} → statement M
+find-spec =
+    tie.close
+    (tie.spec
+    Inv-loop
+    μ-loop
+    loop-holds
+    variant-requires
+    enum-known-v
+    same-length
+    returns
+    sub-left
+    loop-less
+    loop-again
+    enum-told
+    same-length-2
+    returns-2
+    enum-told-2
+    same-length-3
+    returns-3)

@@ -1,0 +1,39 @@
+use native.Mathlib.Omega.{arith}
+use Rattle.report.proofs.Texts.{joined}
+use Rattle.describe.proofs.Worths.{negative-none, negative-some, decimal-i64, put-as}
+use borrow.Author.Needs.{needs}
+use Rattle.describe.proofs.value.put_negative.Statement.{statement}
+use Rattle.describe.proofs.value.put_negative.Tie as tie
+
+put-byte-requires : tie.Need-put-byte-requires
+put-byte-requires c κs = search needs
+
+same-length : tie.Need-same-length
+same-length c = search needs
+
+returns : tie.Need-returns
+returns c = (put-as (negative-none _ (omega arith)) ((c .before .before .put-byte) .ensures), omega (arith, (c .before .before .put-byte) .ensures .next))
+
+put-byte-requires-2 : tie.Need-put-byte-requires-2
+put-byte-requires-2 c κs = search needs
+
+put-number-requires : tie.Need-put-number-requires
+put-number-requires c κs = search needs
+
+same-length-2 : tie.Need-same-length-2
+same-length-2 c = search needs
+
+returns-2 : tie.Need-returns-2
+returns-2 c = (put-as (negative-some _ (λ h. omega arith)) (joined ((c .before .before .before .before .before .before .put-byte2) .ensures) ((c .before .before .put-number) .ensures .0)), omega (arith, (c .before .before .before .before .before .before .put-byte2) .ensures .next, (c .before .before .put-number) .ensures .0 .next, decimal-i64 _ ((c .before .before .before .before .before .before .before .before .before .before .pre) .1)))
+
+pub put-negative-spec : {M : Type 1} → statement M
+put-negative-spec =
+    tie.close
+    (tie.spec
+    put-byte-requires
+    same-length
+    returns
+    put-byte-requires-2
+    put-number-requires
+    same-length-2
+    returns-2)

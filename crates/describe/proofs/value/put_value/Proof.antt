@@ -1,0 +1,49 @@
+use native.Mathlib.Omega.{arith}
+use mathlib.Core.Path.{ap, sym, _∙_, subst}
+use Rattle.reading.specs.Token.{negatable}
+use Rattle.parse.specs.Contract as contract
+use Rattle.describe.proofs.Answers.{placed-absent, placed-literal, placed-negative}
+use borrow.Author.Needs.{needs}
+use Rattle.describe.proofs.value.put_value.Statement.{statement}
+use Rattle.describe.proofs.value.put_value.Tie as tie
+
+enum-told : tie.Need-enum-told
+enum-told c = search needs
+
+enum-known-v : tie.Need-enum-known-v
+enum-known-v c = search needs
+
+enum-known-v-2 : tie.Need-enum-known-v-2
+enum-known-v-2 c = search needs
+
+worth-requires : tie.Need-worth-requires
+worth-requires c κs = let h = subst (λ v. contract.ValueOf ((c .before .before .before .before .before .args) .s .now) v ((c .before .before .before .before .before .pre) .0)) ((c .before .v2) .given .1) ((c .before .before .before .before .before .pre) .1) in (h .1 .within, ap negatable (sym (h .1 .bytes)) ∙ h .2)
+
+put-negative-requires : tie.Need-put-negative-requires
+put-negative-requires c κs = (omega arith, (c .before .worth) .ensures .1)
+
+returns : tie.Need-returns
+returns c = λ w k room. placed-absent w k _ ((c .enum-told) .given .1)
+
+returns-2 : tie.Need-returns-2
+returns-2 c = λ w k room. placed-literal w k _ _ ((c .before .v) .given .1)
+
+same-length : tie.Need-same-length
+same-length c = search needs
+
+returns-3 : tie.Need-returns-3
+returns-3 c = λ w k room. placed-negative w k _ ((c .before .before .before .before .before .before .v2) .given .1) ((c .before .before .before .before .worth) .ensures .0) ((c .before .before .put-negative) .ensures .0) ((c .before .before .put-negative) .ensures .1) room
+
+pub put-value-spec : {M : Type 1} → statement M
+put-value-spec =
+    tie.close
+    (tie.spec
+    enum-told
+    enum-known-v
+    enum-known-v-2
+    worth-requires
+    put-negative-requires
+    returns
+    returns-2
+    same-length
+    returns-3)

@@ -1,0 +1,50 @@
+use lib.ListN.{length}
+use native.Mathlib.Omega.{arith}
+use mathlib.Core.Path.{ap, sym, _∙_}
+use Rattle.token_list.specs.Contract.{checked}
+use Rattle.describe.proofs.Answers.{start-in, placed-as, placed-refused, value-checked, value-short, value-read}
+use Rattle.describe.specs.Value.{scratch}
+use borrow.Author.Needs.{needs}
+use Rattle.describe.proofs.value.value_of.Statement.{statement}
+use Rattle.describe.proofs.value.value_of.Tie as tie
+
+check-requires : tie.Need-check-requires
+check-requires c κs = search needs
+
+enum-known-r : tie.Need-enum-known-r
+enum-known-r c = search needs
+
+enum-told : tie.Need-enum-told
+enum-told c = search needs
+
+returns : tie.Need-returns
+returns c = let e = value-short ((c .before .before .before .before .before .before .args) .list .now) ((c .before .before .before .before .before .before .args) .position) (length ((c .before .before .before .before .before .before .args) .scratch .now)) (sym ((c .before .before .before .check) .ensures) ∙ ap checked ((c .before .enum-told) .given .1)) (omega arith) in placed-refused (sym e) (sym (ap (scratch ((c .before .before .before .before .before .before .args) .scratch .now)) e))
+
+slice-aggregate-read-value : tie.Need-slice-aggregate-read-value
+slice-aggregate-read-value c = search needs
+
+read-value-requires : tie.Need-read-value-requires
+read-value-requires c κs = (start-in (sym ((c .before .before .before .before .before .check) .ensures) ∙ ap checked ((c .before .before .before .enum-told) .given .1)), omega arith)
+
+returns-2 : tie.Need-returns-2
+returns-2 c = let e = value-checked ((c .before .before .before .before .before .before .args) .list .now) ((c .before .before .before .before .before .before .args) .position) (length ((c .before .before .before .before .before .before .args) .scratch .now)) (sym ((c .before .before .before .check) .ensures) ∙ ap checked ((c .before .r) .given .1)) in placed-refused (sym e) (sym (ap (scratch ((c .before .before .before .before .before .before .args) .scratch .now)) e))
+
+same-length : tie.Need-same-length
+same-length c = search needs
+
+returns-3 : tie.Need-returns-3
+returns-3 c = placed-as (value-read ((c .before .before .before .before .before .before .before .before .before .before .before .before .args) .list .now) ((c .before .before .before .before .before .before .before .before .before .before .before .before .args) .position) (length ((c .before .before .before .before .before .before .before .before .before .before .before .before .args) .scratch .now)) (sym ((c .before .before .before .before .before .before .before .before .before .check) .ensures) ∙ ap checked ((c .before .before .before .before .before .before .before .enum-told) .given .1)) (omega arith)) ((c .before .before .before .read-value) .ensures)
+
+pub value-of-spec : {M : Type 1} → statement M
+value-of-spec =
+    tie.close
+    (tie.spec
+    check-requires
+    enum-known-r
+    enum-told
+    returns
+    slice-aggregate-read-value
+    read-value-requires
+    returns-2
+    same-length
+    returns-3)

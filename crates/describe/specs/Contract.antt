@@ -1,0 +1,92 @@
+-- What ties the code's answers to the texts.
+use mathlib.Core.Path.{_≡_}
+use mathlib.Core.List.{List, [], _∷_}
+use Prim.Native.Nat.{ℕ, _≤_}
+use lib.ListN.{length, take}
+use lib.Dec.{leb, eqb}
+use lib.Seq.{slice}
+use mathlib.Core.Bool.{Bool, true, false, cond}
+use Rattle.token_list.specs.Stream.{Trees}
+use Rattle.token_list.specs.declared.check.Cursor.{Cursor}
+use Rattle.reading.specs.Declaration as declaration
+use Rattle.reading.specs.Took.{Reader, pure, _>>=_}
+use Rattle.reading.specs.Reading as reading
+use Rattle.parse.specs.Contract.{Said, on, no, refusal, TextOf, InsideAt, kindOf, bodyCount}
+use Rattle.describe.specs.Value as value
+use Rattle.describe.specs.Listing as listing
+use Rattle.describe.specs.declared.listing.Listed.{Listed}
+use Rattle.describe.specs.declared.listing.Listed.the-variants as listeds
+use Rattle.describe.specs.declared.value.ValuePlace.{ValuePlace}
+use Rattle.describe.specs.declared.value.ValuePlace.the-variants as places
+use Rattle.describe.specs.declared.declaration.DeclarationAt.{DeclarationAt}
+use Rattle.describe.specs.declared.declaration.DeclarationStep.{DeclarationStep}
+use Rattle.describe.specs.declared.declaration.DeclarationStep.the-variants as declarations
+
+-- ## The answers of declaration
+
+-- what follows the item's word and name
+abbrev pub partsAfter : declaration.Kind → List ℕ → Reader declaration.Declaration
+partsAfter k n = do
+  p ← reading.generics
+  c ← reading.clause
+  b ← reading.bodyOf k
+  pure (record { kind = k; name = n; parameters = p; clause = c; body = b })
+
+-- what is told of a declaration: its kind, name and count, and where its generics and its body are read
+pub record DeclarationOf (s : List ℕ) (p : DeclarationAt) (d : declaration.Declaration) : Type 0 where
+  pub kind : d .kind ≡ kindOf (p .kind)
+  pub name : TextOf s (p .name) (d .name)
+  pub count : p .count ≡ bodyCount (d .body)
+  pub parameters : InsideAt reading.generics s (p .generics) (d .parameters)
+  pub body : InsideAt (reading.bodyOf (kindOf (p .kind))) s (p .body) (d .body)
+
+abbrev pub declarationSaid : DeclarationStep → Said
+declarationSaid (declarations.At p) = on (p .end)
+declarationSaid (declarations.Refused r) = refusal r
+
+abbrev pub declarationShown : List ℕ → DeclarationStep → declaration.Declaration → Type 0
+declarationShown s (declarations.At p) d = DeclarationOf s p d
+declarationShown s (declarations.Refused r) d = ⊥
+
+-- ## The answers of value
+
+-- the text from a up to e, empty where there is no such part
+abbrev pub part : ℕ → ℕ → List ℕ → List ℕ
+part a e s = cond (leb e (length s)) (slice a e s) []
+
+-- what an answer says, of the list s and the scratch x
+abbrev pub placed : List ℕ → List ℕ → ValuePlace → value.Answer
+placed s x places.None = value.none
+placed s x (places.InList a e) = value.inList (part a e s)
+placed s x (places.InScratch n) = value.inScratch (part 0 n x)
+placed s x (places.Refused r) = value.refused (r .number) (r .place)
+
+-- the scratch was `before` and is `after`
+pub record Placed (s before after : List ℕ) (a : value.Answer) (r : ValuePlace) : Type 0 where
+  pub answer : placed s after r ≡ a
+  pub scratch : after ≡ value.scratch before a
+
+-- ## The answers of listing
+
+-- the fields f of a struct's group with the delimiter `mark`, whose inside is at c
+abbrev pub fieldsIn : Bool → List ℕ → Cursor → declaration.Fields → Type 0
+fieldsIn true s c f = (fs : List declaration.Field) × (f ≡ declaration.named fs) × InsideAt (reading.every reading.namedField) s c fs
+fieldsIn false s c f = (ts : List Trees) × (f ≡ declaration.tuple ts) × InsideAt (reading.every reading.tupleField) s c ts
+
+abbrev pub StructAt : List ℕ → ℕ → Cursor → declaration.Fields → Type 0
+StructAt s mark c f = fieldsIn (eqb mark 123) s c f
+
+-- what an answer says, of the output x
+abbrev pub listedAs : List ℕ → Listed → listing.Answer
+listedAs x (listeds.Written n) = listing.listed (take n x)
+listedAs x (listeds.Refused r) = listing.refused (r .number) (r .place)
+
+abbrev pub within : List ℕ → Listed → Type 0
+within x (listeds.Written n) = n ≤ length x
+within x (listeds.Refused r) = Unit
+
+-- the output was `before` and is `after`
+pub record ListedAs (before after : List ℕ) (a : listing.Answer) (r : Listed) : Type 0 where
+  pub room : within after r
+  pub answer : listedAs after r ≡ a
+  pub output : after ≡ listing.output before a

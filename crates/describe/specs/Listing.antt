@@ -1,0 +1,123 @@
+-- The listing of a declaration (document 01, "The listing program").
+use mathlib.Core.Bool.{cond}
+use mathlib.Core.List.{List, [], _∷_, _++_}
+use Prim.Native.Nat.{ℕ, _+_}
+use lib.Dec.{ltb}
+use lib.ListN.{length}
+use lib.Seq.{sets}
+use Rattle.token_list.specs.Check as list
+use Rattle.token_list.specs.Stream.{Trees, at}
+use Rattle.report.specs.Text.{decimal}
+use Rattle.reading.specs.Declaration.{Kind, struct, enum, Parameter, lifetime, constant, type, Field, Fields, unit, named, tuple, Value, absent, literal, negative, Variant, Body, fields, variants, Declaration}
+use Rattle.reading.specs.Took.{Took, took, refuse}
+use Rattle.reading.specs.Reading.{item}
+use Rattle.parse.specs.Contract.{bodyCount}
+use Rattle.describe.specs.Value.{negativeText}
+
+-- `part name number` and LF
+abbrev pub NAMES : List ℕ
+NAMES = 112 ∷ 97 ∷ 114 ∷ 116 ∷ 32 ∷ 110 ∷ 97 ∷ 109 ∷ 101 ∷ 32 ∷ 110 ∷ 117 ∷ 109 ∷ 98 ∷ 101 ∷ 114 ∷ 10 ∷ []
+
+-- the parts, each with the space after it
+abbrev pub STRUCT : List ℕ
+STRUCT = 115 ∷ 116 ∷ 114 ∷ 117 ∷ 99 ∷ 116 ∷ 32 ∷ []
+
+abbrev pub ENUM : List ℕ
+ENUM = 101 ∷ 110 ∷ 117 ∷ 109 ∷ 32 ∷ []
+
+abbrev pub PARAM : List ℕ
+PARAM = 112 ∷ 97 ∷ 114 ∷ 97 ∷ 109 ∷ 32 ∷ []
+
+abbrev pub VARIANT : List ℕ
+VARIANT = 118 ∷ 97 ∷ 114 ∷ 105 ∷ 97 ∷ 110 ∷ 116 ∷ 32 ∷ []
+
+abbrev pub FIELD : List ℕ
+FIELD = 102 ∷ 105 ∷ 101 ∷ 108 ∷ 100 ∷ 32 ∷ []
+
+-- `-`, where there is no name or no number
+abbrev pub DASH : List ℕ
+DASH = 45 ∷ []
+
+-- a line: part, name and number
+unfoldable pub line : List ℕ → List ℕ → List ℕ → List ℕ
+line part name number = part ++ (name ++ 32 ∷ (number ++ 10 ∷ []))
+
+-- lines of things that are numbered from k on
+abbrev pub numbered : {A : Type 0} → (ℕ → A → List ℕ) → ℕ → List A → List ℕ
+numbered f k [] = []
+numbered f k (x ∷ xs) = f k x ++ numbered f (k + 1) xs
+
+-- a lifetime with its `'`
+abbrev pub parameterName : Parameter → List ℕ
+parameterName (lifetime n b) = 39 ∷ n
+parameterName (constant n t) = n
+parameterName (type n b d) = n
+
+abbrev pub parameterLine : ℕ → Parameter → List ℕ
+parameterLine k p = line PARAM (parameterName p) DASH
+
+abbrev pub namedLine : ℕ → Field → List ℕ
+namedLine k f = line FIELD (f .name) (decimal k)
+
+abbrev pub tupleLine : ℕ → Trees → List ℕ
+tupleLine k t = line FIELD DASH (decimal k)
+
+abbrev pub fieldLines : Fields → List ℕ
+fieldLines unit = []
+fieldLines (named fs) = numbered namedLine 0 fs
+fieldLines (tuple ts) = numbered tupleLine 0 ts
+
+-- the written value, or the position k
+abbrev pub number : ℕ → Value → List ℕ
+number k absent = decimal k
+number k (literal t) = t
+number k (negative n) = negativeText n
+
+abbrev pub variantLine : ℕ → Variant → List ℕ
+variantLine k v = line VARIANT (v .name) (number k (v .value))
+
+-- a variant, its fields below
+abbrev pub variantLines : ℕ → Variant → List ℕ
+variantLines k v = variantLine k v ++ fieldLines (v .fields)
+
+abbrev pub bodyLines : Body → List ℕ
+bodyLines (fields f) = fieldLines f
+bodyLines (variants vs) = numbered variantLines 0 vs
+
+abbrev pub kindText : Kind → List ℕ
+kindText struct = STRUCT
+kindText enum = ENUM
+
+-- the line of names and the item's
+abbrev pub itemLines : Declaration → List ℕ
+itemLines d = NAMES ++ line (kindText (d .kind)) (d .name) (decimal (bodyCount (d .body)))
+
+unfoldable pub listing : Declaration → List ℕ
+listing d = itemLines d ++ (numbered parameterLine 0 (d .parameters) ++ bodyLines (d .body))
+
+pub data Answer : Type 0 where
+  -- the listing
+  listed : List ℕ → Answer
+  -- the refusal's number and place
+  refused : ℕ → ℕ → Answer
+
+-- a declaration, and an output of n bytes
+abbrev pub fitted : ℕ → List ℕ → Answer
+fitted n text = cond (ltb n (length text)) (refused 8 list.END) (listed text)
+
+abbrev pub itemAnswer : ℕ → Took Declaration → Answer
+itemAnswer n (took d rs us) = fitted n (listing d)
+itemAnswer n (refuse m p) = refused m p
+
+abbrev pub checkedAnswer : List ℕ → ℕ → list.Answer → Answer
+checkedAnswer s n (list.Answer.refused m p) = refused m p
+checkedAnswer s n (list.Answer.passed rows) = itemAnswer n (item 0 (at s 10 .here))
+
+-- a list, and an output of n bytes
+unfoldable pub answer : List ℕ → ℕ → Answer
+answer s n = checkedAnswer s n (list.check s)
+
+-- the output: the listing, and past it the bytes that stood there; after a refusal all stay
+abbrev pub output : List ℕ → Answer → List ℕ
+output x (listed text) = sets x 0 text
+output x (refused n p) = x

@@ -1,0 +1,443 @@
+// The listing of a declaration, written into a lent output. A function that writes answers where the
+// next text goes; what does not fit is left out, and counted all the same.
+use crate::declaration::DeclarationAt;
+use crate::declaration::DeclarationStep;
+use crate::declaration::read;
+use crate::value::put_negative;
+use crate::value::worth;
+use parse::body::FieldStep;
+use parse::body::FieldsAt;
+use parse::body::TypeStep;
+use parse::body::ValueAt;
+use parse::body::VariantAt;
+use parse::body::VariantStep;
+use parse::body::named_field;
+use parse::body::tuple_field;
+use parse::body::variant;
+use parse::data_type::DataType;
+use parse::generics::ParameterAt;
+use parse::generics::ParameterStep;
+use parse::generics::parameter;
+use parse::utils::is_punct;
+use parse::utils::past;
+use report::put::put_byte;
+use report::put::put_bytes;
+use report::put::put_number;
+use token_list::check::Checked;
+use token_list::check::Cursor;
+use token_list::check::END;
+use token_list::check::Refusal;
+use token_list::check::check;
+use token_list::stream::Peeked;
+use token_list::stream::Token;
+use token_list::stream::peek;
+ghost use mathlib.Core.Path.{_≡_};
+ghost use mathlib.Core.List.{List, [], _∷_, _++_};
+ghost use Prim.Native.Nat.{ℕ, _+_, _≤_, _<_};
+ghost use lib.ListN.{length};
+ghost use lib.Seq.{slice};
+ghost use Rattle.token_list.specs.Stream.{Trees, at};
+ghost use Rattle.token_list.specs.Contract.{InList};
+ghost use Rattle.report.specs.Text.{decimal};
+ghost use Rattle.report.specs.Contract.{Put};
+ghost use Rattle.reading.specs.Declaration.{Parameter, Field, Fields, Value, Variant, Body, Declaration};
+ghost use Rattle.reading.specs.Reading.{every, namedField, tupleField, variant, parameter, generics, bodyOf, item};
+ghost use Rattle.parse.specs.Contract.{kindOf, InsideAt, TextOf, ValueOf, FieldsOf, VariantOf, ParameterOf};
+ghost use Rattle.describe.specs.Listing.{FIELD, DASH, line, numbered, kindText, number, parameterLine, namedLine, tupleLine, fieldLines, variantLine, variantLines, bodyLines, itemLines, listing, fitted, itemAnswer, answer};
+ghost use Rattle.describe.specs.Contract.{DeclarationOf, StructAt, ListedAs};
+
+// The listing's length, or a refusal.
+pub enum Listed {
+    Written(usize),
+    Refused(Refusal),
+}
+
+// The text of a token.
+fn put_token(s: &[u8], t: Token, out: &mut [u8], at: usize) -> usize
+    requires { ⌜ t .end ≤ length (now s) ⌝ }
+    requires { ⌜ length (now s) ≤ 65536 ⌝ }
+    requires { ⌜ at ≤ 1000000000000000000 ⌝ }
+    ensures { λ r. ⌜ Put (now (out .entry)) (now (out .exit)) at r (slice (t .start) (t .end) (now (s .entry))) ⌝ }
+    ensures { λ r. ⌜ r ≤ at + 65536 ⌝ }
+{
+    let start = t.start;
+    let end = t.end;
+    if start < end {
+        return put_bytes(out, at, &s[start..end]);
+    }
+    at
+}
+
+// A part and a name.
+fn put_head(s: &[u8], part: &[u8], name: Token, out: &mut [u8], at: usize) -> usize
+    requires { ⌜ name .end ≤ length (now s) ⌝ }
+    requires { ⌜ length (now s) ≤ 65536 ⌝ }
+    requires { ⌜ length (now part) ≤ 8 ⌝ }
+    requires { ⌜ at ≤ 100000000000000000 ⌝ }
+    ensures { λ r. ⌜ Put (now (out .entry)) (now (out .exit)) at r (now (part .entry) ++ slice (name .start) (name .end) (now (s .entry))) ⌝ }
+    ensures { λ r. ⌜ r ≤ at + 65544 ⌝ }
+{
+    let word = put_bytes(out, at, part);
+    put_token(s, name, out, word)
+}
+
+// A number that is a count or a position, and the line's end.
+fn put_position(out: &mut [u8], at: usize, n: usize) -> usize
+    requires { ⌜ at ≤ 1000000000000000000 ⌝ }
+    ensures { λ r. ⌜ Put (now (out .entry)) (now (out .exit)) at r (32 ∷ (decimal n ++ 10 ∷ [])) ⌝ }
+    ensures { λ r. ⌜ r ≤ at + 22 ⌝ }
+{
+    let space = put_byte(out, at, b' ');
+    let end = put_number(out, space, n);
+    put_byte(out, end, b'\n')
+}
+
+fn put_named(s: &[u8], name: Token, out: &mut [u8], at: usize, n: usize) -> usize
+    requires { ⌜ name .end ≤ length (now s) ⌝ }
+    requires { ⌜ length (now s) ≤ 65536 ⌝ }
+    requires { ⌜ at ≤ 100000000000000000 ⌝ }
+    ensures { λ r. ⌜ Put (now (out .entry)) (now (out .exit)) at r (line FIELD (slice (name .start) (name .end) (now (s .entry))) (decimal n)) ⌝ }
+    ensures { λ r. ⌜ r ≤ at + 65566 ⌝ }
+{
+    let head = put_head(s, b"field ", name, out, at);
+    put_position(out, head, n)
+}
+
+fn put_unnamed(out: &mut [u8], at: usize, n: usize) -> usize
+    requires { ⌜ at ≤ 100000000000000000 ⌝ }
+    ensures { λ r. ⌜ Put (now (out .entry)) (now (out .exit)) at r (line FIELD DASH (decimal n)) ⌝ }
+    ensures { λ r. ⌜ r ≤ at + 65566 ⌝ }
+{
+    let head = put_bytes(out, at, b"field -");
+    put_position(out, head, n)
+}
+
+// The lines of the named fields that are read from `from` on.
+fn named_lines(s: &[u8], from: Cursor, roles: &mut [u8], out: &mut [u8], start: usize) -> usize
+    requires { ⌜ InList (now s) from ⌝ }
+    requires { ⌜ length (now s) ≤ 65536 ⌝ }
+    requires { ⌜ start ≤ 10000000000000000 ⌝ }
+    ensures { λ r. ⌜ ((fs : List Field) → InsideAt (every namedField) (now (s .entry)) from fs → Put (now (out .entry)) (now (out .exit)) start r (numbered namedLine 0 fs)) ⌝ }
+    ensures { λ r. ⌜ r ≤ start + 4300000000 ⌝ }
+{
+    let mut c = from;
+    let mut at = start;
+    let mut count = 0;
+    loop {
+        match named_field(s, c, roles) {
+            FieldStep::One(f) => {
+                let name = f.name;
+                at = put_named(s, name, out, at, count);
+                c = f.next;
+                count += 1;
+            }
+            FieldStep::Done(_) => {
+                return at;
+            }
+            FieldStep::Refused(_) => {
+                return at;
+            }
+        }
+    }
+}
+
+// The lines of the fields without names that are read from `from` on.
+fn tuple_lines(s: &[u8], from: Cursor, roles: &mut [u8], out: &mut [u8], start: usize) -> usize
+    requires { ⌜ InList (now s) from ⌝ }
+    requires { ⌜ length (now s) ≤ 65536 ⌝ }
+    requires { ⌜ start ≤ 10000000000000000 ⌝ }
+    ensures { λ r. ⌜ ((ts : List Trees) → InsideAt (every tupleField) (now (s .entry)) from ts → Put (now (out .entry)) (now (out .exit)) start r (numbered tupleLine 0 ts)) ⌝ }
+    ensures { λ r. ⌜ r ≤ start + 4300000000 ⌝ }
+{
+    let mut c = from;
+    let mut at = start;
+    let mut count = 0;
+    loop {
+        match tuple_field(s, c, roles) {
+            TypeStep::One(next) => {
+                at = put_unnamed(out, at, count);
+                c = next;
+                count += 1;
+            }
+            TypeStep::Done(_) => {
+                return at;
+            }
+            TypeStep::Refused(_) => {
+                return at;
+            }
+        }
+    }
+}
+
+fn field_lines(s: &[u8], fields: FieldsAt, roles: &mut [u8], out: &mut [u8], at: usize) -> usize
+    requires { ⌜ ((f : Fields) × FieldsOf (now s) fields f) ⌝ }
+    requires { ⌜ length (now s) ≤ 65536 ⌝ }
+    requires { ⌜ at ≤ 10000000000000000 ⌝ }
+    ensures { λ r. ⌜ ((f : Fields) → FieldsOf (now (s .entry)) fields f → Put (now (out .entry)) (now (out .exit)) at r (fieldLines f)) ⌝ }
+    ensures { λ r. ⌜ r ≤ at + 4300000000 ⌝ }
+{
+    match fields {
+        FieldsAt::Unit => at,
+        FieldsAt::Named(c) => named_lines(s, c, roles, out, at),
+        FieldsAt::Tuple(c) => tuple_lines(s, c, roles, out, at),
+    }
+}
+
+// A variant's number: its written value, or its position n.
+fn put_value(s: &[u8], v: ValueAt, n: usize, out: &mut [u8], at: usize) -> usize
+    requires { ⌜ ((w : Value) × ValueOf (now s) v w) ⌝ }
+    requires { ⌜ length (now s) ≤ 65536 ⌝ }
+    requires { ⌜ at ≤ 100000000000000000 ⌝ }
+    ensures { λ r. ⌜ ((w : Value) → ValueOf (now (s .entry)) v w → Put (now (out .entry)) (now (out .exit)) at r (number n w)) ⌝ }
+    ensures { λ r. ⌜ r ≤ at + 65536 ⌝ }
+{
+    match v {
+        ValueAt::Absent => put_number(out, at, n),
+        ValueAt::Literal(t) => put_token(s, t, out, at),
+        ValueAt::Negative(t) => {
+            let start = t.start;
+            let end = t.end;
+            let m = worth(s, start, end);
+            put_negative(out, at, m)
+        }
+    }
+}
+
+// A variant's own line.
+fn put_variant(s: &[u8], v: VariantAt, n: usize, out: &mut [u8], at: usize) -> usize
+    requires { ⌜ ((a : Variant) × VariantOf (now s) v a) ⌝ }
+    requires { ⌜ length (now s) ≤ 65536 ⌝ }
+    requires { ⌜ at ≤ 10000000000000000 ⌝ }
+    ensures { λ r. ⌜ ((a : Variant) → VariantOf (now (s .entry)) v a → Put (now (out .entry)) (now (out .exit)) at r (variantLine n a)) ⌝ }
+    ensures { λ r. ⌜ r ≤ at + 131082 ⌝ }
+{
+    let name = v.name;
+    let head = put_head(s, b"variant ", name, out, at);
+    let space = put_byte(out, head, b' ');
+    let value = v.value;
+    let end = put_value(s, value, n, out, space);
+    put_byte(out, end, b'\n')
+}
+
+// The lines of the variants that are read from `from` on, each followed by its fields.
+fn variant_lines(s: &[u8], from: Cursor, roles: &mut [u8], out: &mut [u8], start: usize) -> usize
+    requires { ⌜ InList (now s) from ⌝ }
+    requires { ⌜ length (now s) ≤ 65536 ⌝ }
+    requires { ⌜ start ≤ 1000000000000000 ⌝ }
+    ensures { λ r. ⌜ ((vs : List Variant) → InsideAt (every variant) (now (s .entry)) from vs → Put (now (out .entry)) (now (out .exit)) start r (numbered variantLines 0 vs)) ⌝ }
+    ensures { λ r. ⌜ r ≤ start + 300000000000000 ⌝ }
+{
+    let mut c = from;
+    let mut at = start;
+    let mut count = 0;
+    loop {
+        match variant(s, c, roles) {
+            VariantStep::One(v) => {
+                let line = put_variant(s, v, count, out, at);
+                let fields = v.fields;
+                at = field_lines(s, fields, roles, out, line);
+                c = v.next;
+                count += 1;
+            }
+            VariantStep::Done(_) => {
+                return at;
+            }
+            VariantStep::Refused(_) => {
+                return at;
+            }
+        }
+    }
+}
+
+fn put_parameter(s: &[u8], p: ParameterAt, out: &mut [u8], at: usize) -> usize
+    requires { ⌜ ((a : Parameter) × ParameterOf (now s) (p .lifetime) (p .name) a) ⌝ }
+    requires { ⌜ length (now s) ≤ 65536 ⌝ }
+    requires { ⌜ at ≤ 10000000000000000 ⌝ }
+    ensures { λ r. ⌜ ((a : Parameter) → ParameterOf (now (s .entry)) (p .lifetime) (p .name) a → Put (now (out .entry)) (now (out .exit)) at r (parameterLine 0 a)) ⌝ }
+    ensures { λ r. ⌜ r ≤ at + 65566 ⌝ }
+{
+    let name = p.name;
+    if p.lifetime {
+        let quoted = put_head(s, b"param '", name, out, at);
+        return put_bytes(out, quoted, b" -\n");
+    }
+    let head = put_head(s, b"param ", name, out, at);
+    put_bytes(out, head, b" -\n")
+}
+
+// The lines of the parameters that are read from `from` on; `angle` is the row of the `<`.
+fn parameter_lines(
+    s: &[u8],
+    from: Cursor,
+    roles: &mut [u8],
+    angle: usize,
+    out: &mut [u8],
+    start: usize,
+) -> usize
+    requires { ⌜ InList (now s) from ⌝ }
+    requires { ⌜ length (now s) ≤ 65536 ⌝ }
+    requires { ⌜ start ≤ 1000000000000000 ⌝ }
+    ensures { λ r. ⌜ ((ps : List Parameter) → InsideAt (every (parameter angle)) (now (s .entry)) from ps → Put (now (out .entry)) (now (out .exit)) start r (numbered parameterLine 0 ps)) ⌝ }
+    ensures { λ r. ⌜ r ≤ start + 4300000000 ⌝ }
+{
+    let mut c = from;
+    let mut at = start;
+    loop {
+        match parameter(s, c, roles, angle) {
+            ParameterStep::One(p) => {
+                at = put_parameter(s, p, out, at);
+                c = p.next;
+            }
+            ParameterStep::Done(_) => {
+                return at;
+            }
+            ParameterStep::Refused(_) => {
+                return at;
+            }
+        }
+    }
+}
+
+// The lines of the generics that are read at c.
+fn generics_lines(s: &[u8], c: Cursor, roles: &mut [u8], out: &mut [u8], at: usize) -> usize
+    requires { ⌜ InList (now s) c ⌝ }
+    requires { ⌜ length (now s) ≤ 65536 ⌝ }
+    requires { ⌜ at ≤ 1000000000000000 ⌝ }
+    ensures { λ r. ⌜ ((ps : List Parameter) → InsideAt generics (now (s .entry)) c ps → Put (now (out .entry)) (now (out .exit)) at r (numbered parameterLine 0 ps)) ⌝ }
+    ensures { λ r. ⌜ r ≤ at + 4300000000 ⌝ }
+{
+    let row = c.row;
+    match peek(s, c) {
+        Peeked::Nothing => at,
+        Peeked::Group(_) => at,
+        Peeked::Leaf(t) => {
+            if !is_punct(t, b'<') {
+                return at;
+            }
+            let inside = past(s, c, t);
+            parameter_lines(s, inside, roles, row, out, at)
+        }
+    }
+}
+
+// The lines of a struct's body, whose group's inside is at c.
+fn struct_lines(s: &[u8], c: Cursor, mark: u8, roles: &mut [u8], out: &mut [u8], at: usize) -> usize
+    requires { ⌜ InList (now s) c ⌝ }
+    requires { ⌜ length (now s) ≤ 65536 ⌝ }
+    requires { ⌜ at ≤ 1000000000000000 ⌝ }
+    ensures { λ r. ⌜ ((f : Fields) → StructAt (now (s .entry)) mark c f → Put (now (out .entry)) (now (out .exit)) at r (fieldLines f)) ⌝ }
+    ensures { λ r. ⌜ r ≤ at + 4300000000 ⌝ }
+{
+    if mark == b'{' {
+        return named_lines(s, c, roles, out, at);
+    }
+    tuple_lines(s, c, roles, out, at)
+}
+
+// The lines of a declaration's body.
+fn body_lines(s: &[u8], d: DeclarationAt, roles: &mut [u8], out: &mut [u8], at: usize) -> usize
+    requires { ⌜ InList (now s) (d .body) ⌝ }
+    requires { ⌜ length (now s) ≤ 65536 ⌝ }
+    requires { ⌜ at ≤ 1000000000000000 ⌝ }
+    ensures { λ r. ⌜ ((b : Body) → InsideAt (bodyOf (kindOf (d .kind))) (now (s .entry)) (d .body) b → Put (now (out .entry)) (now (out .exit)) at r (bodyLines b)) ⌝ }
+    ensures { λ r. ⌜ r ≤ at + 300000000000000 ⌝ }
+{
+    let c = d.body;
+    match peek(s, c) {
+        Peeked::Nothing => at,
+        Peeked::Leaf(_) => at,
+        Peeked::Group(t) => {
+            let inside = past(s, c, t);
+            let mark = t.mark;
+            let kind = d.kind;
+            match kind {
+                DataType::Struct => struct_lines(s, inside, mark, roles, out, at),
+                DataType::Enum => variant_lines(s, inside, roles, out, at),
+            }
+        }
+    }
+}
+
+fn put_kind(s: &[u8], kind: DataType, name: Token, out: &mut [u8], at: usize) -> usize
+    requires { ⌜ name .end ≤ length (now s) ⌝ }
+    requires { ⌜ length (now s) ≤ 65536 ⌝ }
+    requires { ⌜ at ≤ 1000 ⌝ }
+    ensures { λ r. ⌜ Put (now (out .entry)) (now (out .exit)) at r (kindText (kindOf kind) ++ slice (name .start) (name .end) (now (s .entry))) ⌝ }
+    ensures { λ r. ⌜ r ≤ at + 65544 ⌝ }
+{
+    match kind {
+        DataType::Struct => put_head(s, b"struct ", name, out, at),
+        DataType::Enum => put_head(s, b"enum ", name, out, at),
+    }
+}
+
+// The item's line, after the line of names.
+fn put_item(s: &[u8], d: DeclarationAt, out: &mut [u8]) -> usize
+    requires { ⌜ ((x : Declaration) × DeclarationOf (now s) d x) ⌝ }
+    requires { ⌜ length (now s) ≤ 65536 ⌝ }
+    ensures { λ r. ⌜ ((x : Declaration) → DeclarationOf (now (s .entry)) d x → Put (now (out .entry)) (now (out .exit)) 0 r (itemLines x)) ⌝ }
+    ensures { λ r. ⌜ r ≤ 70000 ⌝ }
+{
+    let names = put_bytes(out, 0, b"part name number\n");
+    let kind = d.kind;
+    let name = d.name;
+    let head = put_kind(s, kind, name, out, names);
+    let count = d.count;
+    put_position(out, head, count)
+}
+
+// The whole listing.
+fn put_listing(s: &[u8], d: DeclarationAt, roles: &mut [u8], out: &mut [u8]) -> usize
+    requires { ⌜ ((x : Declaration) × DeclarationOf (now s) d x) ⌝ }
+    requires { ⌜ length (now s) ≤ 65536 ⌝ }
+    ensures { λ r. ⌜ ((x : Declaration) → DeclarationOf (now (s .entry)) d x → Put (now (out .entry)) (now (out .exit)) 0 r (listing x)) ⌝ }
+{
+    let item = put_item(s, d, out);
+    let c = d.generics;
+    let parameters = generics_lines(s, c, roles, out, item);
+    body_lines(s, d, roles, out, parameters)
+}
+
+// Measures the listing, and writes it where the output is long enough.
+fn fit_listing(s: &[u8], d: DeclarationAt, roles: &mut [u8], out: &mut [u8]) -> Listed
+    requires { ⌜ ((x : Declaration) × DeclarationOf (now s) d x) ⌝ }
+    requires { ⌜ length (now s) ≤ 65536 ⌝ }
+    ensures { λ r. ⌜ ((x : Declaration) → DeclarationOf (now (s .entry)) d x → ListedAs (now (out .entry)) (now (out .exit)) (fitted (length (now (out .entry))) (listing x)) r) ⌝ }
+{
+    let mut nowhere = [0u8; 1];
+    let needed = put_listing(s, d, roles, &mut nowhere);
+    if out.len() < needed {
+        return Listed::Refused(Refusal {
+            number: 8,
+            place: END,
+        });
+    }
+    let end = put_listing(s, d, roles, out);
+    Listed::Written(end)
+}
+
+// The listing of a list that passes the check.
+fn read_listing(s: &[u8], out: &mut [u8], roles: &mut [u8]) -> Listed
+    requires { ⌜ InList (now s) (record { at = 10; row = 0 }) ⌝ }
+    requires { ⌜ length (now s) ≤ 65536 ⌝ }
+    ensures { λ r. ⌜ ListedAs (now (out .entry)) (now (out .exit)) (itemAnswer (length (now (out .entry))) (item 0 (at (now (s .entry)) 10 .here))) r ⌝ }
+{
+    let c = Cursor { at: 10, row: 0 };
+    match read(s, c, roles) {
+        DeclarationStep::Refused(r) => Listed::Refused(r),
+        DeclarationStep::At(d) => fit_listing(s, d, roles, out),
+    }
+}
+
+// Writes the listing of the declaration at the start of the output; on a refusal nothing is written.
+pub fn write_listing(list: &[u8], out: &mut [u8]) -> Listed
+    ensures { λ r. ⌜ ListedAs (now (out .entry)) (now (out .exit)) (answer (now (list .entry)) (length (now (out .entry)))) r ⌝ }
+{
+    match check(list) {
+        Checked::Refused(r) => Listed::Refused(r),
+        Checked::Passed(_) => {
+            let mut roles = [0u8; 4096];
+            read_listing(list, out, &mut roles)
+        }
+    }
+}

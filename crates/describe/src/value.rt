@@ -1,0 +1,205 @@
+// A variant's value: where its text stands, and that text.
+use crate::declaration::DeclarationAt;
+use crate::declaration::DeclarationStep;
+use crate::declaration::read;
+use parse::body::ValueAt;
+use parse::body::VariantStep;
+use parse::body::variant;
+use parse::data_type::DataType;
+use parse::utils::past;
+use report::put::put_byte;
+use report::put::put_number;
+use token_list::check::Checked;
+use token_list::check::Cursor;
+use token_list::check::END;
+use token_list::check::Refusal;
+use token_list::check::check;
+use token_list::stream::Peeked;
+use token_list::stream::peek;
+ghost use mathlib.Core.Path.{_≡_};
+ghost use mathlib.Core.Bool.{true};
+ghost use mathlib.Core.List.{List};
+ghost use Prim.Native.Nat.{ℕ, _+_, _^_, _≤_, _<_};
+ghost use lib.ListN.{length};
+ghost use lib.Seq.{slice};
+ghost use Rattle.token_list.specs.Stream.{at};
+ghost use Rattle.token_list.specs.Contract.{InList};
+ghost use Rattle.report.specs.Contract.{Put};
+ghost use Rattle.reading.specs.Token.{negatable, worth};
+ghost use Rattle.reading.specs.Declaration.{Value, Variant, Body};
+ghost use Rattle.reading.specs.Reading.{every, variant, bodyOf, item};
+ghost use Rattle.parse.specs.Contract.{kindOf, InsideAt, ValueOf};
+ghost use Rattle.describe.specs.Value.{negativeText, valueAt, bodyValue, valueAnswer, itemAnswer, answer, textOf};
+ghost use Rattle.describe.specs.Contract.{Placed, placed};
+
+// Where a value's text stands: nowhere, from one place of the list to another, or in so many bytes
+// at the start of the scratch.
+pub enum ValuePlace {
+    None,
+    InList(usize, usize),
+    InScratch(usize),
+    Refused(Refusal),
+}
+
+// The worth of a text of digits.
+pub fn worth(s: &[u8], start: usize, end: usize) -> usize
+    requires { ⌜ end ≤ length (now s) ⌝ }
+    requires { ⌜ negatable (slice start end (now s)) ≡ true ⌝ }
+    ensures { λ r. ⌜ r ≡ worth (slice start end (now (s .entry))) ⌝ }
+    ensures { λ r. ⌜ r ≤ 9223372036854775807 ⌝ }
+{
+    let mut n: usize = 0;
+    let mut i = start;
+    while i < end {
+        let digit = s[i] - b'0';
+        let tens = n * 10;
+        n = tens + digit as usize;
+        i += 1;
+    }
+    n
+}
+
+// A negative number, written anew.
+pub fn put_negative(out: &mut [u8], at: usize, n: usize) -> usize
+    requires { ⌜ at + 21 < 2 ^ 64 ⌝ }
+    requires { ⌜ n ≤ 9223372036854775807 ⌝ }
+    ensures { λ r. ⌜ Put (now (out .entry)) (now (out .exit)) at r (negativeText n) ⌝ }
+    ensures { λ r. ⌜ r ≤ at + 20 ⌝ }
+{
+    if n == 0 {
+        return put_byte(out, at, b'0');
+    }
+    let sign = put_byte(out, at, b'-');
+    put_number(out, sign, n)
+}
+
+// The value of the variant at this position of those that are read from `from` on.
+fn find(s: &[u8], from: Cursor, roles: &mut [u8], position: usize) -> ValueAt
+    requires { ⌜ InList (now s) from ⌝ }
+    ensures { λ r. ⌜ ((vs : List Variant) → InsideAt (every variant) (now (s .entry)) from vs → ValueOf (now (s .entry)) r (valueAt position vs)) ⌝ }
+{
+    let mut c = from;
+    let mut left = position;
+    loop {
+        match variant(s, c, roles) {
+            VariantStep::One(v) => {
+                if left == 0 {
+                    return v.value;
+                }
+                c = v.next;
+                left -= 1;
+            }
+            VariantStep::Done(_) => {
+                return ValueAt::Absent;
+            }
+            VariantStep::Refused(_) => {
+                return ValueAt::Absent;
+            }
+        }
+    }
+}
+
+// The value of the variant at this position of a declaration.
+fn value(s: &[u8], d: DeclarationAt, roles: &mut [u8], position: usize) -> ValueAt
+    requires { ⌜ InList (now s) (d .body) ⌝ }
+    ensures { λ r. ⌜ ((b : Body) → InsideAt (bodyOf (kindOf (d .kind))) (now (s .entry)) (d .body) b → ValueOf (now (s .entry)) r (bodyValue position b)) ⌝ }
+{
+    let kind = d.kind;
+    match kind {
+        DataType::Struct => ValueAt::Absent,
+        DataType::Enum => {
+            let c = d.body;
+            match peek(s, c) {
+                Peeked::Nothing => ValueAt::Absent,
+                Peeked::Leaf(_) => ValueAt::Absent,
+                Peeked::Group(t) => {
+                    let inside = past(s, c, t);
+                    find(s, inside, roles, position)
+                }
+            }
+        }
+    }
+}
+
+// Writes a negative into the scratch; a literal stays where it is.
+fn put_value(s: &[u8], v: ValueAt, scratch: &mut [u8]) -> ValuePlace
+    requires { ⌜ ((w : Value) × ValueOf (now s) v w) ⌝ }
+    ensures { λ r. ⌜ ((w : Value) → ValueOf (now (s .entry)) v w → 20 ≤ length (now (scratch .entry)) → Placed (now (s .entry)) (now (scratch .entry)) (now (scratch .exit)) (valueAnswer w) r) ⌝ }
+{
+    match v {
+        ValueAt::Absent => ValuePlace::None,
+        ValueAt::Literal(t) => {
+            let start = t.start;
+            let end = t.end;
+            ValuePlace::InList(start, end)
+        }
+        ValueAt::Negative(t) => {
+            let start = t.start;
+            let end = t.end;
+            let n = worth(s, start, end);
+            let len = put_negative(scratch, 0, n);
+            ValuePlace::InScratch(len)
+        }
+    }
+}
+
+// The value in a list that passes the check.
+fn read_value(s: &[u8], position: usize, scratch: &mut [u8], roles: &mut [u8]) -> ValuePlace
+    requires { ⌜ InList (now s) (record { at = 10; row = 0 }) ⌝ }
+    requires { ⌜ 20 ≤ length (now scratch) ⌝ }
+    ensures { λ r. ⌜ Placed (now (s .entry)) (now (scratch .entry)) (now (scratch .exit)) (itemAnswer position (item 0 (at (now (s .entry)) 10 .here))) r ⌝ }
+{
+    let c = Cursor { at: 10, row: 0 };
+    match read(s, c, roles) {
+        DeclarationStep::Refused(r) => ValuePlace::Refused(r),
+        DeclarationStep::At(d) => {
+            let v = value(s, d, roles, position);
+            put_value(s, v, scratch)
+        }
+    }
+}
+
+// Where the value of the variant at this position stands. The scratch is written in the one case
+// that the answer is a part of it; 20 bytes are enough for every list, and must be there.
+pub fn value_of(list: &[u8], position: usize, scratch: &mut [u8]) -> ValuePlace
+    ensures { λ r. ⌜ Placed (now (list .entry)) (now (scratch .entry)) (now (scratch .exit)) (answer (now (list .entry)) position (length (now (scratch .entry)))) r ⌝ }
+{
+    match check(list) {
+        Checked::Refused(r) => ValuePlace::Refused(r),
+        Checked::Passed(_) => {
+            if scratch.len() < 20 {
+                return ValuePlace::Refused(Refusal {
+                    number: 8,
+                    place: END,
+                });
+            }
+            let mut roles = [0u8; 4096];
+            read_value(list, position, scratch, &mut roles)
+        }
+    }
+}
+
+// The text that stands there: a part of the list or of the scratch, empty where there is none.
+pub fn value_text<'a>(list: &'a [u8], scratch: &'a [u8], place: ValuePlace) -> &'a [u8]
+    ensures { λ r. ⌜ now r ≡ textOf (placed (now (list .entry)) (now (scratch .entry)) place) ⌝ }
+{
+    match place {
+        ValuePlace::None => &list[..0],
+        ValuePlace::Refused(_) => &list[..0],
+        ValuePlace::InList(start, end) => {
+            if list.len() < end {
+                return &list[..0];
+            }
+            if end < start {
+                return &list[..0];
+            }
+            &list[start..end]
+        }
+        ValuePlace::InScratch(len) => {
+            if scratch.len() < len {
+                return &list[..0];
+            }
+            &scratch[..len]
+        }
+    }
+}
