@@ -8,8 +8,9 @@ use Rattle.token_list.specs.Text.{same, member}
 use Rattle.token_list.specs.Check.{check}
 use Rattle.report.specs.Text.{answerText, refusalText}
 use Rattle.reading.specs.Answer.{Answer, declared, refused, answer}
+use Rattle.describe.specs.Listing as listing
 use Rattle.replay.specs.declared.header.Section.{Section}
-use Rattle.replay.specs.declared.header.Section.the-variants.{List as Listed, Check, Roles, Every, Other}
+use Rattle.replay.specs.declared.header.Section.the-variants.{List as Listed, Check, Roles, Every, Listing, Other}
 
 -- the roles whose rows the Rust's answer always names
 abbrev pub NAMED : List ℕ
@@ -43,10 +44,15 @@ abbrev pub everyFits : List ℕ → Answer → Bool
 everyFits bytes (declared d rs) = lettersFit true bytes rs
 everyFits bytes (refused n p) = false
 
+abbrev pub listingFits : List ℕ → listing.Answer → Bool
+listingFits bytes (listing.listed text) = same bytes text
+listingFits bytes (listing.refused n p) = same bytes (refusalText n p)
+
 -- whether a section's bytes are the answer to a list; one that is passed over has none
 abbrev pub right : Section → List ℕ → List ℕ → Bool
 right Listed l bytes = false
 right Check l bytes = same bytes (answerText (check l))
 right Roles l bytes = rolesFit bytes (answer l 4096)
 right Every l bytes = everyFits bytes (answer l 4096)
+right Listing l bytes = listingFits bytes (listing.answer l 262144)
 right Other l bytes = true

@@ -1,5 +1,7 @@
 // This repository's own answers, compared with recorded ones: one function for each section.
 use crate::header::Section;
+use describe::listing::Listed;
+use describe::listing::write_listing;
 use report::check::report_check;
 use report::put::put_refusal;
 use report::roles::Roles;
@@ -15,7 +17,8 @@ ghost use Rattle.token_list.specs.Text.{same};
 ghost use Rattle.token_list.specs.Check.{check};
 ghost use Rattle.report.specs.Text.{answerText, refusalText};
 ghost use Rattle.reading.specs.Answer.{answer};
-ghost use Rattle.replay.specs.Answer.{letterFits, lettersFit, acceptedFits, rolesFit, everyFits, right};
+ghost use Rattle.describe.specs.Listing as listing;
+ghost use Rattle.replay.specs.Answer.{letterFits, lettersFit, acceptedFits, rolesFit, everyFits, listingFits, right};
 
 // Whether the bytes from start to end are the report of the list check.
 fn is_check(list: &[u8], s: &[u8], start: usize, end: usize) -> bool
@@ -118,6 +121,25 @@ fn is_every(list: &[u8], s: &[u8], start: usize, end: usize) -> bool
     }
 }
 
+// Room for the listing of any list.
+fn listing_buffer() -> [u8; 262144]
+    ensures { λ r. ⌜ 262144 ≡ length r ⌝ }
+{
+    [0; 262144]
+}
+
+// Whether the bytes from start to end are the listing, or the refusal.
+fn is_listing(list: &[u8], s: &[u8], start: usize, end: usize) -> bool
+    requires { ⌜ end ≤ length (now s) ⌝ }
+    ensures { λ r. ⌜ r ≡ listingFits (slice start end (now (s .entry))) (listing.answer (now (list .entry)) 262144) ⌝ }
+{
+    let mut out = listing_buffer();
+    match write_listing(list, &mut out) {
+        Listed::Refused(r) => is_refusal(r, s, start, end),
+        Listed::Written(n) => text_is(s, start, end, &out[..n]),
+    }
+}
+
 // Whether the bytes from start to end are the answer that the section asks for.
 pub fn is_right(section: Section, list: &[u8], s: &[u8], start: usize, end: usize) -> bool
     requires { ⌜ (start ≤ end) × (end ≤ length (now s)) ⌝ }
@@ -128,6 +150,7 @@ pub fn is_right(section: Section, list: &[u8], s: &[u8], start: usize, end: usiz
         Section::Check => is_check(list, s, start, end),
         Section::Roles => is_roles(list, s, start, end),
         Section::Every => is_every(list, s, start, end),
+        Section::Listing => is_listing(list, s, start, end),
         Section::Other => true,
     }
 }

@@ -11,6 +11,7 @@ pub enum Section {
     Check,
     Roles,
     Every,
+    Listing,
     Other,
 }
 
@@ -86,18 +87,22 @@ fn section_named(s: &[u8], start: usize, end: usize) -> Section
     if text_is(s, start, end, b"every") {
         return Section::Every;
     }
+    if text_is(s, start, end, b"listing") {
+        return Section::Listing;
+    }
     Section::Other
 }
 
 // The name of a section that is compared.
 pub fn put_name(out: &mut [u8], at: usize, section: Section) -> usize
-    requires { ⌜ at + 5 < 2 ^ 64 ⌝ }
-    ensures { λ r. ⌜ r ≤ at + 5 ⌝ }
+    requires { ⌜ at + 7 < 2 ^ 64 ⌝ }
+    ensures { λ r. ⌜ r ≤ at + 7 ⌝ }
 {
     match section {
         Section::Check => put_bytes(out, at, b"check"),
         Section::Roles => put_bytes(out, at, b"roles"),
         Section::Every => put_bytes(out, at, b"every"),
+        Section::Listing => put_bytes(out, at, b"listing"),
         Section::List => at,
         Section::Other => at,
     }

@@ -165,6 +165,7 @@ fn print_counts(s: State) {
     print_count(b"check ", s.checks);
     print_count(b"roles ", s.roles);
     print_count(b"every ", s.everys);
+    print_count(b"listing ", s.listings);
     print_count(b"differences ", s.differences);
 }
 

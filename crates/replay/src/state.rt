@@ -16,6 +16,7 @@ pub struct State {
     pub checks: usize,
     pub roles: usize,
     pub everys: usize,
+    pub listings: usize,
     pub differences: usize,
 }
 
@@ -31,6 +32,7 @@ pub fn start() -> State
         checks: 0,
         roles: 0,
         everys: 0,
+        listings: 0,
         differences: 0,
     }
 }
@@ -58,6 +60,10 @@ pub fn counted(s: State, section: Section) -> State
         }
         Section::Every => {
             next.everys = count(s.everys);
+            next
+        }
+        Section::Listing => {
+            next.listings = count(s.listings);
             next
         }
         Section::List => next,

@@ -26,6 +26,12 @@ is-every-requires c κs = search needs
 enum-told-5 : tie.Need-enum-told-5
 enum-told-5 c = search needs
 
+is-listing-requires : tie.Need-is-listing-requires
+is-listing-requires c κs = search needs
+
+enum-told-6 : tie.Need-enum-told-6
+enum-told-6 c = search needs
+
 returns : tie.Need-returns
 returns c = search needs
 
@@ -39,7 +45,10 @@ returns-4 : tie.Need-returns-4
 returns-4 c = rw ((c .before .enum-told4) .given .1) ((c .is-every) .ensures)
 
 returns-5 : tie.Need-returns-5
-returns-5 c = search needs
+returns-5 c = rw ((c .before .enum-told5) .given .1) ((c .is-listing) .ensures)
+
+returns-6 : tie.Need-returns-6
+returns-6 c = search needs
 
 pub is-right-spec : {M : Type 1} → statement M
 is-right-spec =
@@ -53,8 +62,11 @@ is-right-spec =
     enum-told-4
     is-every-requires
     enum-told-5
+    is-listing-requires
+    enum-told-6
     returns
     returns-2
     returns-3
     returns-4
-    returns-5)
+    returns-5
+    returns-6)
