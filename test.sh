@@ -19,18 +19,26 @@ fi
 # The static library, called from C and from Rust.
 rt staticlib exports >/dev/null
 mkdir -p target/bindings
-example() { # COMMAND...: what it prints of the two examples; the second is refused
-    "$@" examples/valve.tokens | cmp - bindings/valve.roles
-    if "$@" examples/refused.tokens >target/bindings/refused.out; then
+example() { # COMMAND FILE: the command prints FILE of the first example, and refuses the second
+    "$1" examples/valve.tokens | cmp - "$2"
+    if "$1" examples/refused.tokens >target/bindings/refused.out; then
         return 1
     fi
     cmp target/bindings/refused.out bindings/refused.roles
 }
-gcc -std=c11 -Wall -Wextra -Werror -Iinclude -o target/bindings/roles bindings/c/roles.c target/staticlib/libexports.a
-example target/bindings/roles
+for program in roles listing; do
+    gcc -std=c11 -Wall -Wextra -Werror -Iinclude -o target/bindings/$program bindings/c/$program.c target/staticlib/libexports.a
+done
+example target/bindings/roles bindings/valve.roles
+example target/bindings/listing crates/listing/stdout
+target/bindings/listing examples/valve.tokens 0 | grep -qx 'value 14'
+target/bindings/listing examples/valve.tokens 1 | grep -qx 'value '
+target/bindings/listing examples/valve.tokens 2 | grep -qx 'value -2'
 if command -v cargo >/dev/null; then
-    cargo build --quiet --offline --release --examples --manifest-path bindings/rust/Cargo.toml --target-dir target/cargo
-    example target/cargo/release/examples/roles
+    wrapper() { cargo "$@" --quiet --offline --release --manifest-path bindings/rust/Cargo.toml --target-dir target/cargo; }
+    wrapper test --lib
+    wrapper build --examples
+    example target/cargo/release/examples/roles bindings/valve.roles
     for answers in recorded/answers.txt target/oracle/compare.txt; do
         if [ -e "$answers" ]; then
             target/cargo/release/examples/compare "$answers" 100000

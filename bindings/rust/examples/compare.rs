@@ -1,6 +1,6 @@
 //! Compares the reader with recorded answers, in process, and then reads damaged copies of the lists.
 //! usage: compare FILE [DAMAGED]: a file in the format of recorded/README.md, and how many damaged lists (default 100,000).
-use kusthrila::{check, read, Place, Refusal, MOST_ROWS};
+use kusthrila::{check, listing, read, Place, Refusal, MOST_LISTING, MOST_ROWS};
 use std::collections::BTreeMap;
 use std::io::{BufRead, BufReader, Read};
 
@@ -43,6 +43,16 @@ fn letters(list: &[u8]) -> String {
     }
 }
 
+// The listing as the section `listing` writes it, in an output between guard bytes.
+fn lines(list: &[u8], out: &mut [u8]) -> String {
+    let answer = match listing(list, &mut out[8..MOST_LISTING + 8]) {
+        Ok(text) => String::from_utf8_lossy(text).into_owned(),
+        Err(refusal) => refused(&refusal),
+    };
+    assert!(out[..8].iter().chain(&out[MOST_LISTING + 8..]).all(|byte| *byte == GUARD), "a byte outside the output");
+    answer
+}
+
 fn same(section: &str, ours: &str, theirs: &[u8]) -> bool {
     let theirs = match section {
         "every" if !theirs.starts_with(b"accepted\n") => [b"accepted\n", theirs].concat(),
@@ -61,6 +71,7 @@ fn main() {
     let mut refusals: BTreeMap<u8, usize> = BTreeMap::new();
     let (mut list, mut lists, mut cases, mut differences) = (Vec::new(), Vec::new(), 0usize, 0usize);
     let mut header = String::new();
+    let mut out = vec![GUARD; MOST_LISTING + 16];
     while input.read_line(&mut header).expect("a header") > 0 {
         let (section, size) = header.trim_end().split_once(' ').expect("name and length");
         let mut body = vec![0; size.parse().expect("a length")];
@@ -76,6 +87,7 @@ fn main() {
             }
             "check" => Some(check(&list).map_or_else(|refusal| refused(&refusal), |rows| format!("rows {rows}\n"))),
             "roles" | "every" => Some(letters(&list)),
+            "listing" => Some(lines(&list, &mut out)),
             _ => None,
         };
         if let Some(ours) = ours {

@@ -3,10 +3,15 @@
 extern "C" {
     fn kusthrila_check(list: *const u8, list_len: usize) -> u64;
     fn kusthrila_read(list: *const u8, list_len: usize, roles: *mut u8, roles_len: usize) -> u64;
+    fn kusthrila_listing(list: *const u8, list_len: usize, out: *mut u8, out_len: usize) -> u64;
+    fn kusthrila_value(list: *const u8, list_len: usize, position: usize, scratch: *mut u8, scratch_len: usize) -> u64;
 }
 
 /// No list has more rows.
 pub const MOST_ROWS: usize = 4096;
+
+/// No listing is longer.
+pub const MOST_LISTING: usize = 262_144;
 
 /// Where a refusal stands.
 #[derive(Clone, Copy, Debug, PartialEq, Eq)]
@@ -28,16 +33,16 @@ pub enum Kind {
     Enum,
 }
 
-// An answer below 65,536 accepts; else it is 65,536 times the refusal's number, plus its place.
+// An answer below 2^32 refuses nothing; else it is 2^32 times the refusal's number, plus its place.
 fn answer(code: u64) -> Result<u64, Refusal> {
-    if code < 65536 {
+    if code < 1 << 32 {
         return Ok(code);
     }
-    let place = match code % 65536 {
+    let place = match code % (1 << 32) {
         65535 => Place::End,
         row => Place::Row(row as usize),
     };
-    Err(Refusal { number: (code / 65536) as u8, place })
+    Err(Refusal { number: (code >> 32) as u8, place })
 }
 
 /// Checks a list: the number of its rows, or refusal 1 to 7.
@@ -52,6 +57,24 @@ pub fn read(list: &[u8], roles: &mut [u8]) -> Result<Kind, Refusal> {
     // SAFETY: both are slices, `roles` is borrowed alone, and the call writes nothing past it.
     let code = unsafe { kusthrila_read(list.as_ptr(), list.len(), roles.as_mut_ptr(), roles.len()) };
     answer(code).map(|kind| if kind == 0 { Kind::Struct } else { Kind::Enum })
+}
+
+/// Writes the listing at the start of `out` and returns that part. After a refusal `out` is as it was.
+pub fn listing<'a>(list: &[u8], out: &'a mut [u8]) -> Result<&'a [u8], Refusal> {
+    // SAFETY: both are slices, `out` is borrowed alone, and the call writes nothing past it.
+    let code = unsafe { kusthrila_listing(list.as_ptr(), list.len(), out.as_mut_ptr(), out.len()) };
+    answer(code).map(|len| &out[..len as usize])
+}
+
+/// The value text of the variant at this position, a part of the list or of the scratch, which must have 20 bytes.
+pub fn value<'a>(list: &'a [u8], position: usize, scratch: &'a mut [u8]) -> Result<Option<&'a [u8]>, Refusal> {
+    // SAFETY: both are slices, `scratch` is borrowed alone, and the call writes nothing past it.
+    let code = unsafe { kusthrila_value(list.as_ptr(), list.len(), position, scratch.as_mut_ptr(), scratch.len()) };
+    Ok(match answer(code)? as usize {
+        0 => None,
+        len if len < 65536 => Some(&scratch[..len]),
+        part => Some(&list[part / 65536..part % 65536]),
+    })
 }
 
 #[cfg(test)]
@@ -71,5 +94,25 @@ mod tests {
         assert_eq!(check(b"kind text\nc )\n"), Err(Refusal { number: 5, place: Place::Row(0) }));
         assert_eq!(check(b"kind text\n"), Ok(0));
         assert_eq!(check(b""), Err(Refusal { number: 2, place: Place::End }));
+    }
+
+    #[test]
+    fn lists_and_gives_values() {
+        let list = b"kind text\ni enum\ni E\no {\ni A\np =\np -\nl 007\np ,\ni B\np =\nl 0x1F\np ,\ni C\nc }\n";
+        let mut out = [7u8; 64];
+        let listed = b"part name number\nenum E 3\nvariant A -7\nvariant B 0x1F\nvariant C 2\n";
+        assert_eq!(listing(list, &mut out), Err(Refusal { number: 8, place: Place::End }));
+        assert_eq!(out, [7; 64]);
+        let mut out = [7u8; 128];
+        assert_eq!(listing(list, &mut out), Ok(&listed[..]));
+        assert_eq!(out[listed.len()..], [7; 128][listed.len()..]);
+        let mut scratch = [7u8; 20];
+        assert_eq!(value(list, 1, &mut scratch), Ok(Some(&b"0x1F"[..])));
+        assert_eq!(value(list, 2, &mut scratch), Ok(None));
+        assert_eq!(value(list, 3, &mut scratch), Ok(None));
+        assert_eq!(scratch, [7; 20]);
+        assert_eq!(value(list, 0, &mut scratch), Ok(Some(&b"-7"[..])));
+        assert_eq!(scratch[2..], [7; 18]);
+        assert_eq!(value(list, 0, &mut scratch[..19]), Err(Refusal { number: 8, place: Place::End }));
     }
 }

@@ -1,4 +1,8 @@
 // The functions that C and Rust call. Each answers one number (see include/kusthrila.h).
+use describe::listing;
+use describe::listing::Listed;
+use describe::value;
+use describe::value::ValuePlace;
 use parse::item;
 use parse::item::Parse;
 use token_list::check;
@@ -7,7 +11,7 @@ use token_list::check::Refusal;
 ghost use mathlib.Core.Path.{_≡_};
 ghost use Prim.Native.Nat.{min};
 ghost use Rattle.token_list.specs.Check.{check};
-ghost use Rattle.exports.specs.Code.{refusalCode, checkCode, ReadInto};
+ghost use Rattle.exports.specs.Code.{refusalCode, checkCode, ReadInto, ListedInto, ValueInto};
 
 // At most 65,535, which no row and no place passes.
 fn short(n: usize) -> u64
@@ -17,6 +21,16 @@ fn short(n: usize) -> u64
         return n as u64;
     }
     65535
+}
+
+// At most 4,294,967,295, which no listing's length passes.
+fn long(n: usize) -> u64
+    ensures { λ r. ⌜ r ≡ min n 4294967295 ⌝ }
+{
+    if n < 4294967295 {
+        return n as u64;
+    }
+    4294967295
 }
 
 fn wide(n: u8) -> u64
@@ -30,7 +44,7 @@ fn coded(r: Refusal) -> u64
 {
     let number = wide(r.number);
     let place = short(r.place);
-    number * 65536 + place
+    number * 4294967296 + place
 }
 
 // Checks a list: the number of its rows, or a refusal.
@@ -53,5 +67,33 @@ pub extern "C" fn kusthrila_read(list: &[u8], roles: &mut [u8]) -> u64
         Parse::Struct(_) => 0,
         Parse::Enum(_) => 1,
         Parse::Refused(r) => coded(r),
+    }
+}
+
+// Writes the listing at the start of the output: its length, or a refusal.
+#[no_mangle]
+pub extern "C" fn kusthrila_listing(list: &[u8], out: &mut [u8]) -> u64
+    ensures { λ r. ⌜ ListedInto (now (list .entry)) (now (out .entry)) (now (out .exit)) r ⌝ }
+{
+    match listing::write_listing(list, out) {
+        Listed::Written(n) => long(n),
+        Listed::Refused(r) => coded(r),
+    }
+}
+
+// Where a variant's value stands: nowhere, in the scratch, in the list; or a refusal.
+#[no_mangle]
+pub extern "C" fn kusthrila_value(list: &[u8], position: usize, scratch: &mut [u8]) -> u64
+    ensures { λ r. ⌜ ValueInto (now (list .entry)) position (now (scratch .entry)) (now (scratch .exit)) r ⌝ }
+{
+    match value::value_of(list, position, scratch) {
+        ValuePlace::None => 0,
+        ValuePlace::InScratch(n) => short(n),
+        ValuePlace::InList(start, end) => {
+            let from = short(start);
+            let to = short(end);
+            from * 65536 + to
+        }
+        ValuePlace::Refused(r) => coded(r),
     }
 }
