@@ -26,14 +26,19 @@ example() { # COMMAND FILE: the command prints FILE of the first example, and re
     fi
     cmp target/bindings/refused.out bindings/refused.roles
 }
-for program in roles listing; do
-    gcc -std=c11 -Wall -Wextra -Werror -Iinclude -o target/bindings/$program bindings/c/$program.c target/staticlib/libexports.a
-done
-example target/bindings/roles bindings/valve.roles
-example target/bindings/listing crates/listing/stdout
-target/bindings/listing examples/valve.tokens 0 | grep -qx 'value 14'
-target/bindings/listing examples/valve.tokens 1 | grep -qx 'value '
-target/bindings/listing examples/valve.tokens 2 | grep -qx 'value -2'
+if command -v gcc >/dev/null; then
+    for program in roles listing; do
+        gcc -std=c11 -Wall -Wextra -Werror -Iinclude -o target/bindings/$program bindings/c/$program.c target/staticlib/libexports.a
+    done
+    example target/bindings/roles bindings/valve.roles
+    example target/bindings/listing crates/listing/stdout
+    target/bindings/listing examples/controller.tokens | cmp - examples/controller.listing
+    target/bindings/listing examples/valve.tokens 0 | grep -qx 'value 14'
+    target/bindings/listing examples/valve.tokens 1 | grep -qx 'value '
+    target/bindings/listing examples/valve.tokens 2 | grep -qx 'value -2'
+else
+    echo "skipped: the C examples, since there is no gcc"
+fi
 if command -v cargo >/dev/null; then
     wrapper() { cargo "$@" --quiet --offline --release --manifest-path bindings/rust/Cargo.toml --target-dir target/cargo; }
     wrapper test --lib
