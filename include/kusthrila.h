@@ -20,7 +20,7 @@
 /* No list has more rows: a role buffer of this many bytes is always long enough. */
 #define KUSTHRILA_MOST_ROWS 4096u
 
-/* No listing is longer. */
+/* No listing is longer: this is reckoned (docs/DECISIONS.md), not yet proved. */
 #define KUSTHRILA_MOST_LISTING 262144u
 
 /* Checks a list: the number of its rows, or refusal 1 to 7. */

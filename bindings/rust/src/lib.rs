@@ -10,7 +10,7 @@ extern "C" {
 /// No list has more rows.
 pub const MOST_ROWS: usize = 4096;
 
-/// No listing is longer.
+/// No listing is longer: this is reckoned, not yet proved.
 pub const MOST_LISTING: usize = 262_144;
 
 /// Where a refusal stands.
