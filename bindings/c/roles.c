@@ -1,9 +1,6 @@
 /* Reads the token list in the file that its argument names, and prints the role of each row, or the refusal. */
-#include "kusthrila.h"
+#include "example.h"
 
-#include <stdio.h>
-
-static uint8_t list[65537];
 static uint8_t roles[KUSTHRILA_MOST_ROWS];
 
 int main(int argc, char **argv) {
@@ -11,20 +8,12 @@ int main(int argc, char **argv) {
         fprintf(stderr, "usage: %s FILE\n", argv[0]);
         return 2;
     }
-    FILE *file = fopen(argv[1], "rb");
-    if (!file) {
-        perror(argv[1]);
+    long length = read_list(argv[1]);
+    if (length < 0)
         return 2;
-    }
-    size_t length = fread(list, 1, sizeof list, file);
-    fclose(file);
-    uint64_t answer = kusthrila_read(list, length, roles, sizeof roles);
+    uint64_t answer = kusthrila_read(list, (size_t)length, roles, sizeof roles);
     if (answer >= KUSTHRILA_REFUSED) {
-        printf("refused %d at ", (int)kusthrila_number(answer));
-        if (kusthrila_place(answer) == KUSTHRILA_END)
-            printf("the end\n");
-        else
-            printf("row %d\n", (int)kusthrila_place(answer));
+        print_refusal(answer);
         return 1;
     }
     printf("%s\n", answer == KUSTHRILA_ENUM ? "enum" : "struct");
