@@ -4,6 +4,7 @@ pub mod Meeting
 pub mod Judge
 pub mod Turns
 pub mod Marks
+pub mod Looks
 pub mod Heads
 pub mod Loops
 pub mod Bodies

@@ -3,6 +3,7 @@ use crate::utils::Step;
 use crate::utils::is_punct;
 use crate::utils::mark;
 use crate::utils::past;
+use crate::utils::stands_punct;
 use crate::utils::take_group;
 use token_list::check::Cursor;
 use token_list::check::END;
@@ -22,6 +23,17 @@ pub enum Marked {
 
 // One `#` with its group, or an idle one.
 pub fn attribute(s: &[u8], c: Cursor, roles: &mut [u8]) -> Marked
+    requires { ⌜ InList (now s) c ⌝ }
+    ensures { λ r. ⌜ AttributeRead (now (s .entry)) c (now (roles .entry)) (now (roles .exit)) r ⌝ }
+{
+    if !stands_punct(s, c, b'#') {
+        return Marked::Done;
+    }
+    marked_attribute(s, c, roles)
+}
+
+// The same, where a `#` stands in most cases.
+pub fn marked_attribute(s: &[u8], c: Cursor, roles: &mut [u8]) -> Marked
     requires { ⌜ InList (now s) c ⌝ }
     ensures { λ r. ⌜ AttributeRead (now (s .entry)) c (now (roles .entry)) (now (roles .exit)) r ⌝ }
 {

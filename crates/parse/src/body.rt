@@ -19,6 +19,7 @@ use token_list::check::END;
 use token_list::check::Refusal;
 use token_list::stream::Peeked;
 use token_list::stream::Token;
+use token_list::stream::look;
 use token_list::stream::peek;
 use token_list::stream::skip;
 ghost use mathlib.Core.Path.{_≡_};
@@ -176,11 +177,11 @@ pub fn tuple_field(s: &[u8], c: Cursor, roles: &mut [u8]) -> TypeStep
     requires { ⌜ InList (now s) c ⌝ }
     ensures { λ r. ⌜ Meets (now (s .entry)) c (now (roles .entry)) (now (roles .exit)) (typeShown r) (typeSaid r) (tupleField (c .row) (stream (now (s .entry)) c)) ⌝ }
 {
-    match peek(s, c) {
-        Peeked::Nothing => TypeStep::Done(c),
-        Peeked::Leaf(_) => tuple_type(s, c, roles),
-        Peeked::Group(_) => tuple_type(s, c, roles),
+    let l = look(s, c);
+    if l.kind == 0 {
+        return TypeStep::Done(c);
     }
+    tuple_type(s, c, roles)
 }
 
 pub fn tuple_type(s: &[u8], c: Cursor, roles: &mut [u8]) -> TypeStep
@@ -519,11 +520,11 @@ pub fn variant(s: &[u8], c: Cursor, roles: &mut [u8]) -> VariantStep
     requires { ⌜ InList (now s) c ⌝ }
     ensures { λ r. ⌜ Meets (now (s .entry)) c (now (roles .entry)) (now (roles .exit)) (variantShown (now (s .entry)) r) (variantSaid r) (variant (c .row) (stream (now (s .entry)) c)) ⌝ }
 {
-    match peek(s, c) {
-        Peeked::Nothing => VariantStep::Done(c),
-        Peeked::Leaf(_) => variant_here(s, c, roles),
-        Peeked::Group(_) => variant_here(s, c, roles),
+    let l = look(s, c);
+    if l.kind == 0 {
+        return VariantStep::Done(c);
     }
+    variant_here(s, c, roles)
 }
 
 pub fn variants(s: &[u8], from: Cursor, roles: &mut [u8]) -> Counted

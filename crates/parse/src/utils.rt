@@ -4,6 +4,7 @@ use token_list::check::END;
 use token_list::check::Refusal;
 use token_list::stream::Peeked;
 use token_list::stream::Token;
+use token_list::stream::look;
 use token_list::stream::peek;
 use token_list::stream::skip;
 use token_list::text::text_is;
@@ -16,7 +17,8 @@ ghost use lib.Seq.{sets};
 ghost use Rattle.token_list.specs.Stream.{at, head, follows};
 ghost use Rattle.token_list.specs.Contract.{InList, TokenAt, GroupAt, rowOf};
 ghost use Rattle.reading.specs.Took.{placeOf};
-ghost use Rattle.reading.specs.Reading.{isWord, copied, word, punctIf, judgePunct, judgeGroup, belongs, ends, atComma, runFrom};
+ghost use Rattle.reading.specs.Token.{starts};
+ghost use Rattle.reading.specs.Reading.{isPunct, isWord, copied, word, punctIf, judgePunct, judgeGroup, belongs, ends, atComma, runFrom};
 ghost use Rattle.parse.specs.Contract.{Moved, Meets, on, stream, pastOf, wordSaid, wordShown, loneShown, stopsOf, verdictOf, Turned, ranSaid, ranShown};
 
 // The answer of a reader: where it stopped, or a refusal.
@@ -246,7 +248,33 @@ pub fn consume_ident(s: &[u8], c: Cursor, roles: &mut [u8], role: u8) -> MaybeWo
     }
 }
 
+// Whether the token at c is this punctuation.
+pub fn stands_punct(s: &[u8], c: Cursor, b: u8) -> bool
+    requires { ⌜ InList (now s) c ⌝ }
+    ensures { λ r. ⌜ r ≡ starts (isPunct b) (stream (now (s .entry)) c) ⌝ }
+{
+    let l = look(s, c);
+    if l.kind == b'p' {
+        return l.mark == b;
+    }
+    false
+}
+
 pub fn consume_punct_if(s: &[u8], c: Cursor, roles: &mut [u8], punct: u8, role: u8) -> MaybePunct
+    requires { ⌜ InList (now s) c ⌝ }
+    ensures { λ r. ⌜ Meets (now (s .entry)) c (now (roles .entry)) (now (roles .exit)) (λ (v : Bool). r .taken ≡ v) (on (r .next)) (punctIf punct role (c .row) (stream (now (s .entry)) c)) ⌝ }
+{
+    if !stands_punct(s, c, punct) {
+        return MaybePunct {
+            taken: false,
+            next: c,
+        };
+    }
+    take_punct(s, c, roles, punct, role)
+}
+
+// The same, where the punctuation stands in most cases.
+pub fn take_punct(s: &[u8], c: Cursor, roles: &mut [u8], punct: u8, role: u8) -> MaybePunct
     requires { ⌜ InList (now s) c ⌝ }
     ensures { λ r. ⌜ Meets (now (s .entry)) c (now (roles .entry)) (now (roles .exit)) (λ (v : Bool). r .taken ≡ v) (on (r .next)) (punctIf punct role (c .row) (stream (now (s .entry)) c)) ⌝ }
 {

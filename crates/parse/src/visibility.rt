@@ -8,6 +8,7 @@ use crate::utils::take_token;
 use token_list::check::Cursor;
 use token_list::stream::Peeked;
 use token_list::stream::Token;
+use token_list::stream::look;
 use token_list::stream::peek;
 ghost use mathlib.Core.Path.{_≡_};
 ghost use Prim.Native.Nat.{_≤_};
@@ -80,6 +81,20 @@ pub fn any_scope(s: &[u8], c: Cursor, roles: &mut [u8]) -> Cursor
 
 // Takes a visibility where one stands (virtue's Visibility::try_take).
 pub fn try_take(s: &[u8], c: Cursor, roles: &mut [u8]) -> Cursor
+    requires { ⌜ InList (now s) c ⌝ }
+    ensures { λ r. ⌜ Meets (now (s .entry)) c (now (roles .entry)) (now (roles .exit)) any (on r) (visibility (c .row) (stream (now (s .entry)) c)) ⌝ }
+{
+    let l = look(s, c);
+    if l.kind != b'o' {
+        if l.mark != b'p' {
+            return c;
+        }
+    }
+    take(s, c, roles)
+}
+
+// The same, where a group or a text that starts with `p` stands in most cases.
+pub fn take(s: &[u8], c: Cursor, roles: &mut [u8]) -> Cursor
     requires { ⌜ InList (now s) c ⌝ }
     ensures { λ r. ⌜ Meets (now (s .entry)) c (now (roles .entry)) (now (roles .exit)) any (on r) (visibility (c .row) (stream (now (s .entry)) c)) ⌝ }
 {

@@ -9,8 +9,7 @@ use lib.ListN.{length}
 use Rattle.token_list.specs.Text.{same}
 use Rattle.token_list.specs.Row.{Row, first}
 use Rattle.token_list.specs.Stream.{Trees, end, leaf, group}
-use Rattle.token_list.proofs.Texts.{chosen, passed-over, and-last, and-fails}
-use Rattle.token_list.proofs.Streams.{and-parts}
+use Rattle.token_list.proofs.Texts.{and-parts, chosen, passed-over, and-last, and-fails}
 use Rattle.reading.specs.Role as role
 use Rattle.reading.specs.Token.{isIdent, isLiteral, isPunct, isWord, copied, lone, starts, isGroup, PUB, STRUCT, ENUM, Stops}
 use Rattle.reading.specs.Grammar as g

@@ -9,8 +9,7 @@ use lib.ListN.{replicate}
 use Rattle.token_list.specs.Text.{same}
 use Rattle.token_list.specs.Row.{Row, first}
 use Rattle.token_list.specs.Stream.{Trees, end, leaf, group, size}
-use Rattle.token_list.proofs.Texts.{chosen, passed-over}
-use Rattle.token_list.proofs.Streams.{and-parts}
+use Rattle.token_list.proofs.Texts.{and-parts, chosen, passed-over}
 use Rattle.reading.specs.Role as role
 use Rattle.reading.specs.Token.{isIdent, isLiteral, isPunct, isWord, starts, isGroup, isEnd, negatable, CONST, WHERE, parameterStops, fieldStops, clauseStops}
 use Rattle.reading.specs.Grammar as g

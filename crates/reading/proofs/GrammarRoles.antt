@@ -8,8 +8,7 @@ use lib.ListN.{replicate}
 use Rattle.token_list.specs.Text.{all}
 use Rattle.token_list.specs.Row.{Row}
 use Rattle.token_list.specs.Stream.{Trees, size}
-use Rattle.token_list.proofs.Texts.{and-both}
-use Rattle.token_list.proofs.Streams.{and-parts}
+use Rattle.token_list.proofs.Texts.{and-parts, and-both}
 use Rattle.reading.specs.Role as role
 use Rattle.reading.specs.Token.{Stops, copied, whole}
 use Rattle.reading.specs.Grammar as g

@@ -4,5 +4,6 @@ pub mod Texts
 pub mod Lines
 pub mod Forms
 pub mod Walks
+pub mod Rows
 pub mod Streams
 pub mod Passed

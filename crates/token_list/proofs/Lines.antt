@@ -1,17 +1,17 @@
 -- Laws on the lines of a list, from an offset on.
 use mathlib.Core.Path.{_≡_, refl, ap, _∙_, sym}
-use mathlib.Core.Bool.{true, false}
+use mathlib.Core.Bool.{Bool, true, false, false≢true}
 use mathlib.Core.List.{List, [], _∷_, _++_, append-assoc, append-nil}
 use Prim.Native.Nat.{ℕ, suc, _+_, _≤_, _<_}
-use native.Mathlib.Numerals.{add-one}
 use native.Mathlib.Omega.{arith}
 use borrow.Author.Tests.{eq-eqb, ne-eqb}
 use lib.Dec.{eqb}
-use lib.ListN.{length, getD, take, drop, drop-of-length-le}
-use lib.Seq.{slice, slice-empty, take-suc, take-all, drop-append-le, length-take-le}
-use Rattle.token_list.specs.Text.{LF}
+use lib.ListN.{length, getD, drop, drop-of-length-le}
+use lib.Seq.{slice, slice-empty, take-all}
+use Rattle.token_list.specs.Text.{LF, namePart, printable}
 use Rattle.token_list.specs.Row.{Lines, tail, line, lines, front, byte}
-use Rattle.token_list.proofs.Texts.{drop-next}
+use Rattle.token_list.specs.Contract.{inText}
+use Rattle.token_list.proofs.Texts.{drop-next, slice-more, slice-next}
 
 -- bytes in front of the first line
 abbrev pub prepend : List ℕ → Lines → Lines
@@ -25,11 +25,6 @@ prepend-none (line m ls) = refl
 prepend-front : (l : List ℕ) (b : ℕ) (ls : Lines) → prepend l (front b ls) ≡ prepend (l ++ b ∷ []) ls
 prepend-front l b (tail t) = simp append-assoc
 prepend-front l b (line m ls) = simp append-assoc
-
-slice-more : (s : List ℕ) (from i : ℕ) → from ≤ i → i < length s → slice from (i + 1) s ≡ slice from i s ++ getD s i 0 ∷ []
-slice-more s from i h k =
-    let e : from ≤ length (take i s) = rw (length-take-le i s (omega arith)) h in
-    rw (add-one, take-suc s i 0, drop-append-le from (take i s))
 
 -- the line that starts at i, one byte at a time
 pub lines-byte : (s : List ℕ) (i : ℕ) → i < length s → (getD s i 0 ≡ LF → ⊥) → lines (drop i s) ≡ front (getD s i 0) (lines (drop (i + 1) s))
@@ -60,3 +55,22 @@ module _ (s : List ℕ) (from : ℕ) where
 
   pub scan-none : (i : ℕ) → length s ≤ i → Scanned i → lines (drop from s) ≡ tail (drop from s)
   scan-none i h sc = sc .same ∙ rw (drop-of-length-le s {i = i} h, append-nil, take-all i s h)
+
+-- no text has an LF
+pub in-text-no-lf : (names : Bool) (b : ℕ) → inText names b ≡ true → b ≡ LF → ⊥
+in-text-no-lf true b e q = false≢true (sym (ap namePart q) ∙ e)
+in-text-no-lf false b e q = false≢true (sym (ap printable q) ∙ e)
+
+-- a line whose first two bytes are no LF
+pub line-from : (s : List ℕ) (i e : ℕ) → i + 2 ≤ e → e ≤ length s → (getD s i 0 ≡ LF → ⊥) → (getD s (i + 1) 0 ≡ LF → ⊥)
+    → lines (drop (i + 2) s) ≡ line (slice (i + 2) e s) (lines (drop (e + 1) s)) → lines (drop i s) ≡ line (slice i e s) (lines (drop (e + 1) s))
+line-from s i e h k p q l =
+    let two : i + 1 + 1 ≡ i + 2 = omega arith in
+    lines-byte s i (omega arith) p
+    ∙ ap (front (getD s i 0)) (lines-byte s (i + 1) (omega arith) q)
+    ∙ ap (λ (n : ℕ). front (getD s i 0) (front (getD s (i + 1) 0) (lines (drop n s)))) two
+    ∙ ap (λ (x : Lines). front (getD s i 0) (front (getD s (i + 1) 0) x)) l
+    ∙ sym
+    (ap (λ (x : List ℕ). line x (lines (drop (e + 1) s)))
+    (slice-next s i e (omega arith) k
+    ∙ ap (λ (x : List ℕ). getD s i 0 ∷ x) (slice-next s (i + 1) e (omega arith) k ∙ ap (λ (n : ℕ). getD s (i + 1) 0 ∷ slice n e s) two)))

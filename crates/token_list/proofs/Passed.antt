@@ -9,11 +9,11 @@ use lib.Dec.{eqb, leb, ltb}
 use lib.ListN.{length, take, drop}
 use Rattle.token_list.specs.Text.{LF, same, name, literal, single, punctuation, opening, closing, closer}
 use Rattle.token_list.specs.Row.{Row, Lines, tail, line, lines, front, byte, rows, rowOf, written, Form, plain, opens, closed, wrong, form, formOf, first}
-use Rattle.token_list.specs.Check.{Answer, passed, refused, Open, ended, close, step, walk, NAMES, check, isRow, right, closedBy, enclosing, none, nested}
+use Rattle.token_list.specs.Check.{Answer, passed, refused, Open, ended, close, step, walk, NAMES, check, isRow, right, allRight, closedBy, enclosing, none, nested}
 use Rattle.token_list.specs.Stream.{Trees, end, leaf, group, Streams, head, others, before, streams, size, follows, allClosed, rowsAt, at}
 use Rattle.token_list.specs.Contract.{PassedList}
-use Rattle.token_list.proofs.Texts.{chosen, passed-over, and-both}
-use Rattle.token_list.proofs.Streams.{before-close, before-open, before-leaf, and-parts, followed}
+use Rattle.token_list.proofs.Texts.{chosen, passed-over, and-both, and-parts}
+use Rattle.token_list.proofs.Streams.{before-close, before-open, before-leaf, followed}
 use Rattle.token_list.proofs.Walks as walks
 
 never : (p n m : ℕ) → refused p n ≡ passed m → ⊥
@@ -223,16 +223,21 @@ others-length (t ∷ ts) n e = omega arith
 record Balanced (rs : List Row) (ds : List ℕ) : Type 0 where
   outer : length (streams rs .outer) ≡ length ds
   whole : allClosed rs ≡ true
+  right : allRight rs ≡ true
 
 balanced-row : (r : Row) (rs : List Row) (ds : List ℕ) → ((es : List ℕ) → nested es rs ≡ true → Balanced rs es) → nested ds (r ∷ rs) ≡ true → Balanced (r ∷ rs) ds
 balanced-row r rs ds ih e = kind (eqb (r .kind) 111) (eqb (r .kind) 99) refl refl
   where
+    forms : {es : List ℕ} → Balanced rs es → allRight (r ∷ rs) ≡ true
+    forms bl = and-both _ _ (and-parts (right r) _ e .0) (bl .right)
+
     kind : (o c : Bool) → eqb (r .kind) 111 ≡ o → eqb (r .kind) 99 ≡ c → Balanced (r ∷ rs) ds
     kind true c a b =
         let bl = ih (first (r .text) ∷ ds) (and-parts (ltb (length ds) 32) _ (sym (chosen _ _ _ a) ∙ nest-rest r rs ds e) .1) in
         record {
           outer = ap (λ (st : Streams). length (st .outer)) (before-open r (streams rs) (eqb-true _ _ a)) ∙ others-length (streams rs .outer) (length ds) (bl .outer);
           whole = and-both _ _ (bl .whole) (chosen _ (follows (streams rs .outer)) true a ∙ follows-of (streams rs .outer) (length ds) (bl .outer));
+          right = forms bl;
         }
     kind false true a b =
         let p = and-parts (closedBy ds (first (r .text))) _ (sym (passed-over _ _ _ a ∙ chosen _ _ _ b) ∙ nest-rest r rs ds e) in
@@ -240,16 +245,18 @@ balanced-row r rs ds ih e = kind (eqb (r .kind) 111) (eqb (r .kind) 99) refl ref
         record {
           outer = ap (λ (st : Streams). length (st .outer)) (before-close r (streams rs) (eqb-true _ _ b)) ∙ ap suc (bl .outer) ∙ sym (enclosed ds (first (r .text)) (p .0));
           whole = and-both _ _ (bl .whole) (passed-over _ (follows (streams rs .outer)) true a);
+          right = forms bl;
         }
     kind false false a b =
         let bl = ih ds (sym (passed-over _ _ _ a ∙ passed-over _ _ _ b) ∙ nest-rest r rs ds e) in
         record {
           outer = ap (λ (st : Streams). length (st .outer)) (before-leaf r (streams rs) (eqb-false _ _ a) (eqb-false _ _ b)) ∙ bl .outer;
           whole = and-both _ _ (bl .whole) (passed-over _ (follows (streams rs .outer)) true a);
+          right = forms bl;
         }
 
 balanced : (rs : List Row) (ds : List ℕ) → nested ds rs ≡ true → Balanced rs ds
-balanced [] [] e = record { outer = refl; whole = refl }
+balanced [] [] e = record { outer = refl; whole = refl; right = refl }
 balanced [] (d ∷ ds) e = absurd (false≢true e)
 balanced (r ∷ rs) ds e = balanced-row r rs ds (balanced rs) e
 
@@ -305,12 +312,13 @@ passed-list s n e = long (ltb 65536 (length s)) e
         let bl = balanced (rowsAt s 10) [] (sn .nests) in
         let o = no-outer (at s 10 .outer) (bl .outer) in
         let c : length (rowsAt s 10) ≡ n = omega (arith, sn .count) in
+        let bytes : drop 10 s ≡ written (rowsAt s 10) = sym (joined-lines (drop 10 s)) ∙ sn .whole in
         record {
           names = same-path _ _ q;
-          written = sym (joined-lines (drop 10 s)) ∙ sn .whole;
+          written = bytes;
           nested = sn .nests;
           count = c;
-          whole = bl .whole;
+          whole = record { written = bytes; right = bl .right; closed = bl .whole };
           outer = o;
           size = omega (arith, counted (rowsAt s 10) (bl .whole), ap around o);
         }

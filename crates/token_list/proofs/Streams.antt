@@ -9,30 +9,21 @@ use lib.Dec.{eqb, leb}
 use lib.ListN.{length, getD, drop, drop-of-length-le}
 use lib.Seq.{slice, drop-nil}
 use Rattle.token_list.specs.Row.{Row, Lines, tail, line, lines, rows, rowOf, first}
-use Rattle.token_list.specs.Stream.{Trees, end, leaf, group, Streams, head, others, before, streams, size, follows, allClosed, rowsAt, at}
-use Rattle.token_list.specs.Contract.{LineEnd, InList, TokenAt, LeafAt, GroupAt, Skipped, deeper}
+use Rattle.token_list.specs.Stream.{Trees, end, leaf, group, Streams, head, others, before, streams, size, firstKind, firstMark, follows, allClosed, rowsAt, at}
+use Rattle.token_list.specs.Contract.{RowEnd, Whole, InList, Looked, TokenAt, LeafAt, GroupAt, Skipped, skipped, deeper}
 use Rattle.token_list.specs.declared.check.Cursor.{Cursor}
 use Rattle.token_list.specs.declared.stream.Token.{Token}
-use Rattle.token_list.proofs.Texts.{chosen, passed-over, slice-next, slice-none}
+use Rattle.token_list.proofs.Texts.{and-parts, chosen, passed-over, slice-next}
+use Rattle.token_list.proofs.Rows.{rows-none, FirstRow, first-row, first-kind, first-mark, some-kind, closed-next, whole-next}
 
 -- ## The row at an offset
 
-module _ (s : List ℕ) (i e : ℕ) (l : LineEnd s i e) where
-  pub row-none : length s ≤ e → rowsAt s i ≡ []
-  row-none h = ap rows (l .none h)
-
-  pub row-short : e < length s → e - i < 2 → rowsAt s i ≡ []
-  row-short h k = ap rows (l .found h) ∙ go (leb e i) (leb e (i + 1)) refl refl
-    where
-      go : (a b : Bool) → leb e i ≡ a → leb e (i + 1) ≡ b → rowOf (slice i e s) (rowsAt s (e + 1)) ≡ []
-      go true b p q = rw (slice-none s i e (leb-true _ _ p))
-      go false true p q = rw (slice-next s i e (leb-false _ _ p) (omega arith), slice-none s (i + 1) e (leb-true _ _ q))
-      go false false p q = absurd (omega (arith, leb-false e (i + 1) q))
-
-  pub row-at : e < length s → 2 ≤ e - i → rowsAt s i ≡ record { kind = getD s i 0; text = slice (i + 2) e s } ∷ rowsAt s (e + 1)
-  row-at h k =
-      let two : i + 1 + 1 ≡ i + 2 = omega arith in
-      ap rows (l .found h) ∙ rw (slice-next s i e (omega arith) (omega arith), slice-next s (i + 1) e (omega arith) (omega arith), two)
+pub row-at : (s : List ℕ) (i e : ℕ) → RowEnd s i e → rowsAt s i ≡ record { kind = getD s i 0; text = slice (i + 2) e s } ∷ rowsAt s (e + 1)
+row-at s i e l =
+    let h = l .within in
+    let k = l .text in
+    let two : i + 1 + 1 ≡ i + 2 = omega arith in
+    ap rows (l .line .found h) ∙ rw (slice-next s i e (omega arith) (omega arith), slice-next s (i + 1) e (omega arith) (omega arith), two)
 
 pub at-none : (s : List ℕ) (i : ℕ) → rowsAt s i ≡ [] → at s i ≡ record { here = end; outer = [] }
 unfolding at
@@ -59,16 +50,8 @@ module _ (r : Row) (st : Streams) where
 
 -- ## Groups that are closed
 
-pub and-parts : (a b : Bool) → (a && b) ≡ true → (a ≡ true) × (b ≡ true)
-and-parts true b e = (refl, e)
-and-parts false b e = absurd (false≢true e)
-
-module _ (r : Row) (rs : List Row) (w : allClosed (r ∷ rs) ≡ true) where
-  pub closed-next : allClosed rs ≡ true
-  closed-next = and-parts (allClosed rs) _ w .0
-
-  pub closed-open : r .kind ≡ 111 → follows (streams rs .outer) ≡ true
-  closed-open e = sym (chosen _ _ _ (eq-eqb _ _ e)) ∙ and-parts (allClosed rs) _ w .1
+pub closed-open : (r : Row) (rs : List Row) → allClosed (r ∷ rs) ≡ true → r .kind ≡ 111 → follows (streams rs .outer) ≡ true
+closed-open r rs w e = sym (chosen _ _ _ (eq-eqb _ _ e)) ∙ and-parts (allClosed rs) _ w .1
 
 pub followed : (ts : List Trees) → follows ts ≡ true → ts ≡ head ts ∷ others ts
 followed [] e = absurd (false≢true e)
@@ -76,60 +59,94 @@ followed (t ∷ ts) e = refl
 
 -- ## What stands at a cursor
 
-module _ (s : List ℕ) (c : Cursor) (inList : InList s c) (e : ℕ) (l : LineEnd s (c .at) e) where
-  pub none-here : length s ≤ e → at s (c .at) .here ≡ end
-  none-here h = ap (λ (t : Streams). t .here) (at-none s (c .at) (row-none s (c .at) e l h))
+module _ (s : List ℕ) (c : Cursor) (inList : InList s c) where
+  pub none-here : length s ≤ c .at → at s (c .at) .here ≡ end
+  none-here h = ap (λ (t : Streams). t .here) (at-none s (c .at) (rows-none s (c .at) h))
 
-  pub short-here : e < length s → e - c .at < 2 → at s (c .at) .here ≡ end
-  short-here h k = ap (λ (t : Streams). t .here) (at-none s (c .at) (row-short s (c .at) e l h k))
+  pub close-here : c .at < length s → getD s (c .at) 0 ≡ 99 → at s (c .at) .here ≡ end
+  unfolding at
+  close-here h q =
+      let f = first-row s (c .at) (inList .whole) h in
+      ap (λ (t : Streams). t .here) (ap streams (f .here) ∙ before-close _ (streams (f .rest)) (first-kind s (c .at) f ∙ q))
 
-  module _ (h : e < length s) (k : 2 ≤ e - c .at) where
-    abbrev theRow : Row
-    theRow = record { kind = getD s (c .at) 0; text = slice (c .at + 2) e s }
+  pub look-none : at s (c .at) .here ≡ end → Looked s (c .at) (record { kind = 0; mark = 0 })
+  look-none e = record { kind = sym (ap firstKind e); mark = sym (ap firstMark e); none = λ q. e }
 
-    the-row : rowsAt s (c .at) ≡ theRow ∷ rowsAt s (e + 1)
-    the-row = row-at s (c .at) e l h k
+  pub look-here : c .at < length s → (getD s (c .at) 0 ≡ 99 → ⊥) → Looked s (c .at) (record { kind = getD s (c .at) 0; mark = getD s (c .at + 2) 0 })
+  unfolding at
+  look-here h x = go (eqb (f .row .kind) 111) refl
+    where
+      f : FirstRow s (c .at)
+      f = first-row s (c .at) (inList .whole) h
 
-    whole : allClosed (theRow ∷ rowsAt s (e + 1)) ≡ true
-    whole = sym (ap allClosed the-row) ∙ inList .whole
+      k : f .row .kind ≡ getD s (c .at) 0
+      k = first-kind s (c .at) f
 
-    stepped : at s (c .at) ≡ before theRow (at s (e + 1))
-    stepped = at-row s (c .at) (e + 1) theRow the-row
+      m : first (f .row .text) ≡ getD s (c .at + 2) 0
+      m = ap first (f .texts) ∙ first-mark s (c .at) f
 
-    pub close-here : getD s (c .at) 0 ≡ 99 → at s (c .at) .here ≡ end
-    close-here q = ap (λ (t : Streams). t .here) (stepped ∙ before-close theRow (at s (e + 1)) q)
-
-    module _ (m : ℕ) (f : m ≡ first (slice (c .at + 2) e s)) where
-      abbrev theToken : Token
-      theToken = record { kind = getD s (c .at) 0; mark = m; start = c .at + 2; end = e; next = e + 1 }
-
-      token-at : TokenAt s (c .at) theToken
-      token-at =
+      go : (b : Bool) → eqb (f .row .kind) 111 ≡ b → Looked s (c .at) (record { kind = getD s (c .at) 0; mark = getD s (c .at + 2) 0 })
+      go true e =
+          let b = ap (λ (t : Streams). t .here) (ap streams (f .here) ∙ before-open (f .row) (streams (f .rest)) (eqb-true _ _ e)) in
           record {
-            start = refl;
-            text = omega arith;
-            next = refl;
-            within = omega arith;
-            mark = f;
-            whole = closed-next theRow (rowsAt s (e + 1)) whole;
+            kind = sym k ∙ eqb-true _ _ e ∙ sym (ap firstKind b);
+            mark = sym m ∙ sym (ap firstMark b);
+            none = λ q. absurd (some-kind s (c .at) f (k ∙ q));
+          }
+      go false e =
+          let b = ap (λ (t : Streams). t .here) (ap streams (f .here) ∙ before-leaf (f .row) (streams (f .rest)) (eqb-false _ _ e) (λ q. x (sym k ∙ q))) in
+          record {
+            kind = sym k ∙ sym (ap firstKind b);
+            mark = sym m ∙ sym (ap firstMark b);
+            none = λ q. absurd (some-kind s (c .at) f (k ∙ q));
           }
 
-      pub leaf-here : (getD s (c .at) 0 ≡ 111 → ⊥) → (getD s (c .at) 0 ≡ 99 → ⊥) → LeafAt s (c .at) theToken
-      leaf-here o q =
-          let b = stepped ∙ before-leaf theRow (at s (e + 1)) o q in
-          record { token = token-at; here = ap (λ (t : Streams). t .here) b; outer = ap (λ (t : Streams). t .outer) b }
+module _ (s : List ℕ) (c : Cursor) (inList : InList s c) (e : ℕ) (l : RowEnd s (c .at) e) where
+  abbrev theRow : Row
+  theRow = record { kind = getD s (c .at) 0; text = slice (c .at + 2) e s }
 
-      pub group-here : getD s (c .at) 0 ≡ 111 → GroupAt s (c .at) theToken
-      unfolding at
-      group-here o =
-          let b = stepped ∙ before-open theRow (at s (e + 1)) o in
-          let ts = at s (e + 1) .outer in
-          record {
-            token = token-at;
-            after = head ts;
-            here = ap (λ (t : Streams). t .here) b ∙ ap (λ (d : ℕ). group d (at s (e + 1) .here) (head ts)) (sym f);
-            outer = followed ts (closed-open theRow (rowsAt s (e + 1)) whole o) ∙ ap (λ (us : List Trees). head ts ∷ us) (sym (ap (λ (t : Streams). t .outer) b));
-          }
+  the-row : rowsAt s (c .at) ≡ theRow ∷ rowsAt s (e + 1)
+  the-row = row-at s (c .at) e l
+
+  whole : allClosed (theRow ∷ rowsAt s (e + 1)) ≡ true
+  whole = sym (ap allClosed the-row) ∙ inList .whole .closed
+
+  stepped : at s (c .at) ≡ before theRow (at s (e + 1))
+  stepped = at-row s (c .at) (e + 1) theRow the-row
+
+  abbrev theToken : Token
+  theToken = record { kind = getD s (c .at) 0; mark = getD s (c .at + 2) 0; start = c .at + 2; end = e; next = e + 1 }
+
+  first-byte : getD s (c .at + 2) 0 ≡ first (slice (c .at + 2) e s)
+  first-byte = ap first (sym (slice-next s (c .at + 2) e (omega (arith, l .text)) (omega (arith, l .within))))
+
+  token-at : TokenAt s (c .at) theToken
+  token-at =
+      record {
+        start = refl;
+        text = omega (arith, l .text);
+        next = refl;
+        within = omega (arith, l .within);
+        mark = first-byte;
+        whole = whole-next s (c .at) e (omega (arith, l .text)) (l .within) (inList .whole) the-row;
+      }
+
+  pub leaf-here : (getD s (c .at) 0 ≡ 111 → ⊥) → (getD s (c .at) 0 ≡ 99 → ⊥) → LeafAt s (c .at) theToken
+  leaf-here o q =
+      let b = stepped ∙ before-leaf theRow (at s (e + 1)) o q in
+      record { token = token-at; here = ap (λ (t : Streams). t .here) b; outer = ap (λ (t : Streams). t .outer) b }
+
+  pub group-here : getD s (c .at) 0 ≡ 111 → GroupAt s (c .at) theToken
+  unfolding at
+  group-here o =
+      let b = stepped ∙ before-open theRow (at s (e + 1)) o in
+      let ts = at s (e + 1) .outer in
+      record {
+        token = token-at;
+        after = head ts;
+        here = ap (λ (t : Streams). t .here) b ∙ ap (λ (d : ℕ). group d (at s (e + 1) .here) (head ts)) (sym first-byte);
+        outer = followed ts (closed-open theRow (rowsAt s (e + 1)) whole o) ∙ ap (λ (us : List Trees). head ts ∷ us) (sym (ap (λ (t : Streams). t .outer) b));
+      }
 
 -- ## The way past a group
 
@@ -148,7 +165,7 @@ pub record Inside (s : List ℕ) (c : Cursor) (i row depth : ℕ) : Type 0 where
   pub deep : depth ≤ i + 1
   pub within : i ≤ length s
   pub forth : c .at + row ≤ i + c .row
-  pub whole : allClosed (rowsAt s i) ≡ true
+  pub whole : Whole s i
   pub left : drop depth (stack (at s i)) ≡ at s (c .at) .outer
   pub rows : row + pending depth (stack (at s i)) ≡ c .row + size (at s (c .at) .here) + 1
 
@@ -164,61 +181,29 @@ inside-start s c i =
       rows = omega arith;
     }
 
-module _ (s : List ℕ) (c : Cursor) (f : follows (at s (c .at) .outer) ≡ true) (i row : ℕ) where
-  -- the group is not closed yet, so a row follows
-  has-row : (depth : ℕ) → 0 < depth → Inside s c i row depth → rowsAt s i ≡ [] → ⊥
-  has-row zero h n e = absurd (omega arith)
-  has-row (suc k) h n e =
-      false≢true
-      (ap follows (sym (drop-nil k))
-      ∙ ap (λ (t : Streams). follows (drop (suc k) (stack t))) (sym (at-none s i e))
-      ∙ ap follows (n .left)
-      ∙ f)
-
-  module _ (depth e : ℕ) (h : 0 < depth) (n : Inside s c i row depth) (l : LineEnd s i e) where
-    pub inside-end : e < length s
-    inside-end = go (leb (length s) e) refl
-      where
-        go : (b : Bool) → leb (length s) e ≡ b → e < length s
-        go true q = absurd (has-row depth h n (row-none s i e l (leb-true _ _ q)))
-        go false q = leb-false _ _ q
-
-    pub inside-long : 2 ≤ e - i
-    inside-long = go (leb 2 (e - i)) refl
-      where
-        go : (b : Bool) → leb 2 (e - i) ≡ b → 2 ≤ e - i
-        go true q = leb-true _ _ q
-        go false q = absurd (has-row depth h n (row-short s i e l inside-end (leb-false _ _ q)))
-
-  pub inside-read : (depth : ℕ) → 0 < depth → Inside s c i row depth → i < length s
-  inside-read depth h n = go (leb (length s) i) refl
-    where
-      go : (b : Bool) → leb (length s) i ≡ b → i < length s
-      go true q = absurd (has-row depth h n (ap (λ (t : List ℕ). rows (lines t)) (drop-of-length-le s {i = i} (leb-true _ _ q))))
-      go false q = leb-false _ _ q
-
-  module _ (k e : ℕ) (n : Inside s c i row (suc k)) (l : LineEnd s i e) where
+module _ (s : List ℕ) (c : Cursor) (i row : ℕ) where
+  module _ (k e : ℕ) (n : Inside s c i row (suc k)) (l : RowEnd s i e) where
     abbrev theStep : Row
     theStep = record { kind = getD s i 0; text = slice (i + 2) e s }
 
     row-here : rowsAt s i ≡ theStep ∷ rowsAt s (e + 1)
-    row-here = row-at s i e l (inside-end (suc k) e (omega arith) n l) (inside-long (suc k) e (omega arith) n l)
+    row-here = row-at s i e l
 
     step-whole : allClosed (theStep ∷ rowsAt s (e + 1)) ≡ true
-    step-whole = sym (ap allClosed row-here) ∙ n .whole
+    step-whole = sym (ap allClosed row-here) ∙ n .whole .closed
 
     -- the step to a new depth, from the two facts that speak of streams
     stepped-to : (d : ℕ) → d ≤ suc k + 1 → k ≤ d → drop d (stack (at s (e + 1))) ≡ at s (c .at) .outer
         → pending d (stack (at s (e + 1))) + 1 ≡ pending (suc k) (stack (at s i)) → Inside s c (e + 1) (row + 1) d
     stepped-to d a b left rows =
-        let p = inside-end (suc k) e (omega arith) n l in
-        let q = inside-long (suc k) e (omega arith) n l in
+        let p = l .within in
+        let q = l .text in
         record {
           counted = omega (arith, n .counted, q);
           deep = omega (arith, n .deep, q);
           within = omega (arith, p);
           forth = omega (arith, n .forth, q);
-          whole = closed-next theStep (rowsAt s (e + 1)) step-whole;
+          whole = whole-next s i e (omega (arith, q)) p (n .whole) row-here;
           left = left;
           rows = omega (arith, n .rows, rows);
         }
@@ -267,17 +252,46 @@ module _ (s : List ℕ) (c : Cursor) (f : follows (at s (c .at) .outer) ≡ true
     step-any false true p q = step-close (eqb-true _ _ q)
     step-any false false p q = step-leaf (eqb-false _ _ p) (eqb-false _ _ q)
 
-  pub inside-step : (depth e : ℕ) → 0 < depth → Inside s c i row depth → LineEnd s i e
-      → Inside s c (e + 1) (row + 1) (deeper (getD s i 0) depth)
+  pub inside-step : (depth e : ℕ) → 0 < depth → Inside s c i row depth → RowEnd s i e → Inside s c (e + 1) (row + 1) (deeper (getD s i 0) depth)
   inside-step zero e h n l = absurd (omega arith)
   inside-step (suc k) e h n l = step-any k e n l (eqb (getD s i 0) 111) (eqb (getD s i 0) 99) refl refl
 
-  pub inside-done : (depth : ℕ) → depth ≤ 0 → Inside s c i row depth → Skipped s c (record { at = i; row = row })
+  abbrev there : Cursor
+  there = record { at = i; row = row }
+
+  there-in : {depth : ℕ} → Inside s c i row depth → InList s there
+  there-in n = record { counted = n .counted; within = n .within; whole = n .whole }
+
+  pub inside-done : (depth : ℕ) → depth ≤ 0 → Inside s c i row depth → skipped (at s (c .at) .outer) s c there
   inside-done zero h n =
-      record {
-        inList = record { counted = n .counted; within = n .within; whole = n .whole };
-        forth = omega (arith, n .forth, n .rows);
-        row = omega (arith, n .rows);
-        streams = sym (n .left);
-      }
+      subst (λ (ts : List Trees). skipped ts s c there) (n .left)
+      (record { inList = there-in n; forth = omega (arith, n .forth, n .rows); row = omega (arith, n .rows); streams = sym (n .left) })
   inside-done (suc k) h n = absurd (omega arith)
+
+  -- the rows end before the group is closed, so it is none
+  pub inside-none : (depth : ℕ) → 0 < depth → length s ≤ i → Inside s c i row depth → skipped (at s (c .at) .outer) s c there
+  inside-none zero h g n = absurd (omega arith)
+  inside-none (suc k) h g n =
+      let e = at-none s i (rows-none s i g) in
+      let left : [] ≡ at s (c .at) .outer = sym (drop-nil k) ∙ ap (λ (t : Streams). drop (suc k) (stack t)) (sym e) ∙ n .left in
+      let p : pending (suc k) (stack (at s i)) ≡ 1 = ap (λ (t : Streams). pending (suc k) (stack t)) e ∙ none-pending k in
+      subst (λ (ts : List Trees). skipped ts s c there) left
+      (record {
+        inList = there-in n;
+        forth = omega (arith, n .forth, n .rows, p);
+        row = omega (arith, n .rows, p);
+        here = ap (λ (t : Streams). t .here) e;
+        outer = ap (λ (t : Streams). t .outer) e;
+      })
+    where
+      none-pending : (k : ℕ) → 0 + 1 + pending k [] ≡ 1
+      none-pending zero = refl
+      none-pending (suc k) = refl
+
+-- where a group is open
+pub skipped-open : (s : List ℕ) (c d : Cursor) → follows (at s (c .at) .outer) ≡ true → skipped (at s (c .at) .outer) s c d → Skipped s c d
+skipped-open s c d f k = go (at s (c .at) .outer) f k
+  where
+    go : (ts : List Trees) → follows ts ≡ true → skipped ts s c d → Skipped s c d
+    go [] f k = absurd (false≢true f)
+    go (t ∷ ts) f k = k

@@ -1,14 +1,14 @@
 -- Laws on tests of a part of a list, one byte at a time.
 use mathlib.Core.Path.{_≡_, refl, ap, _∙_, sym, subst}
-use mathlib.Core.Bool.{Bool, true, false, _&&_, _||_, not, cond, true≢false}
-use mathlib.Core.List.{List, [], _∷_}
+use mathlib.Core.Bool.{Bool, true, false, _&&_, _||_, not, cond, true≢false, false≢true}
+use mathlib.Core.List.{List, [], _∷_, _++_}
 use Prim.Native.Nat.{ℕ, zero, suc, _+_, _-_, _≤_, _<_}
 use native.Mathlib.Numerals.{add-one}
 use native.Mathlib.Omega.{arith}
 use lib.Dec.{T, eqb, leb}
 use borrow.Author.Tests.{eq-eqb, ne-eqb, leb-true, leb-false}
 use lib.ListN.{length, getD, take, drop, length-take, drop-of-length-le}
-use lib.Seq.{slice, slice-cons, drop-cons}
+use lib.Seq.{slice, slice-cons, drop-cons, take-suc, drop-append-le, length-take-le}
 use Rattle.token_list.specs.Text.{all, member, same, rawName, plainName, neverRaw, single, literal, literalStart, printable}
 use Rattle.token_list.specs.Row.{first}
 use Rattle.token_list.specs.Contract.{only}
@@ -33,6 +33,10 @@ and-fails a b e = rw e
 pub and-both : (a b : Bool) → a ≡ true → b ≡ true → (a && b) ≡ true
 and-both a b e f = rw (e, f)
 
+pub and-parts : (a b : Bool) → (a && b) ≡ true → (a ≡ true) × (b ≡ true)
+and-parts true b e = (refl, e)
+and-parts false b e = absurd (false≢true e)
+
 -- a choice by a test whose value is known
 pub chosen : {A : Type 0} (b : Bool) (x y : A) → b ≡ true → cond b x y ≡ x
 chosen b x y e = rw e
@@ -55,6 +59,24 @@ module _ (p : ℕ → Bool) (s : List ℕ) (e : ℕ) (fits : e ≤ length s) whe
 
 pub all-none : (p : ℕ → Bool) (s : List ℕ) (i e : ℕ) → e ≤ i → all p (slice i e s) ≡ true
 all-none p s i e h = ap (all p) (slice-none s i e h)
+
+-- a part that goes on by one byte
+pub slice-more : (s : List ℕ) (from i : ℕ) → from ≤ i → i < length s → slice from (i + 1) s ≡ slice from i s ++ getD s i 0 ∷ []
+slice-more s from i h k =
+    let e : from ≤ length (take i s) = rw (length-take-le i s (omega arith)) h in
+    rw (add-one, take-suc s i 0, drop-append-le from (take i s))
+
+all-last : (p : ℕ → Bool) (xs : List ℕ) (b : ℕ) → all p xs ≡ true → p b ≡ true → all p (xs ++ b ∷ []) ≡ true
+all-last p [] b e q = and-both _ _ q refl
+all-last p (x ∷ xs) b e q = go (p x) (λ f. all-last p xs b f q) e
+  where
+    go : (t : Bool) → (all p xs ≡ true → all p (xs ++ b ∷ []) ≡ true) → (t && all p xs) ≡ true → (t && all p (xs ++ b ∷ [])) ≡ true
+    go true k f = k f
+    go false k f = f
+
+pub all-more : (p : ℕ → Bool) (s : List ℕ) (from i : ℕ) → from ≤ i → i < length s → all p (slice from i s) ≡ true → p (getD s i 0) ≡ true
+    → all p (slice from (i + 1) s) ≡ true
+all-more p s from i h k e q = ap (all p) (slice-more s from i h k) ∙ all-last p (slice from i s) (getD s i 0) e q
 
 module _ (s n : List ℕ) (e : ℕ) (fits : e ≤ length s) where
   same-step : (i j : ℕ) → i < e → j < length n
@@ -79,6 +101,21 @@ module _ (s n : List ℕ) (e : ℕ) (fits : e ≤ length s) where
       go : (b : Bool) → leb e i ≡ b → same (slice i e s) [] ≡ b
       go true q = rw (slice-none s i e (leb-true e i q))
       go false q = rw (slice-next s i e (leb-false e i q) fits)
+
+-- texts of different lengths are not the same
+pub same-length : (x y : List ℕ) → (length x ≡ length y → ⊥) → same x y ≡ false
+same-length [] [] h = absurd (h refl)
+same-length [] (b ∷ y) h = refl
+same-length (a ∷ x) [] h = refl
+same-length (a ∷ x) (b ∷ y) h = go (eqb a b) (same-length x y (λ e. h (ap suc e)))
+  where
+    go : (t : Bool) → same x y ≡ false → (t && same x y) ≡ false
+    go true e = e
+    go false e = refl
+
+pub same-none : (y : List ℕ) → same [] y ≡ eqb (length y) 0
+same-none [] = refl
+same-none (b ∷ y) = sym (ne-eqb (suc (length y)) 0 (λ e. absurd (omega (arith, e))))
 
 -- the test for a raw name, where two bytes at least are there
 pub raw-parts : (s : List ℕ) (i e : ℕ) → i + 1 < e → e ≤ length s
@@ -124,6 +161,13 @@ module _ (s : List ℕ) (i e : ℕ) (fits : e ≤ length s) where
 
   pub only-none : e ≤ i → 0 ≡ only (slice i e s)
   only-none h = rw (slice-none s i e h)
+
+  pub not-one : (i + 1 ≡ e → ⊥) → 0 ≡ only (slice i e s)
+  not-one q = go (leb e i) refl
+    where
+      go : (b : Bool) → leb e i ≡ b → 0 ≡ only (slice i e s)
+      go true h = only-none (leb-true e i h)
+      go false h = only-more (leb-false e i h) q
 
 -- the test for a literal, where a byte is there
 pub literal-parts : (s : List ℕ) (i e : ℕ) → i < e → e ≤ length s → literal (slice i e s) ≡ (literalStart (getD s i 0) && all printable (slice i e s))

@@ -64,6 +64,10 @@ isRow wrong = false
 abbrev pub right : Row → Bool
 right r = isRow (formOf (r .kind) (r .text)) && leb (length (r .text)) 255
 
+abbrev pub allRight : List Row → Bool
+allRight [] = true
+allRight (r ∷ rs) = right r && allRight rs
+
 abbrev pub closedBy : List ℕ → ℕ → Bool
 closedBy [] c = false
 closedBy (d ∷ ds) c = eqb (closer d) c

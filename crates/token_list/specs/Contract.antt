@@ -1,45 +1,47 @@
 -- What ties the code's answers to the meaning.
 use mathlib.Core.Path.{_≡_}
-use mathlib.Core.Bool.{Bool, true, false, cond}
+use mathlib.Core.Bool.{Bool, true, false, cond, _&&_}
 use mathlib.Core.List.{List, [], _∷_}
 use Prim.Native.Nat.{ℕ, _+_, _-_, _≤_, _<_}
-use lib.Dec.{leb, eqb}
-use lib.ListN.{length, take, drop}
+use lib.Dec.{leb, ltb, eqb}
+use lib.ListN.{length, getD, take, drop}
 use lib.Seq.{slice}
 use Rattle.token_list.specs.Row.{Lines, tail, line, lines, Form, plain, opens, closed, wrong, form, first, Row, written}
-use Rattle.token_list.specs.Check.{Answer, passed, refused, Open, ended, close, walk, NAMES, nested}
+use Rattle.token_list.specs.Check.{Answer, passed, refused, Open, ended, close, walk, NAMES, allRight, nested}
 use Rattle.token_list.specs.declared.check.Cursor.{Cursor}
 use Rattle.token_list.specs.declared.check.Checked.{Checked}
 use Rattle.token_list.specs.declared.check.Checked.the-variants.{Passed, Refused}
 use Rattle.token_list.specs.declared.check.LevelEnd.{LevelEnd}
 use Rattle.token_list.specs.declared.check.LevelEnd.the-variants.{End, Close, Refused as Stopped}
-use Rattle.token_list.specs.Stream.{Trees, end, leaf, group, size, follows, allClosed, rowsAt, at}
+use Rattle.token_list.specs.Stream.{Trees, end, leaf, group, size, firstKind, firstMark, follows, allClosed, rowsAt, at}
 use Rattle.token_list.specs.declared.stream.Token.{Token}
+use Rattle.token_list.specs.declared.stream.Glance.{Glance}
 use Rattle.token_list.specs.declared.stream.Peeked.{Peeked}
 use Rattle.token_list.specs.declared.stream.Peeked.the-variants.{Nothing, Leaf, Group}
 use Rattle.token_list.specs.declared.row.Shape.{Shape}
 use Rattle.token_list.specs.declared.row.Shape.the-variants.{Plain, Opens, Closed, Wrong}
 use Rattle.token_list.specs.declared.row.Line.{Line}
-use Rattle.token_list.specs.Text.{digit, nameStart, namePart, printable, punctuation, opening, closing}
-
--- the class r of a byte b
-pub record Classified (b r : ℕ) : Type 0 where
-  pub start : leb 4 r ≡ nameStart b
-  pub part : leb 3 r ≡ namePart b
-  pub shown : leb 1 r ≡ printable b
-  pub number : eqb r 3 ≡ digit b
-  pub mark : eqb r 2 ≡ punctuation b
+use Rattle.token_list.specs.Text.{all, namePart, printable, punctuation, opening, closing}
 
 -- what may stand in a name, or else in a literal
 abbrev pub inText : Bool → ℕ → Bool
 inText true b = namePart b
 inText false b = printable b
 
+-- from `from` on each byte before r may stand in a name, or else in a literal, and the byte at r may not; a line ends there
+-- where it is an LF
+pub record TextEnd (s : List ℕ) (names : Bool) (from r : ℕ) : Type 0 where
+  pub start : from ≤ r
+  pub fits : all (inText names) (slice from r s) ≡ true
+  pub stops : r < length s → inText names (getD s r 0) ≡ false
+  pub line : r < length s → getD s r 0 ≡ 10 → lines (drop from s) ≡ line (slice from r s) (lines (drop (r + 1) s))
+
 -- the first LF of a list s at or after `from` stands at e, or there is none
 pub record LineEnd (s : List ℕ) (from e : ℕ) : Type 0 where
   pub start : from ≤ e
   pub found : e < length s → lines (drop from s) ≡ line (slice from e s) (lines (drop (e + 1) s))
   pub none : length s ≤ e → lines (drop from s) ≡ tail (drop from s)
+  pub lf : e < length s → getD s e 0 ≡ 10
 
 -- the byte of a text that has just one, else 0
 abbrev pub only : List ℕ → ℕ
@@ -52,6 +54,10 @@ shape Plain = plain
 shape (Opens d) = opens d
 shape (Closed d) = closed d
 shape Wrong = wrong
+
+-- a space, and an LF after one byte of text, stand in the line at i
+abbrev pub oneByte : List ℕ → ℕ → Bool
+oneByte s i = ltb (i + 3) (length s) && (eqb (getD s (i + 1) 0) 32 && eqb (getD s (i + 3) 0) 10)
 
 -- the form of a row of kind p, o or c whose text is the one byte b
 abbrev pub markForm : ℕ → ℕ → Form
@@ -71,17 +77,39 @@ pub record Shaped (s : List ℕ) (at : ℕ) (r : Line) : Type 0 where
   pub past : (shape (r .shape) ≡ wrong → ⊥) → (at < r .next) × (r .next ≤ length s)
   pub rest : (shape (r .shape) ≡ wrong → ⊥) → (l : List ℕ) × (lines (drop at s) ≡ line l (lines (drop (r .next) s)))
 
--- a cursor's own bounds: the rows before it have a byte each, it is in the list, and the groups that open after it are closed
+-- r is a token whose text starts at `start` and fits, or it is wrong, which tells nothing
+pub record TokenLine (s : List ℕ) (names : Bool) (start : ℕ) (r : Line) : Type 0 where
+  pub told : (shape (r .shape) ≡ wrong → ⊥) → shape (r .shape) ≡ plain
+  pub whole : (shape (r .shape) ≡ wrong → ⊥)
+      → (e : ℕ) × TextEnd s names start e × (e < length s) × (getD s e 0 ≡ 10) × (e - start ≤ 255) × (r .next ≡ e + 1)
+
+-- the same as Shaped, where the form is told
+abbrev pub ShapedUnlessWrong : List ℕ → ℕ → Line → Type 0
+ShapedUnlessWrong s at r = (shape (r .shape) ≡ wrong → ⊥) → Shaped s at r
+
+-- the bytes from i on are rows, each of a right form, and each group that opens in them is closed
+pub record Whole (s : List ℕ) (i : ℕ) : Type 0 where
+  pub written : drop i s ≡ written (rowsAt s i)
+  pub right : allRight (rowsAt s i) ≡ true
+  pub closed : allClosed (rowsAt s i) ≡ true
+
+-- a cursor's own bounds: the rows before it have a byte each, it is in the list, and rows stand from it on
 pub record InList (s : List ℕ) (c : Cursor) : Type 0 where
   pub counted : c .row ≤ c .at
   pub within : c .at ≤ length s
-  pub whole : allClosed (rowsAt s (c .at)) ≡ true
+  pub whole : Whole s (c .at)
 
 -- ## Rows and streams at a cursor
 
 -- the row that a token stands for
 abbrev pub rowOf : List ℕ → Token → Row
 rowOf s t = record { kind = t .kind; text = slice (t .start) (t .end) s }
+
+-- the row at i ends with the LF at e, after a text of a byte or more
+pub record RowEnd (s : List ℕ) (i e : ℕ) : Type 0 where
+  pub line : LineEnd s i e
+  pub text : i + 3 ≤ e
+  pub within : e < length s
 
 -- the token t at i: where its parts stand, its first byte of text, and the next row
 pub record TokenAt (s : List ℕ) (i : ℕ) (t : Token) : Type 0 where
@@ -90,7 +118,7 @@ pub record TokenAt (s : List ℕ) (i : ℕ) (t : Token) : Type 0 where
   pub next : t .next ≡ t .end + 1
   pub within : t .next ≤ length s
   pub mark : t .mark ≡ first (slice (t .start) (t .end) s)
-  pub whole : allClosed (rowsAt s (t .next)) ≡ true
+  pub whole : Whole s (t .next)
 
 -- a token that is no group, and the stream after it
 pub record LeafAt (s : List ℕ) (i : ℕ) (t : Token) : Type 0 where
@@ -110,6 +138,12 @@ stands s i Nothing = at s i .here ≡ end
 stands s i (Leaf t) = LeafAt s i t
 stands s i (Group t) = GroupAt s i t
 
+-- what a look at i tells; no row has the kind 0
+pub record Looked (s : List ℕ) (i : ℕ) (r : Glance) : Type 0 where
+  pub kind : r .kind ≡ firstKind (at s i .here)
+  pub mark : r .mark ≡ firstMark (at s i .here)
+  pub none : r .kind ≡ 0 → at s i .here ≡ end
+
 -- how many groups are open after a row of kind k, where d were before it
 abbrev pub deeper : ℕ → ℕ → ℕ
 deeper k d = cond (eqb k 111) (d + 1) (cond (eqb k 99) (d - 1) d)
@@ -120,6 +154,19 @@ pub record Skipped (s : List ℕ) (c d : Cursor) : Type 0 where
   pub forth : c .at + size (at s (c .at) .here) + 1 ≤ d .at
   pub row : d .row ≡ c .row + size (at s (c .at) .here) + 1
   pub streams : at s (c .at) .outer ≡ at s (d .at) .here ∷ at s (d .at) .outer
+
+-- from c, which stands in no group, to d, where the rows end
+pub record RanOut (s : List ℕ) (c d : Cursor) : Type 0 where
+  pub inList : InList s d
+  pub forth : c .at + size (at s (c .at) .here) ≤ d .at
+  pub row : d .row ≡ c .row + size (at s (c .at) .here)
+  pub here : at s (d .at) .here ≡ end
+  pub outer : at s (d .at) .outer ≡ []
+
+-- by the streams around c
+abbrev pub skipped : List Trees → List ℕ → Cursor → Cursor → Type 0
+skipped [] s c d = RanOut s c d
+skipped (t ∷ ts) s c d = Skipped s c d
 
 abbrev pub checked : Checked → Answer
 checked (Passed n) = passed n
@@ -154,6 +201,6 @@ pub record PassedList (s : List ℕ) (n : ℕ) : Type 0 where
   pub written : drop 10 s ≡ written (rowsAt s 10)
   pub nested : nested [] (rowsAt s 10) ≡ true
   pub count : length (rowsAt s 10) ≡ n
-  pub whole : allClosed (rowsAt s 10) ≡ true
+  pub whole : Whole s 10
   pub outer : at s 10 .outer ≡ []
   pub size : size (at s 10 .here) ≡ n

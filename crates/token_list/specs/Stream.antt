@@ -42,6 +42,17 @@ size end = 0
 size (leaf r ts) = 1 + size ts
 size (group d ts us) = 1 + size ts + 1 + size us
 
+-- the kind of a stream's first row, and the first byte of its text; 0 where it has none
+abbrev pub firstKind : Trees → ℕ
+firstKind end = 0
+firstKind (leaf r ts) = r .kind
+firstKind (group d ts us) = 111
+
+abbrev pub firstMark : Trees → ℕ
+firstMark end = 0
+firstMark (leaf r ts) = first (r .text)
+firstMark (group d ts us) = d
+
 -- every group that opens in the rows is closed in them
 abbrev pub follows : List Trees → Bool
 follows [] = false

@@ -1,16 +1,20 @@
 // What a line of a list is as a row.
 use crate::text::all_fit;
-use crate::text::class;
+use crate::text::is_digit;
+use crate::text::is_name_start;
 use crate::text::is_one_of;
+use crate::text::is_punctuation;
+use crate::text::text_end;
 use crate::text::text_is;
 ghost use mathlib.Core.Path.{_≡_};
-ghost use mathlib.Core.Bool.{Bool};
-ghost use Prim.Native.Nat.{_≤_};
+ghost use mathlib.Core.Bool.{Bool, false};
+ghost use mathlib.Core.List.{[], _∷_};
+ghost use Prim.Native.Nat.{_+_, _≤_};
 ghost use lib.ListN.{length};
 ghost use lib.Seq.{slice};
 ghost use Rattle.token_list.specs.Text.{name, plainName, rawName, neverRaw, literal, literalStart, closer};
 ghost use Rattle.token_list.specs.Row.{formOf};
-ghost use Rattle.token_list.specs.Contract.{LineEnd, Shaped, only, shape, markForm};
+ghost use Rattle.token_list.specs.Contract.{LineEnd, Shaped, ShapedUnlessWrong, shape, markForm, oneByte, TokenLine};
 
 // The form of a line: a token, an opening or closing row with its delimiter, or no row.
 pub enum Shape {
@@ -40,20 +44,6 @@ pub fn line_end(s: &[u8], from: usize) -> usize
     i
 }
 
-// The byte of a text that has just one, else 0.
-fn only(s: &[u8], start: usize, end: usize) -> u8
-    requires { ⌜ end ≤ length (now s) ⌝ }
-    ensures { λ r. ⌜ r ≡ only (slice start end (now (s .entry))) ⌝ }
-{
-    if start < end {
-        let second = start + 1;
-        if second == end {
-            return s[start];
-        }
-    }
-    0
-}
-
 // What closes a group that d opens.
 pub fn closer(d: u8) -> u8
     ensures { λ r. ⌜ r ≡ closer d ⌝ }
@@ -77,7 +67,7 @@ fn is_plain_name(s: &[u8], start: usize, end: usize) -> bool
     if end <= start {
         return false;
     }
-    if class(s[start]) < 4 {
+    if !is_name_start(s[start]) {
         return false;
     }
     let second = start + 1;
@@ -140,7 +130,7 @@ pub fn is_name(s: &[u8], start: usize, end: usize) -> bool
 fn starts_literal(b: u8) -> bool
     ensures { λ r. ⌜ r ≡ literalStart b ⌝ }
 {
-    if class(b) == 3 {
+    if is_digit(b) {
         return true;
     }
     is_one_of(b, b"\"'bcr")
@@ -159,9 +149,10 @@ fn is_literal(s: &[u8], start: usize, end: usize) -> bool
     all_fit(s, start, end, false)
 }
 
-// The form of a row of this kind with the text from start to end.
+// The form of a row of this kind with the text from start to end, which is not of one byte.
 fn text_shape(s: &[u8], kind: u8, start: usize, end: usize) -> Shape
     requires { ⌜ end ≤ length (now s) ⌝ }
+    requires { ⌜ (start + 1 ≡ end → ⊥) ⌝ }
     ensures { λ r. ⌜ shape r ≡ formOf kind (slice start end (now (s .entry))) ⌝ }
 {
     if kind == b'i' {
@@ -178,7 +169,7 @@ fn text_shape(s: &[u8], kind: u8, start: usize, end: usize) -> Shape
             Shape::Wrong
         };
     }
-    mark_shape(kind, only(s, start, end))
+    Shape::Wrong
 }
 
 // The form of a row of this kind, neither `i` nor `l`, whose text is the one byte b (0: no such text).
@@ -186,7 +177,7 @@ fn mark_shape(kind: u8, b: u8) -> Shape
     ensures { λ r. ⌜ shape r ≡ markForm kind b ⌝ }
 {
     if kind == b'p' {
-        return if class(b) == 2 {
+        return if is_punctuation(b) {
             Shape::Plain
         } else {
             Shape::Wrong
@@ -209,8 +200,125 @@ fn mark_shape(kind: u8, b: u8) -> Shape
     Shape::Wrong
 }
 
+// The form of a row of this kind whose text is the one byte b.
+fn byte_shape(kind: u8, b: u8) -> Shape
+    ensures { λ r. ⌜ shape r ≡ formOf kind (b ∷ []) ⌝ }
+{
+    if kind == b'i' {
+        return if is_name_start(b) {
+            Shape::Plain
+        } else {
+            Shape::Wrong
+        };
+    }
+    if kind == b'l' {
+        return if starts_literal(b) {
+            Shape::Plain
+        } else {
+            Shape::Wrong
+        };
+    }
+    mark_shape(kind, b)
+}
+
+// The token whose text is at `start`, where each byte up to the line's end may stand in a name, or
+// else in a literal; else Wrong.
+fn token_line(s: &[u8], start: usize, names: bool) -> Line
+    ensures { λ r. ⌜ TokenLine (now (s .entry)) names start r ⌝ }
+{
+    let end = text_end(s, start, names);
+    if end < s.len() {
+        if s[end] == b'\n' {
+            if end - start <= 255 {
+                let next = end + 1;
+                return Line {
+                    shape: Shape::Plain,
+                    next,
+                };
+            }
+        }
+    }
+    Line {
+        shape: Shape::Wrong,
+        next: end,
+    }
+}
+
+// Whether a space and a text of one byte stand in the line at `at`.
+fn one_byte(s: &[u8], at: usize) -> bool
+    ensures { λ r. ⌜ r ≡ oneByte (now (s .entry)) at ⌝ }
+{
+    if s.len() <= at {
+        return false;
+    }
+    if s.len() - at < 4 {
+        return false;
+    }
+    let space = at + 1;
+    let last = at + 3;
+    if s[space] != b' ' {
+        return false;
+    }
+    s[last] == b'\n'
+}
+
+// The name or literal at `at`, where one look at each byte tells it, as of most; else Wrong.
+fn quick_token(s: &[u8], at: usize) -> Line
+    ensures { λ r. ⌜ ShapedUnlessWrong (now (s .entry)) at r ⌝ }
+{
+    let unknown = Line {
+        shape: Shape::Wrong,
+        next: at,
+    };
+    if s.len() <= at {
+        return unknown;
+    }
+    if s.len() - at < 4 {
+        return unknown;
+    }
+    let kind = s[at];
+    let space = at + 1;
+    let start = at + 2;
+    if s[space] != b' ' {
+        return unknown;
+    }
+    let b = s[start];
+    if kind == b'i' {
+        if is_name_start(b) {
+            return token_line(s, start, true);
+        }
+    }
+    if kind == b'l' {
+        if starts_literal(b) {
+            return token_line(s, start, false);
+        }
+    }
+    unknown
+}
+
 // The form of the line at `at`, and where the next one starts.
 pub fn line_shape(s: &[u8], at: usize) -> Line
+    ensures { λ r. ⌜ Shaped (now (s .entry)) at r ⌝ }
+{
+    if one_byte(s, at) {
+        let start = at + 2;
+        let next = at + 4;
+        let shape = byte_shape(s[at], s[start]);
+        return Line { shape, next };
+    }
+    let quick = quick_token(s, at);
+    let shape = quick.shape;
+    match shape {
+        Shape::Plain => quick,
+        Shape::Opens(_) => quick,
+        Shape::Closed(_) => quick,
+        Shape::Wrong => whole_shape(s, at),
+    }
+}
+
+// The same of any line but one with a text of one byte.
+fn whole_shape(s: &[u8], at: usize) -> Line
+    requires { ⌜ oneByte (now s) at ≡ false ⌝ }
     ensures { λ r. ⌜ Shaped (now (s .entry)) at r ⌝ }
 {
     let end = line_end(s, at);

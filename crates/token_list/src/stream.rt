@@ -1,14 +1,10 @@
 // Reading a list row by row: the token at a cursor, and the way past a group.
 use crate::check::Cursor;
-use crate::row::line_end;
 ghost use mathlib.Core.Path.{_≡_};
-ghost use mathlib.Core.Bool.{true};
-ghost use Prim.Native.Nat.{_+_, _^_, _≤_, _<_};
+ghost use Prim.Native.Nat.{_+_, _^_, _<_};
 ghost use lib.ListN.{length};
-ghost use lib.Seq.{slice};
-ghost use Rattle.token_list.specs.Row.{first};
-ghost use Rattle.token_list.specs.Stream.{at, follows};
-ghost use Rattle.token_list.specs.Contract.{InList, stands, deeper, Skipped};
+ghost use Rattle.token_list.specs.Stream.{at};
+ghost use Rattle.token_list.specs.Contract.{Whole, RowEnd, InList, Looked, stands, deeper, skipped};
 
 // A row: its kind, the first byte of its text (a punctuation's byte, a group's delimiter), where
 // its text starts and ends, and where the next row starts.
@@ -20,6 +16,11 @@ pub struct Token {
     pub next: usize,
 }
 
+pub struct Glance {
+    pub kind: u8,
+    pub mark: u8,
+}
+
 // What stands at a cursor: nothing more in this stream, a token, or a group's opening row.
 pub enum Peeked {
     Nothing,
@@ -27,11 +28,36 @@ pub enum Peeked {
     Group(Token),
 }
 
-fn first_byte(s: &[u8], start: usize, end: usize) -> u8
-    requires { ⌜ end ≤ length (now s) ⌝ }
-    ensures { λ r. ⌜ r ≡ first (slice start end (now (s .entry))) ⌝ }
+// The kind of the row at c and the first byte of its text; 0 and 0 where the stream ends. The text
+// is not looked through.
+pub fn look(s: &[u8], c: Cursor) -> Glance
+    requires { ⌜ InList (now s) c ⌝ }
+    ensures { λ r. ⌜ Looked (now (s .entry)) (c .at) r ⌝ }
 {
-    if start < end { s[start] } else { 0 }
+    let at = c.at;
+    if s.len() <= at {
+        return Glance { kind: 0, mark: 0 };
+    }
+    let kind = s[at];
+    if kind == b'c' {
+        return Glance { kind: 0, mark: 0 };
+    }
+    let start = at + 2;
+    let mark = s[start];
+    Glance { kind, mark }
+}
+
+// Where the row at `at` ends, at its LF. Kind, space and a byte of text stand before it.
+fn row_end(s: &[u8], at: usize) -> usize
+    requires { ⌜ Whole (now s) at ⌝ }
+    requires { ⌜ at < length (now s) ⌝ }
+    ensures { λ r. ⌜ RowEnd (now (s .entry)) at r ⌝ }
+{
+    let mut i = at + 3;
+    while s[i] != b'\n' {
+        i += 1;
+    }
+    i
 }
 
 pub fn peek(s: &[u8], c: Cursor) -> Peeked
@@ -39,20 +65,17 @@ pub fn peek(s: &[u8], c: Cursor) -> Peeked
     ensures { λ r. ⌜ stands (now (s .entry)) (c .at) r ⌝ }
 {
     let at = c.at;
-    let end = line_end(s, at);
-    if s.len() <= end {
-        return Peeked::Nothing;
-    }
-    if end - at < 2 {
+    if s.len() <= at {
         return Peeked::Nothing;
     }
     let kind = s[at];
     if kind == b'c' {
         return Peeked::Nothing;
     }
+    let end = row_end(s, at);
     let start = at + 2;
     let next = end + 1;
-    let mark = first_byte(s, start, end);
+    let mark = s[start];
     let t = Token {
         kind,
         mark,
@@ -81,18 +104,20 @@ fn deeper(kind: u8, depth: usize) -> usize
     depth
 }
 
-// Past the closing row of the group that c stands in.
+// Past the closing row of the group that c stands in, or to the end of the rows where it is in none.
 pub fn skip(s: &[u8], c: Cursor) -> Cursor
     requires { ⌜ InList (now s) c ⌝ }
-    requires { ⌜ follows (at (now s) (c .at) .outer) ≡ true ⌝ }
-    ensures { λ r. ⌜ Skipped (now (s .entry)) c r ⌝ }
+    ensures { λ r. ⌜ skipped (at (now (s .entry)) (c .at) .outer) (now (s .entry)) c r ⌝ }
 {
     let mut i = c.at;
     let mut row = c.row;
     let mut depth = 1;
     while 0 < depth {
+        if s.len() <= i {
+            return Cursor { at: i, row };
+        }
         let kind = s[i];
-        let end = line_end(s, i);
+        let end = row_end(s, i);
         depth = deeper(kind, depth);
         i = end + 1;
         row += 1;

@@ -1,283 +1,82 @@
 // Bytes and texts: the classes of bytes, and the one comparison of a text with given bytes.
 ghost use mathlib.Core.Path.{_≡_};
-ghost use Prim.Native.Nat.{_≤_};
+ghost use Prim.Native.Nat.{_+_, _≤_};
 ghost use lib.ListN.{length};
 ghost use lib.Seq.{slice};
-ghost use Rattle.token_list.specs.Text.{all, member, same};
-ghost use Rattle.token_list.specs.Contract.{Classified, inText};
+ghost use Rattle.token_list.specs.Text.{all, member, same, between, digit, nameStart, punctuation};
+ghost use Rattle.token_list.specs.Contract.{inText, TextEnd};
 
-// For each byte: 4 starts a name, 3 is a digit, 2 a punctuation, 1 another printable byte, 0 the rest.
-const CLASSES: [u8; 256] = [
-    0,
-    0,
-    0,
-    0,
-    0,
-    0,
-    0,
-    0,
-    0,
-    0,
-    0,
-    0,
-    0,
-    0,
-    0,
-    0,
-    0,
-    0,
-    0,
-    0,
-    0,
-    0,
-    0,
-    0,
-    0,
-    0,
-    0,
-    0,
-    0,
-    0,
-    0,
-    0,
-    1,
-    2,
-    1,
-    2,
-    2,
-    2,
-    2,
-    2,
-    1,
-    1,
-    2,
-    2,
-    2,
-    2,
-    2,
-    2,
-    3,
-    3,
-    3,
-    3,
-    3,
-    3,
-    3,
-    3,
-    3,
-    3,
-    2,
-    2,
-    2,
-    2,
-    2,
-    2,
-    2,
-    4,
-    4,
-    4,
-    4,
-    4,
-    4,
-    4,
-    4,
-    4,
-    4,
-    4,
-    4,
-    4,
-    4,
-    4,
-    4,
-    4,
-    4,
-    4,
-    4,
-    4,
-    4,
-    4,
-    4,
-    4,
-    4,
-    1,
-    1,
-    1,
-    2,
-    4,
-    1,
-    4,
-    4,
-    4,
-    4,
-    4,
-    4,
-    4,
-    4,
-    4,
-    4,
-    4,
-    4,
-    4,
-    4,
-    4,
-    4,
-    4,
-    4,
-    4,
-    4,
-    4,
-    4,
-    4,
-    4,
-    4,
-    4,
-    1,
-    2,
-    1,
-    2,
-    0,
-    0,
-    0,
-    0,
-    0,
-    0,
-    0,
-    0,
-    0,
-    0,
-    0,
-    0,
-    0,
-    0,
-    0,
-    0,
-    0,
-    0,
-    0,
-    0,
-    0,
-    0,
-    0,
-    0,
-    0,
-    0,
-    0,
-    0,
-    0,
-    0,
-    0,
-    0,
-    0,
-    0,
-    0,
-    0,
-    0,
-    0,
-    0,
-    0,
-    0,
-    0,
-    0,
-    0,
-    0,
-    0,
-    0,
-    0,
-    0,
-    0,
-    0,
-    0,
-    0,
-    0,
-    0,
-    0,
-    0,
-    0,
-    0,
-    0,
-    0,
-    0,
-    0,
-    0,
-    0,
-    0,
-    0,
-    0,
-    0,
-    0,
-    0,
-    0,
-    0,
-    0,
-    0,
-    0,
-    0,
-    0,
-    0,
-    0,
-    0,
-    0,
-    0,
-    0,
-    0,
-    0,
-    0,
-    0,
-    0,
-    0,
-    0,
-    0,
-    0,
-    0,
-    0,
-    0,
-    0,
-    0,
-    0,
-    0,
-    0,
-    0,
-    0,
-    0,
-    0,
-    0,
-    0,
-    0,
-    0,
-    0,
-    0,
-    0,
-    0,
-    0,
-    0,
-    0,
-    0,
-    0,
-    0,
-    0,
-    0,
-    0,
-    0,
-    0,
-    0,
-    0,
-    0,
-    0,
-    0,
-];
-
-pub fn class(b: u8) -> u8
-    ensures { λ r. ⌜ Classified b r ⌝ }
+// Whether lo <= b <= hi.
+pub fn between(lo: u8, hi: u8, b: u8) -> bool
+    ensures { λ r. ⌜ r ≡ between lo hi b ⌝ }
 {
-    CLASSES[b as usize]
+    if b < lo {
+        return false;
+    }
+    b <= hi
+}
+
+pub fn is_digit(b: u8) -> bool
+    ensures { λ r. ⌜ r ≡ digit b ⌝ }
+{
+    between(b'0', b'9', b)
+}
+
+// A letter or `_`.
+pub fn is_name_start(b: u8) -> bool
+    ensures { λ r. ⌜ r ≡ nameStart b ⌝ }
+{
+    if between(b'a', b'z', b) {
+        return true;
+    }
+    if between(b'A', b'Z', b) {
+        return true;
+    }
+    b == b'_'
+}
+
+// Ranges first: a set of 22 bytes would be looked through one by one.
+pub fn is_punctuation(b: u8) -> bool
+    ensures { λ r. ⌜ r ≡ punctuation b ⌝ }
+{
+    if between(b':', b'@', b) {
+        return true;
+    }
+    if between(b'*', b'/', b) {
+        return true;
+    }
+    if between(b'#', b'\'', b) {
+        return true;
+    }
+    is_one_of(b, b"!^|~")
 }
 
 // Whether b may stand in a name, or else in a literal.
 pub fn in_text(names: bool, b: u8) -> bool
     ensures { λ r. ⌜ r ≡ inText names b ⌝ }
 {
-    let c = class(b);
-    if names { 3 <= c } else { 1 <= c }
+    if names {
+        if is_name_start(b) {
+            return true;
+        }
+        return is_digit(b);
+    }
+    between(b' ', b'~', b)
+}
+
+// The first place from `from` on whose byte may not stand in a name, or else in a literal; past the
+// end where there is none.
+pub fn text_end(s: &[u8], from: usize, names: bool) -> usize
+    ensures { λ r. ⌜ TextEnd (now (s .entry)) names from r ⌝ }
+{
+    let mut i = from;
+    while i < s.len() {
+        if !in_text(names, s[i]) {
+            return i;
+        }
+        i += 1;
+    }
+    i
 }
 
 // Whether each byte from start to end may stand in a name, or else in a literal.
@@ -309,22 +108,43 @@ pub fn is_one_of(b: u8, set: &[u8]) -> bool
     false
 }
 
-// Whether the text from start to end is `name`.
-pub fn text_is(s: &[u8], start: usize, end: usize, name: &[u8]) -> bool
+// Whether the bytes of s from `at` on begin with `name`.
+fn goes_on(s: &[u8], at: usize, name: &[u8]) -> bool
+    requires { ⌜ at + length (now name) ≤ length (now s) ⌝ }
+    ensures { λ r. ⌜ r ≡ same (slice at (at + length (now (name .entry))) (now (s .entry))) (now (name .entry)) ⌝ }
+{
+    let mut i = 0;
+    while i < name.len() {
+        let k = at + i;
+        if s[k] != name[i] {
+            return false;
+        }
+        i += 1;
+    }
+    true
+}
+
+// Whether the text from start to end is `name`, where it is in the list.
+fn text_within(s: &[u8], start: usize, end: usize, name: &[u8]) -> bool
     requires { ⌜ end ≤ length (now s) ⌝ }
     ensures { λ r. ⌜ r ≡ same (slice start end (now (s .entry))) (now (name .entry)) ⌝ }
 {
-    let mut at = start;
-    let mut i = 0;
-    while i < name.len() {
-        if end <= at {
-            return false;
-        }
-        if s[at] != name[i] {
-            return false;
-        }
-        at += 1;
-        i += 1;
+    if end < start {
+        return name.len() == 0;
     }
-    end <= at
+    if end - start != name.len() {
+        return false;
+    }
+    goes_on(s, start, name)
+}
+
+// Whether the text from start to end, or to the list's end, is `name`.
+pub fn text_is(s: &[u8], start: usize, end: usize, name: &[u8]) -> bool
+    ensures { λ r. ⌜ r ≡ same (slice start end (now (s .entry))) (now (name .entry)) ⌝ }
+{
+    let len = s.len();
+    if len < end {
+        return text_within(s, start, len, name);
+    }
+    text_within(s, start, end, name)
 }

@@ -1,118 +1,29 @@
-use Rattle.parse.proofs.Marks as marks
-use Rattle.reading.specs.Took.{took}
-use mathlib.Core.List.{[]}
-use Rattle.parse.proofs.Meeting as meeting
-use Rattle.parse.specs.Contract as contract
-use Rattle.reading.specs.Reading as reading
-use Rattle.token_list.proofs.Texts.{chosen, passed-over, and-last, and-fails}
-use Rattle.token_list.specs.Contract.{InList}
-use borrow.Author.Tests.{eq-eqb, ne-eqb, not-true, not-false}
-use native.Mathlib.Omega.{arith}
-use mathlib.Core.Bool.{true, false}
-use mathlib.Core.Path.{_≡_, refl, sym, _∙_, ap, subst, subst⁻¹}
+use mathlib.Core.Path.{refl, sym, _∙_}
+use borrow.Author.Tests.{not-true}
+use Rattle.parse.specs.Contract.{stream}
+use Rattle.parse.proofs.Looks.{no-attribute}
 use borrow.Author.Needs.{needs}
 use Rattle.parse.proofs.attributes.attribute.Statement.{statement}
 use Rattle.parse.proofs.attributes.attribute.Tie as tie
 
-peek-requires : tie.Need-peek-requires
-peek-requires c κs = search needs
-
-enum-told : tie.Need-enum-told
-enum-told c = search needs
-
-enum-told-2 : tie.Need-enum-told-2
-enum-told-2 c = search needs
-
-enum-known-t : tie.Need-enum-known-t
-enum-known-t c = search needs
-
-is-punct-requires : tie.Need-is-punct-requires
-is-punct-requires c κs = search needs
+stands-punct-requires : tie.Need-stands-punct-requires
+stands-punct-requires c κs = search needs
 
 returns : tie.Need-returns
-returns c = (marks.no-mark _ _ (c .before .before .before .before .before .before .before .before .pre) _ (meeting.peeked _ _ ((c .before .before .before .before .before .peek) .ensures) ((c .before .before .before .t) .given .1)) (meeting.punct-of _ _ _ _ ((meeting.peeked _ _ ((c .before .before .before .before .before .peek) .ensures) ((c .before .before .before .t) .given .1)) .token) ∙ sym ((c .before .is-punct) .ensures) ∙ not-true _ ((c .if1) .taken)), refl)
+returns c =
+    let a = c .before .before .before .before .args in
+    (no-attribute (a .c .row) (stream (a .s .now) (a .c)) (sym (c .before .stands-punct .ensures) ∙ not-true _ (c .if1 .taken)), refl)
 
-past-requires : tie.Need-past-requires
-past-requires c κs = ((c .before .before .before .before .before .before .before .before .pre), (meeting.peeked _ _ ((c .before .before .before .before .before .peek) .ensures) ((c .before .before .before .t) .given .1)) .token)
-
-peek-requires-2 : tie.Need-peek-requires-2
-peek-requires-2 c κs = meeting.past-in-of _ _ _ _ ((c .past) .ensures) (c .before .before .before .before .before .before .before .before .before .pre) ((meeting.peeked _ _ ((c .before .before .before .before .before .before .peek) .ensures) ((c .before .before .before .before .t) .given .1)) .token)
-
-enum-told-3 : tie.Need-enum-told-3
-enum-told-3 c = search needs
-
-enum-known-q : tie.Need-enum-known-q
-enum-known-q c = search needs
-
-is-punct-requires-2 : tie.Need-is-punct-requires-2
-is-punct-requires-2 c κs = search needs
-
-returns-2 : tie.Need-returns-2
-returns-2 c = marks.mark-other _ _ (c .before .before .before .before .before .before .before .before .before .before .before .before .before .before .before .pre) _ (meeting.peeked _ _ ((c .before .before .before .before .before .before .before .before .before .before .before .before .peek) .ensures) ((c .before .before .before .before .before .before .before .before .before .before .t) .given .1)) (meeting.punct-of _ _ _ _ ((meeting.peeked _ _ ((c .before .before .before .before .before .before .before .before .before .before .before .before .peek) .ensures) ((c .before .before .before .before .before .before .before .before .before .before .t) .given .1)) .token) ∙ sym ((c .before .before .before .before .before .before .before .before .is-punct) .ensures) ∙ not-false _ ((c .before .before .before .before .before .before .before .if1) .left)) _ ((c .before .before .before .before .before .before .past) .ensures) _ (meeting.peeked _ _ ((c .before .before .before .before .before .peek2) .ensures) ((c .before .before .before .q) .given .1)) (meeting.punct-of _ _ _ _ ((meeting.peeked _ _ ((c .before .before .before .before .before .peek2) .ensures) ((c .before .before .before .q) .given .1)) .token) ∙ sym ((c .before .is-punct2) .ensures) ∙ not-true _ ((c .if2) .taken))
-
-mark-requires : tie.Need-mark-requires
-mark-requires c κs = search needs
-
-enum-known-g : tie.Need-enum-known-g
-enum-known-g c = search needs
-
-returns-3 : tie.Need-returns-3
-returns-3 c = marks.mark-wrong _ _ (c .before .before .before .before .before .before .before .before .before .before .before .before .before .before .before .pre) _ (meeting.peeked _ _ ((c .before .before .before .before .before .before .before .before .before .before .before .before .peek) .ensures) ((c .before .before .before .before .before .before .before .before .before .before .t) .given .1)) (meeting.punct-of _ _ _ _ ((meeting.peeked _ _ ((c .before .before .before .before .before .before .before .before .before .before .before .before .peek) .ensures) ((c .before .before .before .before .before .before .before .before .before .before .t) .given .1)) .token) ∙ sym ((c .before .before .before .before .before .before .before .before .is-punct) .ensures) ∙ not-false _ ((c .before .before .before .before .before .before .before .if1) .left)) _ ((c .before .before .before .before .before .before .past) .ensures) _ (meeting.past-in-of _ _ _ _ ((c .before .before .before .before .before .before .past) .ensures) (c .before .before .before .before .before .before .before .before .before .before .before .before .before .before .before .pre) ((meeting.peeked _ _ ((c .before .before .before .before .before .before .before .before .before .before .before .before .peek) .ensures) ((c .before .before .before .before .before .before .before .before .before .before .t) .given .1)) .token)) (meeting.peeked _ _ ((c .before .before .before .before .before .peek2) .ensures) ((c .before .before .before .g) .given .1)) ((c .if3) .taken)
-
-mark-requires-2 : tie.Need-mark-requires-2
-mark-requires-2 c κs = search needs
-
-take-group-requires : tie.Need-take-group-requires
-take-group-requires c κs = (meeting.past-in-of _ _ _ _ ((c .before .before .before .before .before .before .before .before .before .before .before .past) .ensures) (c .before .before .before .before .before .before .before .before .before .before .before .before .before .before .before .before .before .before .before .before .pre) ((meeting.peeked _ _ ((c .before .before .before .before .before .before .before .before .before .before .before .before .before .before .before .before .before .peek) .ensures) ((c .before .before .before .before .before .before .before .before .before .before .before .before .before .before .before .t) .given .1)) .token), (meeting.peeked _ _ ((c .before .before .before .before .before .before .before .before .before .before .peek2) .ensures) ((c .before .before .before .before .before .before .before .before .g) .given .1)))
-
-returns-4 : tie.Need-returns-4
-returns-4 c = (ap (reading.attributes _) (meeting.peeked _ _ ((c .before .before .peek) .ensures) ((c .enum-told) .given .1)) ∙ ap (took tt []) (sym (meeting.peeked _ _ ((c .before .before .peek) .ensures) ((c .enum-told) .given .1))), refl)
-
-returns-5 : tie.Need-returns-5
-returns-5 c =
-    let g = (meeting.peeked _ _ ((c .before .before .peek) .ensures) ((c .enum-told2) .given .1)) in
-    (ap (reading.attributes _) (g .here) ∙ ap (took tt []) (sym (g .here)), refl)
-
-returns-6 : tie.Need-returns-6
-returns-6 c = marks.mark-end _ _ (c .before .before .before .before .before .before .before .before .before .before .before .before .pre) _ (meeting.peeked _ _ ((c .before .before .before .before .before .before .before .before .before .peek) .ensures) ((c .before .before .before .before .before .before .before .t) .given .1)) (meeting.punct-of _ _ _ _ ((meeting.peeked _ _ ((c .before .before .before .before .before .before .before .before .before .peek) .ensures) ((c .before .before .before .before .before .before .before .t) .given .1)) .token) ∙ sym ((c .before .before .before .before .before .is-punct) .ensures) ∙ not-false _ ((c .before .before .before .before .if1) .left)) _ ((c .before .before .before .past) .ensures) (meeting.peeked _ _ ((c .before .before .peek2) .ensures) ((c .enum-told3) .given .1))
+marked-attribute-requires : tie.Need-marked-attribute-requires
+marked-attribute-requires c κs = search needs
 
 same-length : tie.Need-same-length
-same-length c = (c .before .before .mark) .kept .0
+same-length c = search needs
 
-returns-7 : tie.Need-returns-7
-returns-7 c = marks.mark-idle _ _ (c .before .before .before .before .before .before .before .before .before .before .before .before .before .before .before .before .before .before .before .pre) _ (meeting.peeked _ _ ((c .before .before .before .before .before .before .before .before .before .before .before .before .before .before .before .before .peek) .ensures) ((c .before .before .before .before .before .before .before .before .before .before .before .before .before .before .t) .given .1)) (meeting.punct-of _ _ _ _ ((meeting.peeked _ _ ((c .before .before .before .before .before .before .before .before .before .before .before .before .before .before .before .before .peek) .ensures) ((c .before .before .before .before .before .before .before .before .before .before .before .before .before .before .t) .given .1)) .token) ∙ sym ((c .before .before .before .before .before .before .before .before .before .before .before .before .is-punct) .ensures) ∙ not-false _ ((c .before .before .before .before .before .before .before .before .before .before .before .if1) .left)) _ ((c .before .before .before .before .before .before .before .before .before .before .past) .ensures) _ (meeting.peeked _ _ ((c .before .before .before .before .before .before .before .before .before .peek2) .ensures) ((c .before .before .before .before .before .before .before .q) .given .1)) _ _ ((c .before .before .mark) .ensures) (meeting.punct-of _ _ _ _ ((meeting.peeked _ _ ((c .before .before .before .before .before .before .before .before .before .peek2) .ensures) ((c .before .before .before .before .before .before .before .q) .given .1)) .token) ∙ sym ((c .before .before .before .before .before .is-punct2) .ensures) ∙ not-false _ ((c .before .before .before .before .if2) .left))
-
-same-length-2 : tie.Need-same-length-2
-same-length-2 c = (c .before .before .take-group) .kept .1 .1 .1 .0 ∙ (c .before .before .before .before .before .before .mark2) .kept .0
-
-returns-8 : tie.Need-returns-8
-returns-8 c = marks.mark-group _ _ (c .before .before .before .before .before .before .before .before .before .before .before .before .before .before .before .before .before .before .before .before .before .before .before .pre) _ (meeting.peeked _ _ ((c .before .before .before .before .before .before .before .before .before .before .before .before .before .before .before .before .before .before .before .before .peek) .ensures) ((c .before .before .before .before .before .before .before .before .before .before .before .before .before .before .before .before .before .before .t) .given .1)) (meeting.punct-of _ _ _ _ ((meeting.peeked _ _ ((c .before .before .before .before .before .before .before .before .before .before .before .before .before .before .before .before .before .before .before .before .peek) .ensures) ((c .before .before .before .before .before .before .before .before .before .before .before .before .before .before .before .before .before .before .t) .given .1)) .token) ∙ sym ((c .before .before .before .before .before .before .before .before .before .before .before .before .before .before .before .before .is-punct) .ensures) ∙ not-false _ ((c .before .before .before .before .before .before .before .before .before .before .before .before .before .before .before .if1) .left)) _ ((c .before .before .before .before .before .before .before .before .before .before .before .before .before .before .past) .ensures) _ (meeting.past-in-of _ _ _ _ ((c .before .before .before .before .before .before .before .before .before .before .before .before .before .before .past) .ensures) (c .before .before .before .before .before .before .before .before .before .before .before .before .before .before .before .before .before .before .before .before .before .before .before .pre) ((meeting.peeked _ _ ((c .before .before .before .before .before .before .before .before .before .before .before .before .before .before .before .before .before .before .before .before .peek) .ensures) ((c .before .before .before .before .before .before .before .before .before .before .before .before .before .before .before .before .before .before .t) .given .1)) .token)) (meeting.peeked _ _ ((c .before .before .before .before .before .before .before .before .before .before .before .before .before .peek2) .ensures) ((c .before .before .before .before .before .before .before .before .before .before .before .g) .given .1)) _ _ _ _ ((c .before .before .before .before .before .before .before .before .if3) .left) ((c .before .before .before .before .before .before .mark2) .ensures) ((c .before .before .take-group) .ensures)
+returns-2 : tie.Need-returns-2
+returns-2 c = search needs
 
 pub attribute-spec : {M : Type 1} → statement M
 attribute-spec =
     tie.close
-    (tie.spec
-    peek-requires
-    enum-told
-    enum-told-2
-    enum-known-t
-    is-punct-requires
-    returns
-    past-requires
-    peek-requires-2
-    enum-told-3
-    enum-known-q
-    is-punct-requires-2
-    returns-2
-    mark-requires
-    enum-known-g
-    returns-3
-    mark-requires-2
-    take-group-requires
-    returns-4
-    returns-5
-    returns-6
-    same-length
-    returns-7
-    same-length-2
-    returns-8)
+    (tie.spec stands-punct-requires returns marked-attribute-requires same-length returns-2)

@@ -29,7 +29,7 @@ slice-aggregate-text-is : tie.Need-slice-aggregate-text-is
 slice-aggregate-text-is c = search needs
 
 text-is-requires : tie.Need-text-is-requires
-text-is-requires c κs = meeting.word-within _ (meeting.say-word ((c .before .before .before .before .w) .given .1) ((c .before .before .before .before .before .before .before .before .consume-ident) .ensures))
+text-is-requires c κs = search needs
 
 same-length : tie.Need-same-length
 same-length c = search needs
@@ -41,7 +41,7 @@ slice-aggregate-text-is-2 : tie.Need-slice-aggregate-text-is-2
 slice-aggregate-text-is-2 c = search needs
 
 text-is-requires-2 : tie.Need-text-is-requires-2
-text-is-requires-2 c κs = meeting.word-within _ (meeting.say-word ((c .before .before .before .before .before .before .before .w) .given .1) ((c .before .before .before .before .before .before .before .before .before .before .before .consume-ident) .ensures))
+text-is-requires-2 c κs = search needs
 
 same-length-2 : tie.Need-same-length-2
 same-length-2 c = search needs

@@ -1,3 +1,4 @@
+use Rattle.token_list.proofs.Streams.{skipped-open}
 use Rattle.parse.specs.Contract.{stream}
 use Rattle.token_list.specs.declared.check.Cursor.{Cursor}
 use Rattle.token_list.specs.Contract.{Skipped}
@@ -49,7 +50,7 @@ enum-told-5 c = search needs
 skip-requires : tie.Need-skip-requires
 skip-requires c κs =
     let l = meeting.peeked _ _ (c .before .before .before .before .before .before .before .before .before .peek .ensures) (c .before .before .before .before .before .before .before .t .given .1) in
-    (meeting.past-in-of _ _ _ _ (c .before .before .before .past .ensures) (c .before .before .before .before .before .before .before .before .before .before .before .pre .0) (l .token), subst⁻¹ (λ (d : Cursor). follows (at (c .before .before .before .before .before .before .before .before .before .before .before .args .s .now) (d .at) .outer) ≡ true) (c .before .before .before .past .ensures) (ap follows (sym (l .outer)) ∙ c .before .before .before .before .before .before .before .before .before .before .before .pre .1))
+    meeting.past-in-of _ _ _ _ (c .before .before .before .past .ensures) (c .before .before .before .before .before .before .before .before .before .before .before .pre .0) (l .token)
 
 returns-2 : tie.Need-returns-2
 returns-2 c = ap (reading.lone reading.isIdent) (meeting.peeked _ _ (c .before .before .peek .ensures) (c .enum-told .given .1))
@@ -73,12 +74,14 @@ returns-6 : tie.Need-returns-6
 returns-6 c =
     let l = meeting.peeked _ _ (c .before .before .before .before .before .before .before .before .before .before .peek .ensures) (c .before .before .before .before .before .before .before .before .t .given .1) in
     let n = meeting.peeked _ _ (c .before .before .before .peek2 .ensures) (c .before .enum-told5 .given .1) in
-    let a = c .before .before .before .before .before .before .before .before .before .before .before .before .args in (
+    let a = c .before .before .before .before .before .before .before .before .before .before .before .before .args in
+    let p = c .before .before .before .before .past in
+    let within-group = subst⁻¹ (λ (d : Cursor). follows (at (a .s .now) (d .at) .outer) ≡ true) (p .ensures) (ap follows (sym (l .outer)) ∙ c .before .before .before .before .before .before .before .before .before .before .before .before .pre .1) in (
       ap (reading.lone reading.isIdent) (meeting.leaf-then _ _ _ _ _ l (c .before .before .before .before .past .ensures) n) ∙ eq-eqb _ _ (c .before .before .before .before .before .if1 .left),
       record { bytes = ap reading.textOf (l .here); within = meeting.token-within _ _ _ (l .token) },
       c .before .before .before .before .before .if1 .left,
       refl,
-      meeting.leaf-skipped (a .s .now) (a .inside) (c .skip .result) (c .before .before .before .before .before .before .before .before .t .given .0 .0) l (subst (λ (x : Cursor). Skipped (a .s .now) x (c .skip .result)) (c .before .before .before .before .past .ensures) (c .skip .ensures)),
+      meeting.leaf-skipped (a .s .now) (a .inside) (c .skip .result) (c .before .before .before .before .before .before .before .before .t .given .0 .0) l (subst (λ (x : Cursor). Skipped (a .s .now) x (c .skip .result)) (p .ensures) (skipped-open (a .s .now) (p .result) (c .skip .result) within-group (c .skip .ensures))),
     )
 
 pub lone-ident-spec : {M : Type 1} → statement M

@@ -2,6 +2,7 @@ use Rattle.parse.specs.Contract.{Moved}
 use Rattle.token_list.specs.declared.check.Cursor.{Cursor}
 use Rattle.token_list.specs.Contract.{Skipped}
 use Rattle.token_list.specs.Stream.{at, head}
+use Rattle.token_list.proofs.Streams.{skipped-open}
 use Rattle.parse.proofs.Meeting as meeting
 use Rattle.reading.specs.Reading as reading
 use Rattle.token_list.proofs.Texts.{chosen, passed-over, and-last, and-fails}
@@ -20,7 +21,7 @@ past-requires c κs = (c .before .before .pre .0, c .before .before .pre .1 .tok
 skip-requires : tie.Need-skip-requires
 skip-requires c κs =
     let a = c .before .before .before .args in
-    (meeting.past-in-of (a .s .now) (a .c) (c .past .result) (a .t) (c .past .ensures) (c .before .before .before .pre .0) (c .before .before .before .pre .1 .token), meeting.follows-of (a .s .now) (a .c) (c .past .result) (a .t) (c .past .ensures) (c .before .before .before .pre .0) (c .before .before .before .pre .1))
+    meeting.past-in-of (a .s .now) (a .c) (c .past .result) (a .t) (c .past .ensures) (c .before .before .before .pre .0) (c .before .before .before .pre .1 .token)
 
 fill-requires : tie.Need-fill-requires
 fill-requires c κs = search needs
@@ -32,7 +33,9 @@ returns : tie.Need-returns
 returns c =
     let a = c .before .before .before .before .before .before .before .before .args in
     let d = c .before .before .before .before .skip .result in
-    let k = subst (λ (x : Cursor). Skipped (a .s .now) x d) (c .before .before .before .before .before .past .ensures) (c .before .before .before .before .skip .ensures) in
+    let p = c .before .before .before .before .before .past in
+    let within-group = meeting.follows-of (a .s .now) (a .c) (p .result) (a .t) (p .ensures) (c .before .before .before .before .before .before .before .before .pre .0) (c .before .before .before .before .before .before .before .before .pre .1) in
+    let k = subst (λ (x : Cursor). Skipped (a .s .now) x d) (p .ensures) (skipped-open (a .s .now) (p .result) d within-group (c .before .before .before .before .skip .ensures)) in
     subst⁻¹ (λ b. Moved (a .s .now) (a .c) d (reading.copied (a .role) (at (a .s .now) (a .t .next) .here)) (head (at (a .s .now) (a .t .next) .outer)) (a .roles .now) b) (c .before .before .fill .ensures) (meeting.group-moved (a .s .now) (a .c) (a .t) (c .before .before .before .before .before .before .before .before .pre .0) (a .roles .now) (a .role) d (c .before .before .before .before .before .before .before .before .pre .1) k)
 
 pub take-group-spec : {M : Type 1} → statement M

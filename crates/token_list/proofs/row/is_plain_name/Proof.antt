@@ -1,4 +1,4 @@
-use borrow.Author.Tests.{le-leb, lt-leb}
+use borrow.Author.Tests.{not-true, not-false}
 use Rattle.token_list.proofs.Texts.{slice-none, slice-next, and-last, and-fails}
 use Rattle.token_list.specs.Text.{plainName}
 use mathlib.Core.Path.{_≡_, sym, _∙_, ap}
@@ -12,16 +12,16 @@ returns c =
     let a = c .before .before .args in
     sym (ap plainName (slice-none (a .s .now) (a .start) (a .end) (omega arith)))
 
-shared-slice-read-class : tie.Need-shared-slice-read-class
-shared-slice-read-class c = search needs
+shared-slice-read-is-name-start : tie.Need-shared-slice-read-is-name-start
+shared-slice-read-is-name-start c = search needs
 
-class-requires : tie.Need-class-requires
-class-requires c κs = search needs
+is-name-start-requires : tie.Need-is-name-start-requires
+is-name-start-requires c κs = search needs
 
 returns-2 : tie.Need-returns-2
 returns-2 c =
     let a = c .before .before .before .before .before .args in
-    sym (ap plainName (slice-next (a .s .now) (a .start) (a .end) (omega arith) (omega arith)) ∙ and-fails _ _ (sym (c .before .class .ensures .start) ∙ lt-leb _ _ (c .if2 .taken)))
+    sym (ap plainName (slice-next (a .s .now) (a .start) (a .end) (omega arith) (omega arith)) ∙ and-fails _ _ (sym (c .before .is-name-start .ensures) ∙ not-true _ (c .if2 .taken)))
 
 add-second : tie.Need-add-second
 add-second c = search needs
@@ -32,15 +32,15 @@ all-fit-requires c κs = search needs
 returns-3 : tie.Need-returns-3
 returns-3 c =
     let a = c .before .before .before .before .before .before .args in
-    c .all-fit .ensures ∙ sym (ap plainName (slice-next (a .s .now) (a .start) (a .end) (omega arith) (omega arith)) ∙ and-last _ _ (sym (c .before .before .class .ensures .start) ∙ le-leb _ _ (c .before .if2 .left)))
+    c .all-fit .ensures ∙ sym (ap plainName (slice-next (a .s .now) (a .start) (a .end) (omega arith) (omega arith)) ∙ and-last _ _ (sym (c .before .before .is-name-start .ensures) ∙ not-false _ (c .before .if2 .left)))
 
 pub is-plain-name-spec : {M : Type 1} → statement M
 is-plain-name-spec =
     tie.close
     (tie.spec
     returns
-    shared-slice-read-class
-    class-requires
+    shared-slice-read-is-name-start
+    is-name-start-requires
     returns-2
     add-second
     all-fit-requires

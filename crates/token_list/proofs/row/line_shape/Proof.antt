@@ -1,92 +1,106 @@
-use Rattle.token_list.proofs.Forms.{form-short, form-space, form-long, form-right}
-use Rattle.token_list.specs.declared.row.Line.{Line}
-use Rattle.token_list.specs.Row.{wrong, lines}
-use Rattle.token_list.specs.Contract.{formed, Shaped, LineEnd, shape}
-use lib.Seq.{slice}
-use lib.ListN.{length, drop}
-use native.Mathlib.Omega.{arith}
-use Prim.Native.Nat.{ℕ, _<_, _≤_}
-use mathlib.Core.List.{List}
 use mathlib.Core.Path.{_≡_, refl, sym, _∙_, ap}
+use mathlib.Core.Bool.{true, false≢true}
+use native.Mathlib.Omega.{arith}
+use Rattle.token_list.specs.Row.{Form, wrong}
+use Rattle.token_list.specs.Check.{isRow}
+use Rattle.token_list.specs.Contract.{shape}
+use Rattle.token_list.specs.declared.row.Shape.{Shape}
+use Rattle.token_list.proofs.Forms.{one-byte-parts, quick-byte}
 use borrow.Author.Needs.{needs}
 use Rattle.token_list.proofs.row.line_shape.Statement.{statement}
 use Rattle.token_list.proofs.row.line_shape.Tie as tie
 
-no-row : (s : List ℕ) (at : ℕ) (r : Line) → shape (r .shape) ≡ wrong → formed (lines (drop at s)) ≡ wrong → Shaped s at r
-no-row s at r e q = record { right = e ∙ sym q; past = λ h. absurd (h e); rest = λ h. absurd (h e) }
+-- a row's form is not wrong
+told : (f : Form) → isRow f ≡ true → f ≡ wrong → ⊥
+told f r e = false≢true (sym (ap isRow e) ∙ r)
 
-line-end-requires : tie.Need-line-end-requires
-line-end-requires c κs = search needs
+one-byte-requires : tie.Need-one-byte-requires
+one-byte-requires c κs = search needs
+
+add-start : tie.Need-add-start
+add-start c =
+    let a = c .before .before .before .args in
+    let p = one-byte-parts (a .s .now) (a .at) (sym (c .before .one-byte .ensures) ∙ c .if1 .taken) in
+    omega (arith, p .0, c .before .before .before .good)
+
+add-next : tie.Need-add-next
+add-next c =
+    let a = c .before .before .before .args in
+    let p = one-byte-parts (a .s .now) (a .at) (sym (c .before .one-byte .ensures) ∙ c .if1 .taken) in
+    omega (arith, p .0, c .before .before .before .good)
+
+shared-slice-read-byte-shape : tie.Need-shared-slice-read-byte-shape
+shared-slice-read-byte-shape c =
+    let d = c .before in
+    let a = d .before .before .before .args in
+    let p = one-byte-parts (a .s .now) (a .at) (sym (d .before .one-byte .ensures) ∙ d .if1 .taken) in
+    omega (arith, p .0)
+
+shared-slice-read-byte-shape-2 : tie.Need-shared-slice-read-byte-shape-2
+shared-slice-read-byte-shape-2 c =
+    let d = c .before .before in
+    let a = d .before .before .before .args in
+    let p = one-byte-parts (a .s .now) (a .at) (sym (d .before .one-byte .ensures) ∙ d .if1 .taken) in
+    omega (arith, p .0)
+
+byte-shape-requires : tie.Need-byte-shape-requires
+byte-shape-requires c κs = search needs
 
 returns : tie.Need-returns
 returns c =
-    let l = c .before .line-end in
-    no-row _ _ _ refl (ap formed (l .ensures .none (omega arith)))
+    let d = c .before .before .before in
+    let a = d .before .before .before .args in
+    let p = one-byte-parts (a .s .now) (a .at) (sym (d .before .one-byte .ensures) ∙ d .if1 .taken) in
+    quick-byte (a .s .now) (a .at) _ (p .1) (p .0) (p .2) refl (c .byte-shape .ensures)
 
-add-next : tie.Need-add-next
-add-next c = search needs
+quick-token-requires : tie.Need-quick-token-requires
+quick-token-requires c κs = search needs
 
-sub-if2 : tie.Need-sub-if2
-sub-if2 c = search needs
+enum-told : tie.Need-enum-told
+enum-told c = search needs
+
+enum-told-2 : tie.Need-enum-told-2
+enum-told-2 c = search needs
+
+enum-told-3 : tie.Need-enum-told-3
+enum-told-3 c = search needs
+
+enum-told-4 : tie.Need-enum-told-4
+enum-told-4 c = search needs
+
+whole-shape-requires : tie.Need-whole-shape-requires
+whole-shape-requires c κs = sym (c .before .before .before .before .one-byte .ensures) ∙ c .before .before .before .if1 .left
 
 returns-2 : tie.Need-returns-2
-returns-2 c =
-    let l = c .before .before .line-end in
-    let a = c .before .before .before .before .args in
-    no-row _ _ _ refl (ap formed (l .ensures .found (omega arith)) ∙ form-short (a .s .now) (a .at) (l .result) (omega arith) (omega arith) (omega arith))
-
-add-space : tie.Need-add-space
-add-space c = search needs
-
-add-start : tie.Need-add-start
-add-start c = search needs
-
-shared-slice-read-if3 : tie.Need-shared-slice-read-if3
-shared-slice-read-if3 c = search needs
+returns-2 c = c .before .before .quick-token .ensures (told _ (ap (λ (x : Shape). isRow (shape x)) (c .enum-told .given .1)))
 
 returns-3 : tie.Need-returns-3
-returns-3 c =
-    let l = c .before .before .before .before .line-end in
-    let a = c .before .before .before .before .before .before .args in
-    no-row _ _ _ refl (ap formed (l .ensures .found (omega arith)) ∙ form-space (a .s .now) (a .at) (l .result) (omega arith) (omega arith) (c .if3 .taken))
-
-sub-if4 : tie.Need-sub-if4
-sub-if4 c = search needs
+returns-3 c = c .before .before .quick-token .ensures (told _ (ap (λ (x : Shape). isRow (shape x)) (c .enum-told2 .given .1)))
 
 returns-4 : tie.Need-returns-4
-returns-4 c =
-    let l = c .before .before .before .before .before .line-end in
-    let a = c .before .before .before .before .before .before .before .args in
-    no-row _ _ _ refl (ap formed (l .ensures .found (omega arith)) ∙ form-long (a .s .now) (a .at) (l .result) (omega arith) (omega arith) (c .before .if3 .left) (omega arith))
-
-shared-slice-read-kind : tie.Need-shared-slice-read-kind
-shared-slice-read-kind c = search needs
-
-text-shape-requires : tie.Need-text-shape-requires
-text-shape-requires c κs = search needs
+returns-4 c = c .before .before .quick-token .ensures (told _ (ap (λ (x : Shape). isRow (shape x)) (c .enum-told3 .given .1)))
 
 returns-5 : tie.Need-returns-5
-returns-5 c =
-    let l = c .before .before .before .before .before .before .before .line-end in
-    let a = c .before .before .before .before .before .before .before .before .before .args in
-    let f = l .ensures .found (omega arith) in
-    record { right = c .text-shape .ensures ∙ sym (ap formed f ∙ form-right (a .s .now) (a .at) (l .result) (omega arith) (omega arith) (c .before .before .before .if3 .left) (omega arith)); past = λ h. (omega arith, omega arith); rest = λ h. (slice (a .at) (l .result) (a .s .now), f) }
+returns-5 c = search needs
 
 pub line-shape-spec : {M : Type 1} → statement M
 line-shape-spec =
     tie.close
     (tie.spec
-    line-end-requires
-    returns
-    add-next
-    sub-if2
-    returns-2
-    add-space
+    one-byte-requires
     add-start
-    shared-slice-read-if3
+    add-next
+    shared-slice-read-byte-shape
+    shared-slice-read-byte-shape-2
+    byte-shape-requires
+    returns
+    quick-token-requires
+    enum-told
+    enum-told-2
+    enum-told-3
+    enum-told-4
+    whole-shape-requires
+    returns-2
     returns-3
-    sub-if4
     returns-4
-    shared-slice-read-kind
-    text-shape-requires
     returns-5)

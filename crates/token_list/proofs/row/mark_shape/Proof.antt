@@ -5,14 +5,14 @@ use borrow.Author.Needs.{needs}
 use Rattle.token_list.proofs.row.mark_shape.Statement.{statement}
 use Rattle.token_list.proofs.row.mark_shape.Tie as tie
 
-class-requires : tie.Need-class-requires
-class-requires c κs = search needs
+is-punctuation-requires : tie.Need-is-punctuation-requires
+is-punctuation-requires c κs = search needs
 
 returns : tie.Need-returns
-returns c = sym (chosen _ _ _ (eq-eqb _ _ (c .before .before .if1 .taken)) ∙ chosen _ _ _ (sym (c .before .class .ensures .mark) ∙ eq-eqb _ _ (c .if2 .taken)))
+returns c = sym (chosen _ _ _ (eq-eqb _ _ (c .before .before .if1 .taken)) ∙ chosen _ _ _ (sym (c .before .is-punctuation .ensures) ∙ c .if2 .taken))
 
 returns-2 : tie.Need-returns-2
-returns-2 c = sym (chosen _ _ _ (eq-eqb _ _ (c .before .before .if1 .taken)) ∙ passed-over _ _ _ (sym (c .before .class .ensures .mark) ∙ ne-eqb _ _ (c .if2 .left)))
+returns-2 c = sym (chosen _ _ _ (eq-eqb _ _ (c .before .before .if1 .taken)) ∙ passed-over _ _ _ (sym (c .before .is-punctuation .ensures) ∙ c .if2 .left))
 
 slice-aggregate-is-one-of : tie.Need-slice-aggregate-is-one-of
 slice-aggregate-is-one-of c = search needs
@@ -53,7 +53,7 @@ pub mark-shape-spec : {M : Type 1} → statement M
 mark-shape-spec =
     tie.close
     (tie.spec
-    class-requires
+    is-punctuation-requires
     returns
     returns-2
     slice-aggregate-is-one-of

@@ -1,7 +1,6 @@
-use Rattle.token_list.proofs.Forms.{ident-form, literal-form, mark-form}
-use Rattle.token_list.proofs.Texts.{chosen, passed-over}
-use Rattle.token_list.specs.Contract.{markForm}
-use mathlib.Core.Path.{_≡_, sym, _∙_, ap}
+use Rattle.token_list.proofs.Forms.{ident-form, literal-form, mark-wrong}
+use Rattle.token_list.proofs.Texts.{chosen, passed-over, not-one}
+use mathlib.Core.Path.{sym, _∙_}
 use borrow.Author.Needs.{needs}
 use Rattle.token_list.proofs.row.text_shape.Statement.{statement}
 use Rattle.token_list.proofs.row.text_shape.Tie as tie
@@ -24,25 +23,12 @@ returns-3 c = sym (literal-form _ _ (c .before .before .if3 .taken) ∙ chosen _
 returns-4 : tie.Need-returns-4
 returns-4 c = sym (literal-form _ _ (c .before .before .if3 .taken) ∙ passed-over _ _ _ (sym (c .before .is-literal .ensures) ∙ c .if4 .left))
 
-only-requires : tie.Need-only-requires
-only-requires c κs = search needs
-
-mark-shape-requires : tie.Need-mark-shape-requires
-mark-shape-requires c κs = search needs
-
 returns-5 : tie.Need-returns-5
-returns-5 c = c .mark-shape .ensures ∙ ap (markForm (c .before .before .before .before .before .args .kind)) (c .before .only .ensures) ∙ sym (mark-form _ _ (c .before .before .before .if1 .left) (c .before .before .if3 .left))
+returns-5 c =
+    let a = c .before .before .before .args in
+    sym (mark-wrong (a .kind) _ (c .before .if1 .left) (c .if3 .left) (not-one (a .s .now) (a .start) (a .end) (c .before .before .before .pre .0) (c .before .before .before .pre .1)))
 
 pub text-shape-spec : {M : Type 1} → statement M
 text-shape-spec =
     tie.close
-    (tie.spec
-    is-name-requires
-    returns
-    returns-2
-    is-literal-requires
-    returns-3
-    returns-4
-    only-requires
-    mark-shape-requires
-    returns-5)
+    (tie.spec is-name-requires returns returns-2 is-literal-requires returns-3 returns-4 returns-5)

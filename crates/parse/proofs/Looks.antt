@@ -1,0 +1,54 @@
+-- What a look at the first row tells of a reading.
+use mathlib.Core.Path.{_≡_, refl, sym}
+use mathlib.Core.Bool.{Bool, true, false, _&&_}
+use mathlib.Core.List.{List, [], _∷_}
+use Prim.Native.Nat.{ℕ}
+use borrow.Author.Tests.{ne-eqb}
+use lib.Dec.{eqb}
+use Rattle.token_list.specs.Text.{same}
+use Rattle.token_list.specs.Row.{first}
+use Rattle.token_list.specs.Stream.{Trees, end, leaf, group, firstKind, firstMark}
+use Rattle.token_list.proofs.Texts.{passed-over, and-fails}
+use Rattle.reading.specs.Took.{took}
+use Rattle.reading.specs.Token.{starts}
+use Rattle.reading.specs.Reading.{isPunct, isWord, isIdent, PUB, punctIf, attributes, visibility, tupleField, tupleType, variant, variantHere}
+
+pub starts-punct : (b : ℕ) (ts : Trees) → (eqb (firstKind ts) 112 && eqb (firstMark ts) b) ≡ starts (isPunct b) ts
+starts-punct b end = refl
+starts-punct b (leaf r us) = refl
+starts-punct b (group d ts us) = refl
+
+pub no-punct : (b n row : ℕ) (ts : Trees) → starts (isPunct b) ts ≡ false → punctIf b n row ts ≡ took false [] ts
+no-punct b n row end e = refl
+no-punct b n row (leaf r us) e = passed-over _ _ _ e
+no-punct b n row (group d ts us) e = refl
+
+pub no-attribute : (row : ℕ) (ts : Trees) → starts (isPunct 35) ts ≡ false → attributes row ts ≡ took tt [] ts
+no-attribute row end e = refl
+no-attribute row (leaf r us) e = passed-over _ _ _ e
+no-attribute row (group d ts us) e = refl
+
+-- a text that does not begin with `p`
+no-pub : (t : List ℕ) → (first t ≡ 112 → ⊥) → same t PUB ≡ false
+no-pub [] n = refl
+no-pub (b ∷ t) n = and-fails _ _ (ne-eqb b 112 n)
+
+last-fails : (a b : Bool) → b ≡ false → (a && b) ≡ false
+last-fails true b e = e
+last-fails false b e = refl
+
+pub no-visibility : (row : ℕ) (ts : Trees) → (firstKind ts ≡ 111 → ⊥) → (firstMark ts ≡ 112 → ⊥) → visibility row ts ≡ took tt [] ts
+no-visibility row end k m = refl
+no-visibility row (leaf r us) k m = passed-over _ _ _ (last-fails (isIdent r) _ (no-pub (r .text) m))
+no-visibility row (group d ts us) k m = absurd (k refl)
+
+-- readers that ask first whether anything stands there
+pub as-type : (row : ℕ) (ts : Trees) → (ts ≡ end → ⊥) → tupleField row ts ≡ tupleType row ts
+as-type row end n = absurd (n refl)
+as-type row (leaf r us) n = refl
+as-type row (group d ts us) n = refl
+
+pub as-variant : (row : ℕ) (ts : Trees) → (ts ≡ end → ⊥) → variant row ts ≡ variantHere row ts
+as-variant row end n = absurd (n refl)
+as-variant row (leaf r us) n = refl
+as-variant row (group d ts us) n = refl
