@@ -1,6 +1,7 @@
 //! How long reading takes: nanoseconds a row on several inputs, beside virtue's `Parse::new` from ready tokens and beside one
 //! pass over the list's bytes that only counts LFs, and the growth from a quarter of the rows. Every ratio is of two times
 //! measured in this one run. Built by oracle/speed.sh.
+//! usage: speed [ours NAME [TIMES]]: all of it, or our reader alone on one input (100 times), for a count of instructions.
 extern crate proc_macro2 as proc_macro;
 
 include!("virtue.rs");
@@ -208,7 +209,7 @@ fn pass(input: &[List], count: fn(&[u8]) -> usize) -> f64 {
     least(|| (), |()| all()).0 / passes as f64
 }
 
-fn main() {
+fn table() {
     // After so large a block the allocator keeps its pages: else virtue's time would have the system's in it.
     drop(black_box(vec![0u8; 16 << 20]));
     let inputs = inputs();
@@ -251,4 +252,22 @@ fn main() {
     for ((name, _), [short, long]) in SIZED.iter().zip(times) {
         println!("{name} {:.2}", long / short);
     }
+}
+
+fn main() {
+    let words: Vec<String> = std::env::args().skip(1).collect();
+    let words: Vec<&str> = words.iter().map(String::as_str).collect();
+    let (name, times) = match words[..] {
+        [] => return table(),
+        ["ours", name] => (name, 100),
+        ["ours", name, times] => (name, times.parse().expect("TIMES is a number")),
+        _ => panic!("usage: speed [ours NAME [TIMES]]"),
+    };
+    let found = inputs().into_iter().find(|(input, _)| *input == name);
+    let (_, input) = found.unwrap_or_else(|| panic!("there is no input {name}"));
+    let mut roles = [0u8; MOST_ROWS];
+    for _ in 0..times {
+        ours(&input, &mut roles, a_byte_a_row);
+    }
+    println!("{name}: {} rows read", times * input.iter().map(a_byte_a_row).sum::<usize>());
 }
