@@ -1,6 +1,7 @@
 #!/bin/sh
-# speed.sh: how long the reader takes, beside virtue's parser on the same lists. It needs Debian's librust-proc-macro2-dev, so
-# that virtue's parser runs outside the compiler; CARGO_REGISTRY names the folder with that package's sources.
+# speed.sh: how long the reader takes, beside virtue's parser on the same lists. speed.sh ours NAME [TIMES]: our reader alone.
+# It needs Debian's librust-proc-macro2-dev, so that virtue's parser runs outside the compiler; CARGO_REGISTRY names the folder
+# with that package's sources.
 set -eu
 . "$(dirname "$0")/common.sh"
 registry=${CARGO_REGISTRY:-/usr/share/cargo/registry}
@@ -17,4 +18,4 @@ rustc --edition 2018 -O --cap-lints allow --crate-type rlib --crate-name proc_ma
     -o "$built/libproc_macro2.rlib" "$macros/src/lib.rs"
 rustc --edition 2021 -O --cfg 'feature="proc-macro2"' -L "$built" -L "native=$root/target/staticlib" -l static=exports \
     --extern "proc_macro2=$built/libproc_macro2.rlib" -o "$built/speed" "$root/oracle/src/speed.rs"
-"$built/speed"
+"$built/speed" "$@"

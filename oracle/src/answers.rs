@@ -9,8 +9,9 @@ use crate::parse::{Attribute, AttributeLocation, DataType, Generics, Parse, Visi
 use crate::reading::Reading;
 use crate::refusals::{number_and_place, place, Refusal};
 use crate::stream_builder::StreamBuilder;
+use crate::trees::trees;
 use crate::utils::{parse_tagged_attribute, ParsedAttribute};
-use proc_macro::{Delimiter, Group, Ident, Literal, Punct, Spacing, Span, TokenStream, TokenTree};
+use proc_macro::{Delimiter, Ident, Literal, Punct, Spacing, Span, TokenStream, TokenTree};
 use std::cell::Cell;
 use std::collections::{BTreeMap, HashMap};
 use std::fs::File;
@@ -84,6 +85,19 @@ pub fn run(spans: Vec<Span>) {
         writeln!(counts, "{what}: {n}").expect("ORACLE_COUNTS");
     }
     assert_eq!(disappointed, 0, "examples that do not answer as expected");
+}
+
+/// What the Rust answers, or its panic, without a message.
+fn quietly<T>(ask: impl FnOnce() -> T) -> std::thread::Result<T> {
+    QUIET.with(|q| q.set(true));
+    let answer = catch_unwind(AssertUnwindSafe(ask));
+    QUIET.with(|q| q.set(false));
+    answer
+}
+
+/// What is written for accepted rows: a letter for each.
+fn accepted(letters: &[u8]) -> Vec<u8> {
+    [&b"accepted\n"[..], letters, b"\n"].concat()
 }
 
 /// The rows of a list that passes the list check.
@@ -164,10 +178,7 @@ impl Oracle {
             Ok(parse) => {
                 self.count(format!("kind {kind}, accepted"));
                 let reading = Reading::new(rows.len(), &mate, &parse);
-                let mut roles = b"accepted\n".to_vec();
-                roles.extend_from_slice(&reading.roles);
-                roles.push(b'\n');
-                put("roles", &roles);
+                put("roles", &accepted(&reading.roles));
                 let mut model =
                     model.unwrap_or_else(|r| panic!("the model refuses {r:?}: {rows:?}"));
                 model.iter_mut().for_each(|role| *role += b'a');
@@ -207,81 +218,50 @@ impl Oracle {
         match tagged {
             Tagged::Refused((number, place)) => put("tagged", refusal(number, place).as_bytes()),
             Tagged::None => put("tagged", b"none\n"),
-            Tagged::Roles(roles) => {
-                let mut text = b"accepted\n".to_vec();
-                text.extend_from_slice(&roles);
-                text.push(b'\n');
-                put("tagged", &text);
-            }
+            Tagged::Roles(roles) => put("tagged", &accepted(&roles)),
         }
         sections
     }
 
     fn trees(&mut self, rows: &[Row]) -> Vec<TokenTree> {
-        let mut stack: Vec<(usize, Vec<TokenTree>)> = vec![(0, Vec::new())];
-        for (n, (kind, text)) in rows.iter().enumerate() {
-            let span = self.spans[n];
-            let tree = match kind {
-                b'o' => {
-                    stack.push((n, Vec::new()));
-                    continue;
-                }
-                b'c' => {
-                    let (open, inside) = stack.pop().expect("checked");
-                    let delimiter = match text.as_str() {
-                        ")" => Delimiter::Parenthesis,
-                        "]" => Delimiter::Bracket,
-                        "}" => Delimiter::Brace,
-                        _ => Delimiter::None,
-                    };
-                    let mut group = Group::new(delimiter, TokenStream::from_iter(inside));
-                    group.set_span(self.spans[open]);
-                    TokenTree::Group(group)
-                }
-                b'i' => {
-                    let mut ident = self
-                        .idents
-                        .entry(text.clone())
-                        .or_insert_with(|| match text.strip_prefix("r#") {
-                            Some(name) => Ident::new_raw(name, span),
-                            None => Ident::new(text, span),
-                        })
-                        .clone();
-                    ident.set_span(span);
-                    TokenTree::Ident(ident)
-                }
-                b'l' => {
-                    let mut literal = self
-                        .literals
-                        .entry(text.clone())
-                        .or_insert_with(|| {
-                            let literal = Literal::from_str(text)
-                                .unwrap_or_else(|_| panic!("not a literal: {text}"));
-                            assert_eq!(literal.to_string(), *text, "a literal keeps its text");
-                            literal
-                        })
-                        .clone();
-                    literal.set_span(span);
-                    TokenTree::Literal(literal)
-                }
+        let Oracle {
+            spans,
+            idents,
+            literals,
+            ..
+        } = self;
+        let leaf = |kind: u8, text: &str, span: Span| {
+            let mut tree: TokenTree = match kind {
+                b'i' => idents
+                    .entry(text.to_string())
+                    .or_insert_with(|| match text.strip_prefix("r#") {
+                        Some(name) => Ident::new_raw(name, span),
+                        None => Ident::new(text, span),
+                    })
+                    .clone()
+                    .into(),
+                b'l' => literals
+                    .entry(text.to_string())
+                    .or_insert_with(|| {
+                        let literal = Literal::from_str(text)
+                            .unwrap_or_else(|_| panic!("not a literal: {text}"));
+                        assert_eq!(literal.to_string(), *text, "a literal keeps its text");
+                        literal
+                    })
+                    .clone()
+                    .into(),
                 // Never joint: a joint `'` and the name after it become one token with one span.
-                _ => {
-                    let mut punct = Punct::new(text.as_bytes()[0] as char, Spacing::Alone);
-                    punct.set_span(span);
-                    TokenTree::Punct(punct)
-                }
+                _ => Punct::new(text.as_bytes()[0] as char, Spacing::Alone).into(),
             };
-            stack.last_mut().expect("checked").1.push(tree);
-        }
-        stack.pop().expect("checked").1
+            tree.set_span(span);
+            tree
+        };
+        trees(rows, |row| spans[row], leaf)
     }
 
     fn declaration(&self, trees: &[TokenTree]) -> Result<Parse, Refusal> {
         let input = TokenStream::from_iter(trees.iter().cloned());
-        QUIET.with(|q| q.set(true));
-        let answer = catch_unwind(AssertUnwindSafe(|| Parse::new(input)));
-        QUIET.with(|q| q.set(false));
-        match answer {
+        match quietly(|| Parse::new(input)) {
             Ok(Ok(parse)) => Ok(parse),
             Ok(Err(error)) => Err(number_and_place(&error)),
             Err(_) => Err((27, place_of_panic(trees))),
@@ -308,9 +288,7 @@ fn place_of_panic(trees: &[TokenTree]) -> usize {
         Ok(())
     })();
     assert!(before.is_ok(), "a panic outside generics");
-    QUIET.with(|q| q.set(true));
-    let generics = catch_unwind(AssertUnwindSafe(|| Generics::try_take(input).is_ok()));
-    QUIET.with(|q| q.set(false));
+    let generics = quietly(|| Generics::try_take(input).is_ok());
     assert!(generics.is_err(), "a panic outside generics");
     last.get().expect("a token was asked for")
 }

@@ -2,7 +2,7 @@
 
 use crate::grammar::DELIMITERS;
 use crate::limits::{bytes_exactly, name, nest, repeat};
-use crate::lists::to_bytes;
+use crate::lists::{to_bytes, PUNCTUATION};
 
 pub fn table() -> Vec<(String, Vec<u8>)> {
     let mut out: Vec<(String, Vec<u8>)> = Vec::new();
@@ -68,36 +68,42 @@ pub fn table() -> Vec<(String, Vec<u8>)> {
             rows(&format!("l {}\n", "1".repeat(n))),
         );
     }
-    for text in [
-        "r#self", "r#crate", "r#super", "r#Self", "r#_", "r#", "_", "__", "r#__", "r#pub", "r#r",
-        "r", "r##a", "R#a", "9a", "a9", "r#9", "r#selfs", "self", "a-b", "a b", "r#r#a", "#a",
-    ] {
-        add(&format!("the name {text}"), rows(&format!("i {text}\n")));
-    }
-    for text in [
-        "::", "->", "''", "(", "\"", "\\", "`", "a", "_", "0", " ", "  ",
-    ] {
-        add(
-            &format!("the punctuation {text}"),
-            rows(&format!("p {text}\n")),
-        );
-    }
-    for text in "=<>!~+-*/%^&|@.,;:#$?'".chars() {
-        add(
-            &format!("the punctuation {text}"),
-            rows(&format!("p {text}\n")),
-        );
-    }
-    for text in [
-        "0", "9", "\"", "'", "b", "c", "r", "a", "-1", " 1", ".5", "_", "0x", "1 2", "#",
-    ] {
-        add(&format!("the literal {text}"), rows(&format!("l {text}\n")));
-    }
-    for text in ["(", "[", "{", "0", "<", ")", "((", "1"] {
-        add(
-            &format!("a group that opens with {text}"),
-            rows(&format!("o {text}\n")),
-        );
+    let marks: Vec<&str> = PUNCTUATION.split_inclusive(|_| true).collect();
+    let texts: [(&str, char, &[&str]); 5] = [
+        (
+            "the name",
+            'i',
+            &[
+                "r#self", "r#crate", "r#super", "r#Self", "r#_", "r#", "_", "__", "r#__", "r#pub",
+                "r#r", "r", "r##a", "R#a", "9a", "a9", "r#9", "r#selfs", "self", "a-b", "a b",
+                "r#r#a", "#a",
+            ],
+        ),
+        (
+            "the punctuation",
+            'p',
+            &[
+                "::", "->", "''", "(", "\"", "\\", "`", "a", "_", "0", " ", "  ",
+            ],
+        ),
+        ("the punctuation", 'p', &marks),
+        (
+            "the literal",
+            'l',
+            &[
+                "0", "9", "\"", "'", "b", "c", "r", "a", "-1", " 1", ".5", "_", "0x", "1 2", "#",
+            ],
+        ),
+        (
+            "a group that opens with",
+            'o',
+            &["(", "[", "{", "0", "<", ")", "((", "1"],
+        ),
+    ];
+    for (what, kind, texts) in texts {
+        for text in texts {
+            add(&format!("{what} {text}"), rows(&format!("{kind} {text}\n")));
+        }
     }
     for (open, _) in DELIMITERS {
         for close in [")", "]", "}", "0", ">", "("] {

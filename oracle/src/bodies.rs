@@ -6,65 +6,47 @@ impl Builder<'_> {
     pub fn struct_body(&mut self) {
         match self.rng.below(24) {
             0..=3 => self.p(";"),
-            4..=13 => self.group(2, |b| b.named_fields()),
+            4..=13 => self.group(2, |b| b.fields(true)),
             14..=21 => {
-                self.group(0, |b| b.types());
-                if !self.chance(4) {
-                    self.p(";");
-                }
+                self.group(0, |b| b.fields(false));
+                self.unless(4, |b| b.p(";"));
             }
-            22 => {
-                let d = if self.chance(2) { 1 } else { 3 };
-                self.group(d, |b| b.types());
-            }
+            22 => self.wrong_group(),
             _ => self.stuff(2, 1),
         }
     }
 
-    fn named_fields(&mut self) {
+    /// Fields in a group that cannot hold them.
+    fn wrong_group(&mut self) {
+        let d = if self.chance(2) { 1 } else { 3 };
+        self.group(d, |b| b.fields(false));
+    }
+
+    fn fields(&mut self, named: bool) {
         for _ in 0..self.rng.below(4) {
-            self.attributes();
-            self.visibility();
-            if !self.chance(80) {
-                self.name();
-            }
-            if !self.chance(80) {
-                self.p(":");
+            self.field_start();
+            if named {
+                self.unless(80, |b| b.name());
+                self.unless(80, |b| b.p(":"));
             }
             self.run(2, false);
-            if !self.chance(8) {
-                self.p(",");
-            }
+            self.unless(8, |b| b.p(","));
         }
         if self.chance(12) {
-            self.attributes();
-            self.visibility();
+            self.field_start();
         }
     }
 
-    fn types(&mut self) {
-        for _ in 0..self.rng.below(4) {
-            self.attributes();
-            self.visibility();
-            self.run(2, false);
-            if !self.chance(8) {
-                self.p(",");
-            }
-        }
-        if self.chance(12) {
-            self.attributes();
-            self.visibility();
-        }
+    fn field_start(&mut self) {
+        self.attributes();
+        self.visibility();
     }
 
     pub fn enum_body(&mut self) {
         match self.rng.below(24) {
             0 => self.p(";"),
             1 => self.stuff(2, 1),
-            2 | 3 => {
-                let d = self.rng.below(4);
-                self.group(d, |b| b.variants());
-            }
+            2 | 3 => self.any_group(|b| b.variants()),
             _ => self.group(2, |b| b.variants()),
         }
     }
@@ -79,12 +61,9 @@ impl Builder<'_> {
                 self.capital();
             }
             match self.rng.below(6) {
-                0 => self.group(2, |b| b.named_fields()),
-                1 => self.group(0, |b| b.types()),
-                2 if self.chance(12) => {
-                    let d = if self.chance(2) { 1 } else { 3 };
-                    self.group(d, |b| b.types());
-                }
+                0 => self.group(2, |b| b.fields(true)),
+                1 => self.group(0, |b| b.fields(false)),
+                2 if self.chance(12) => self.wrong_group(),
                 _ => {}
             }
             let has_value = self.chance(3);
@@ -99,9 +78,7 @@ impl Builder<'_> {
                     self.l();
                 }
             }
-            if !self.chance(if has_value { 3 } else { 20 }) {
-                self.p(",");
-            }
+            self.unless(if has_value { 3 } else { 20 }, |b| b.p(","));
         }
         if self.chance(30) {
             self.attributes();
@@ -109,20 +86,16 @@ impl Builder<'_> {
     }
 
     pub fn tagged_list(&mut self) {
-        let d = if self.chance(6) { self.rng.below(4) } else { 1 };
-        self.group(d, |b| {
-            if !b.chance(12) {
+        self.group_mostly(1, 6, |b| {
+            b.unless(12, |b| {
                 let text = if b.chance(10) {
                     b.rng.pick(&NAMES)
                 } else {
                     "p"
                 };
                 b.i(text);
-            }
-            if !b.chance(12) {
-                let d = if b.chance(4) { b.rng.below(4) } else { 0 };
-                b.group(d, |b| b.tags());
-            }
+            });
+            b.unless(12, |b| b.group_mostly(0, 4, |b| b.tags()));
             if b.chance(6) {
                 b.stuff(3, 1);
             }

@@ -1,6 +1,8 @@
 //! The list check of document 01, written from its text alone (the Rust has nothing like it):
 //! refusals 1 to 7 with their places, or the number of rows.
 
+use crate::lists::PUNCTUATION;
+
 pub const END: usize = 65_535;
 
 const MAX_BYTES: usize = 65_536;
@@ -8,7 +10,6 @@ const MAX_ROWS: usize = 4_096;
 const MAX_TEXT: usize = 255;
 const MAX_OPEN: usize = 32;
 const NAMES: &[u8] = b"kind text\n";
-const PUNCTUATION: &[u8] = b"=<>!~+-*/%^&|@.,;:#$?'";
 
 #[derive(Clone, Copy, PartialEq, Eq, Debug)]
 pub enum Check {
@@ -73,7 +74,7 @@ fn row_form(line: &[u8]) -> bool {
     }
     match line[0] {
         b'i' => ident_text(text),
-        b'p' => text.len() == 1 && PUNCTUATION.contains(&text[0]),
+        b'p' => text.len() == 1 && PUNCTUATION.as_bytes().contains(&text[0]),
         b'l' => {
             (text[0].is_ascii_digit() || b"\"'bcr".contains(&text[0]))
                 && text.iter().all(|b| (32..=126).contains(b))

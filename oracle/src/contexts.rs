@@ -4,164 +4,67 @@
 use crate::lists::{to_bytes, tokens};
 use crate::rng::Rng;
 
-struct Context {
-    before: &'static str,
-    letters: &'static [&'static str],
-    after: &'static str,
-}
-
-const CONTEXTS: [Context; 17] = [
+/// What stands before, the letters parted by `|`, what stands after.
+const CONTEXTS: [(&str, &str, &str); 17] = [
     // The start of an item.
-    Context {
-        before: "",
-        letters: &[
-            "#",
-            "[ a ]",
-            "pub",
-            "( crate )",
-            "( pub )",
-            "struct",
-            "o0 enum c0",
-            "A",
-        ],
-        after: "struct A ;",
-    },
-    Context {
-        before: "",
-        letters: &["struct", "enum", "A", ";", "{ }", "<", "pub", "o0 pub c0"],
-        after: "",
-    },
+    (
+        "",
+        "#|[ a ]|pub|( crate )|( pub )|struct|o0 enum c0|A",
+        "struct A ;",
+    ),
+    ("", "struct|enum|A|;|{ }|<|pub|o0 pub c0", ""),
     // Visibility in a tuple.
-    Context {
-        before: "struct A ( pub",
-        letters: &[
-            "( crate )",
-            "( in a )",
-            "( u8 )",
-            "( self : : X )",
-            "[ ]",
-            ",",
-            "pub",
-            "#",
-        ],
-        after: ") ;",
-    },
+    (
+        "struct A ( pub",
+        "( crate )|( in a )|( u8 )|( self : : X )|[ ]|,|pub|#",
+        ") ;",
+    ),
     // After a name.
-    Context {
-        before: "struct A",
-        letters: &["<", ">", "T", ":", "where", ";", "( b )", "[ ]"],
-        after: "{ a : u8 }",
-    },
-    Context {
-        before: "enum E",
-        letters: &["<", ">", "T", "where", ";", "( b )", "[ B ]", "o0 C c0"],
-        after: "{ A }",
-    },
+    ("struct A", "<|>|T|:|where|;|( b )|[ ]", "{ a : u8 }"),
+    ("enum E", "<|>|T|where|;|( b )|[ B ]|o0 C c0", "{ A }"),
     // Generics.
-    Context {
-        before: "struct A <",
-        letters: &["'", "a", "const", ":", "=", ",", "<", ">", "3"],
-        after: "> ;",
-    },
-    Context {
-        before: "struct A < T :",
-        letters: &["-", ">", "<", "U", ",", "( )", "{ }", "="],
-        after: "> ( T ) ;",
-    },
-    Context {
-        before: "struct A < const",
-        letters: &["N", ":", "( )", "=", "3", ",", "'", ">"],
-        after: "> ;",
-    },
+    ("struct A <", "'|a|const|:|=|,|<|>|3", "> ;"),
+    ("struct A < T :", "-|>|<|U|,|( )|{ }|=", "> ( T ) ;"),
+    ("struct A < const", "N|:|( )|=|3|,|'|>", "> ;"),
     // Where runs.
-    Context {
-        before: "struct A where",
-        letters: &["T", ":", ",", "<", ">", "-", "( u8 )", "{ }", "[ ]"],
-        after: "{ a : u8 }",
-    },
+    ("struct A where", "T|:|,|<|>|-|( u8 )|{ }|[ ]", "{ a : u8 }"),
     // Named fields.
-    Context {
-        before: "struct A {",
-        letters: &["a", ":", ",", "pub", "#", "[ a ]", "<", ">", "( crate )"],
-        after: "}",
-    },
+    ("struct A {", "a|:|,|pub|#|[ a ]|<|>|( crate )", "}"),
     // Types.
-    Context {
-        before: "struct A (",
-        letters: &["u8", ",", "pub", "#", "[ a ]", "<", ">", "-", "{ pub }"],
-        after: ") ;",
-    },
+    ("struct A (", "u8|,|pub|#|[ a ]|<|>|-|{ pub }", ") ;"),
     // Variants.
-    Context {
-        before: "enum E {",
-        letters: &[
-            "A",
-            ",",
-            "=",
-            "-",
-            "1",
-            "( u8 )",
-            "{ a : u8 }",
-            "#",
-            "[ x ]",
-            "o0 B c0",
-        ],
-        after: "}",
-    },
-    Context {
-        before: "enum E { A =",
-        letters: &[
-            "-",
-            "007",
-            ",",
-            "B",
-            "0x1",
-            "9223372036854775808",
-            "( )",
-            "=",
-        ],
-        after: "}",
-    },
-    Context {
-        before: "enum E { A {",
-        letters: &["a", ":", ",", "pub", "#", "[ a ]", "{ }"],
-        after: "} = 1 }",
-    },
+    (
+        "enum E {",
+        "A|,|=|-|1|( u8 )|{ a : u8 }|#|[ x ]|o0 B c0",
+        "}",
+    ),
+    (
+        "enum E { A =",
+        "-|007|,|B|0x1|9223372036854775808|( )|=",
+        "}",
+    ),
+    ("enum E { A {", "a|:|,|pub|#|[ a ]|{ }", "} = 1 }"),
     // Tagged attributes.
-    Context {
-        before: "[ p (",
-        letters: &["k", ",", "=", "1", "\"s\"", "( a )", "'"],
-        after: ") ]",
-    },
-    Context {
-        before: "[",
-        letters: &["p", "( k )", "q", "=", "[ k = 1 ]", "p ( )"],
-        after: "]",
-    },
+    ("[ p (", "k|,|=|1|\"s\"|( a )|'", ") ]"),
+    ("[", "p|( k )|q|=|[ k = 1 ]|p ( )", "]"),
     // Groups without delimiter.
-    Context {
-        before: "",
-        letters: &["o0", "c0", "struct", "A", ";", "( )"],
-        after: "",
-    },
+    ("", "o0|c0|struct|A|;|( )", ""),
 ];
 
 /// At most `most` lists: every one up to the greatest length that fits, then longer ones by chance.
 pub fn lists(rng: &mut Rng, most: usize) -> Vec<Vec<u8>> {
-    let spell = |context: &Context, word: &[usize]| {
-        let mut line = String::from(context.before);
-        for letter in word {
-            line.push(' ');
-            line += context.letters[*letter];
-        }
-        line.push(' ');
-        line += context.after;
-        to_bytes(&tokens(&line))
+    let contexts = CONTEXTS.map(|(before, letters, after)| {
+        let letters: Vec<&str> = letters.split('|').collect();
+        (before, letters, after)
+    });
+    let spell = |(before, letters, after): &(&str, Vec<&str>, &str), word: &[usize]| {
+        let word: Vec<&str> = word.iter().map(|letter| letters[*letter]).collect();
+        to_bytes(&tokens(&format!("{before} {} {after}", word.join(" "))))
     };
     let size = |length: u32| -> usize {
-        CONTEXTS
+        contexts
             .iter()
-            .map(|c| (0..=length).map(|n| c.letters.len().pow(n)).sum::<usize>())
+            .map(|(_, letters, _)| (0..=length).map(|n| letters.len().pow(n)).sum::<usize>())
             .sum()
     };
     let mut length = 0;
@@ -169,22 +72,23 @@ pub fn lists(rng: &mut Rng, most: usize) -> Vec<Vec<u8>> {
         length += 1;
     }
     let mut out = Vec::new();
-    for context in &CONTEXTS {
+    for context in &contexts {
+        let letters = context.1.len();
         for n in 0..=length {
-            for mut code in 0..context.letters.len().pow(n) {
+            for mut code in 0..letters.pow(n) {
                 let mut word = Vec::new();
                 for _ in 0..n {
-                    word.push(code % context.letters.len());
-                    code /= context.letters.len();
+                    word.push(code % letters);
+                    code /= letters;
                 }
                 out.push(spell(context, &word));
             }
         }
     }
     while out.len() < most {
-        let context = &CONTEXTS[rng.below(CONTEXTS.len())];
+        let context = &contexts[rng.below(contexts.len())];
         let n = length as usize + 1 + rng.below(3);
-        let word: Vec<usize> = (0..n).map(|_| rng.below(context.letters.len())).collect();
+        let word: Vec<usize> = (0..n).map(|_| rng.below(context.1.len())).collect();
         out.push(spell(context, &word));
     }
     out

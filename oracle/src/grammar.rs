@@ -1,7 +1,7 @@
 //! Kind a: declarations (and tagged attributes) made along the grammar of document 01, with all of
 //! its optional parts, and now and then a turn that it refuses.
 
-use crate::lists::Row;
+use crate::lists::{Row, PUNCTUATION};
 use crate::rng::Rng;
 
 pub const DELIMITERS: [(&str, &str); 4] = [("(", ")"), ("[", "]"), ("{", "}"), ("0", "0")];
@@ -51,29 +51,25 @@ const LITERALS: [&str; 35] = [
     "br\"x\"",
     "cr#\"x\"#",
 ];
-const PUNCTUATION: &str = "=<>!~+-*/%^&|@.,;:#$?'";
 
 pub struct Builder<'r> {
     pub rng: &'r mut Rng,
     pub rows: Vec<Row>,
 }
 
+fn built(rng: &mut Rng, build: fn(&mut Builder)) -> Vec<Row> {
+    let rows = Vec::new();
+    let mut builder = Builder { rng, rows };
+    build(&mut builder);
+    builder.rows
+}
+
 pub fn declaration(rng: &mut Rng) -> Vec<Row> {
-    let mut b = Builder {
-        rng,
-        rows: Vec::new(),
-    };
-    b.item();
-    b.rows
+    built(rng, |b| b.item())
 }
 
 pub fn tagged(rng: &mut Rng) -> Vec<Row> {
-    let mut b = Builder {
-        rng,
-        rows: Vec::new(),
-    };
-    b.tagged_list();
-    b.rows
+    built(rng, |b| b.tagged_list())
 }
 
 /// Any row that is no delimiter.
@@ -97,6 +93,13 @@ pub fn plain_row(rng: &mut Rng) -> Row {
 impl Builder<'_> {
     pub fn chance(&mut self, in_n: usize) -> bool {
         self.rng.one_in(in_n)
+    }
+
+    /// What is left out once in so many times.
+    pub fn unless(&mut self, in_n: usize, part: impl FnOnce(&mut Self)) {
+        if !self.chance(in_n) {
+            part(self);
+        }
     }
 
     pub fn i(&mut self, text: &str) {
@@ -125,6 +128,26 @@ impl Builder<'_> {
         self.rows.push((b'c', close.into()));
     }
 
+    pub fn any_group(&mut self, inside: impl FnOnce(&mut Self)) {
+        let d = self.rng.below(4);
+        self.group(d, inside);
+    }
+
+    /// A group of the usual delimiter; once in so many times, of any.
+    pub fn group_mostly(&mut self, usual: usize, in_n: usize, inside: impl FnOnce(&mut Self)) {
+        let d = if self.chance(in_n) {
+            self.rng.below(4)
+        } else {
+            usual
+        };
+        self.group(d, inside);
+    }
+
+    fn plain(&mut self) {
+        let row = plain_row(self.rng);
+        self.rows.push(row);
+    }
+
     pub fn name(&mut self) {
         let text = if self.chance(30) {
             self.rng.pick(&WORDS)
@@ -144,8 +167,7 @@ impl Builder<'_> {
     /// A word: plain, or alone in a group of any delimiter.
     pub fn word(&mut self, text: &str) {
         if self.chance(8) {
-            let d = self.rng.below(4);
-            self.group(d, |b| b.i(text));
+            self.any_group(|b| b.i(text));
         } else {
             self.i(text);
         }
@@ -155,11 +177,9 @@ impl Builder<'_> {
     pub fn stuff(&mut self, most: usize, levels: usize) {
         for _ in 0..self.rng.below(most + 1) {
             if levels > 0 && self.chance(5) {
-                let d = self.rng.below(4);
-                self.group(d, |b| b.stuff(most, levels - 1));
+                self.any_group(|b| b.stuff(most, levels - 1));
             } else {
-                let row = plain_row(self.rng);
-                self.rows.push(row);
+                self.plain();
             }
         }
     }
@@ -239,8 +259,7 @@ impl Builder<'_> {
                 let first = self
                     .rng
                     .pick(&["crate", "self", "super", "in", "in", "a", "r#in"]);
-                let d = if self.chance(8) { self.rng.below(4) } else { 0 };
-                self.group(d, |b| {
+                self.group_mostly(0, 8, |b| {
                     b.i(first);
                     match b.rng.below(4) {
                         0 => {
@@ -253,11 +272,9 @@ impl Builder<'_> {
                 });
             }
             _ => {
-                let d = self.rng.below(4);
-                self.group(d, |b| b.i("pub"));
+                self.any_group(|b| b.i("pub"));
                 if self.chance(2) {
-                    let d = self.rng.below(4);
-                    self.group(d, |b| b.stuff(2, 1));
+                    self.any_group(|b| b.stuff(2, 1));
                 }
             }
         }
@@ -272,9 +289,7 @@ impl Builder<'_> {
                 self.p(",");
             }
         }
-        if !self.chance(40) {
-            self.p(">");
-        }
+        self.unless(40, |b| b.p(">"));
     }
 
     fn param(&mut self) {
@@ -298,8 +313,7 @@ impl Builder<'_> {
             1 => {
                 self.i("const");
                 if self.chance(20) {
-                    let row = plain_row(self.rng);
-                    self.rows.push(row);
+                    self.plain();
                 } else {
                     let text = self.rng.pick(&["N", "M", "const", "_", "r#N"]);
                     self.i(text);

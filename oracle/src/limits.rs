@@ -4,13 +4,10 @@ use crate::grammar::DELIMITERS;
 use crate::lists::{to_bytes, tokens, Row};
 use crate::rng::Rng;
 
-/// The line's tokens with the `@` in it replaced by other rows.
-fn around(line: &str, inside: &[Row]) -> Vec<Row> {
+/// The list of the line's tokens with the `@` in it replaced by other rows.
+fn around(line: &str, inside: &[Row]) -> Vec<u8> {
     let (before, after) = line.split_once('@').expect("an @ in the line");
-    let mut rows = tokens(before);
-    rows.extend_from_slice(inside);
-    rows.extend(tokens(after));
-    rows
+    to_bytes(&[&tokens(before)[..], inside, &tokens(after)].concat())
 }
 
 pub fn nest(depth: usize, first: usize, inside: &[Row]) -> Vec<Row> {
@@ -69,16 +66,13 @@ pub fn small() -> Vec<Vec<u8>> {
         for depth in [30, 31, 32, 33] {
             for first in [0, 1, 3] {
                 let inside = tokens("x");
-                out.push(to_bytes(&around(
-                    line,
-                    &nest(depth - around_it, first, &inside),
-                )));
+                out.push(around(line, &nest(depth - around_it, first, &inside)));
             }
         }
     }
     // A fault deeper than the last level, and at the last one.
-    out.push(to_bytes(&around("struct A ; @ enum", &nest(33, 0, &[]))));
-    out.push(to_bytes(&around("struct A ; o0 @ c0", &nest(32, 1, &[]))));
+    out.push(around("struct A ; @ enum", &nest(33, 0, &[])));
+    out.push(around("struct A ; o0 @ c0", &nest(32, 1, &[])));
 
     for length in [1, 254, 255, 256, 257] {
         let n = name(length);
@@ -88,11 +82,11 @@ pub fn small() -> Vec<Vec<u8>> {
             "struct A { @ : u8 }",
             "struct A < @ > ;",
         ] {
-            out.push(to_bytes(&around(line, &[(b'i', n.clone())])));
+            out.push(around(line, &[(b'i', n.clone())]));
         }
         for line in ["struct A < ' @ > ;", "enum E { A ( @ ) }", "@ A ;"] {
             let raw = format!("r#{}", &n[..length.max(3) - 2]);
-            out.push(to_bytes(&around(line, &[(b'i', raw)])));
+            out.push(around(line, &[(b'i', raw)]));
         }
         for value in [
             format!("\"{}\"", &n[..length.max(3) - 2]),
@@ -105,7 +99,7 @@ pub fn small() -> Vec<Vec<u8>> {
                 "enum E { A = - @ , B }",
                 "[ p ( k = @ ) ]",
             ] {
-                out.push(to_bytes(&around(line, &[(b'l', value.clone())])));
+                out.push(around(line, &[(b'l', value.clone())]));
             }
         }
     }
@@ -165,7 +159,7 @@ pub fn small() -> Vec<Vec<u8>> {
             "enum E { A = @ }",
             "enum E { A , B = - @ , C }",
         ] {
-            out.push(to_bytes(&around(line, &[(b'l', value.into())])));
+            out.push(around(line, &[(b'l', value.into())]));
         }
     }
     out
@@ -184,15 +178,15 @@ pub fn large() -> Vec<Vec<u8>> {
         tuple(4_096),
         variants(4_096),
         variants(4_097),
-        to_bytes(&around("enum E { @ A B }", &repeat("A ,", 2_045))),
-        to_bytes(&around("struct A < @ > ;", &repeat("T : U ,", 1_022))),
-        to_bytes(&around("[ p ( @ ) ]", &repeat("k = 1 ,", 1_022))),
+        around("enum E { @ A B }", &repeat("A ,", 2_045)),
+        around("struct A < @ > ;", &repeat("T : U ,", 1_022)),
+        around("[ p ( @ ) ]", &repeat("k = 1 ,", 1_022)),
     ]
 }
 
 /// `struct A ;` with left-over rows.
 fn rows_exactly(rows: usize) -> Vec<u8> {
-    to_bytes(&around("struct A ; @", &repeat(";", rows - 3)))
+    around("struct A ; @", &repeat(";", rows - 3))
 }
 
 fn tuple(rows: usize) -> Vec<u8> {
@@ -200,7 +194,7 @@ fn tuple(rows: usize) -> Vec<u8> {
         1 => "struct A ( @ ) ;",
         _ => "struct A ( u @ ) ;",
     };
-    to_bytes(&around(line, &repeat("u ,", (rows - 5) / 2)))
+    around(line, &repeat("u ,", (rows - 5) / 2))
 }
 
 fn variants(rows: usize) -> Vec<u8> {
@@ -208,7 +202,7 @@ fn variants(rows: usize) -> Vec<u8> {
         0 => "enum E { @ }",
         _ => "enum E { @ A }",
     };
-    to_bytes(&around(line, &repeat("A ,", (rows - 4) / 2)))
+    around(line, &repeat("A ,", (rows - 4) / 2))
 }
 
 /// More of them, for the long runs.
@@ -226,20 +220,11 @@ pub fn larger(rng: &mut Rng) -> Vec<Vec<u8>> {
         out.push(variants(rows));
     }
     // Faults in the last rows.
-    out.push(to_bytes(&around(
-        "enum E { @ A = 1 2 }",
-        &repeat("A ,", 2_044),
-    )));
-    out.push(to_bytes(&around("struct A < @", &repeat("T ,", 2_046))));
-    out.push(to_bytes(&around(
-        "struct A { @ a }",
-        &repeat("a : u ,", 1_022),
-    )));
-    out.push(to_bytes(&around(
-        "struct A < @ > ;",
-        &repeat("' a ,", 1_363),
-    )));
-    out.push(to_bytes(&around("@ struct A ;", &repeat("# [ a ]", 1_023))));
+    out.push(around("enum E { @ A = 1 2 }", &repeat("A ,", 2_044)));
+    out.push(around("struct A < @", &repeat("T ,", 2_046)));
+    out.push(around("struct A { @ a }", &repeat("a : u ,", 1_022)));
+    out.push(around("struct A < @ > ;", &repeat("' a ,", 1_363)));
+    out.push(around("@ struct A ;", &repeat("# [ a ]", 1_023)));
     // A row after the last one that may stand, malformed or not even a row.
     for tail in [&b"\n"[..], b"i", b"c )\n"] {
         let mut list = rows_exactly(4_096);
@@ -258,7 +243,7 @@ pub fn larger(rng: &mut Rng) -> Vec<Vec<u8>> {
         let line: Vec<Row> = (0..times)
             .flat_map(|_| inside.iter().cloned().chain(tokens(",")))
             .collect();
-        out.push(to_bytes(&around("struct A ( @ ) ;", &line)));
+        out.push(around("struct A ( @ ) ;", &line));
     }
     out
 }
@@ -277,5 +262,5 @@ pub fn negative(rng: &mut Rng) -> Vec<u8> {
     };
     let zeros = if rng.one_in(3) { rng.below(6) } else { 0 };
     let value = format!("{}{digits}", "0".repeat(zeros));
-    to_bytes(&around("enum E { A = - @ , B }", &[(b'l', value)]))
+    around("enum E { A = - @ , B }", &[(b'l', value)])
 }

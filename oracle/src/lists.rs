@@ -4,6 +4,9 @@ use std::io::{self, Write};
 
 pub type Row = (u8, String);
 
+/// What a `p` row may hold.
+pub const PUNCTUATION: &str = "=<>!~+-*/%^&|@.,;:#$?'";
+
 pub fn to_bytes(rows: &[Row]) -> Vec<u8> {
     let mut out = b"kind text\n".to_vec();
     for (kind, text) in rows {
@@ -27,7 +30,7 @@ fn token(word: &str) -> Row {
         "c0" => return (b'c', "0".into()),
         "(" | "[" | "{" => b'o',
         ")" | "]" | "}" => b'c',
-        _ if bytes.len() == 1 && b"=<>!~+-*/%^&|@.,;:#$?'".contains(&bytes[0]) => b'p',
+        _ if bytes.len() == 1 && PUNCTUATION.contains(word) => b'p',
         _ if bytes[0].is_ascii_digit() || word.contains('"') || word.contains('\'') => b'l',
         _ => b'i',
     };

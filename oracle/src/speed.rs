@@ -1,215 +1,273 @@
 //! How long reading takes: nanoseconds a row on several inputs, beside virtue's `Parse::new` from ready tokens and beside one
-//! pass over the list's bytes that only counts LFs, and the growth from 1,000 to 4,000 rows. Every ratio is of two times
+//! pass over the list's bytes that only counts LFs, and the growth from a quarter of the rows. Every ratio is of two times
 //! measured in this one run. Built by oracle/speed.sh.
-#[path = "../../target/oracle/virtue/error.rs"]
-#[allow(warnings)]
-mod error;
+//! usage: speed [ours NAME [TIMES]]: all of it, or our reader alone on one input (100 times), for a count of instructions.
+extern crate proc_macro2 as proc_macro;
+
+include!("virtue.rs");
+
 #[path = "../../bindings/rust/src/lib.rs"]
 #[allow(dead_code)]
 mod kusthrila;
-#[path = "../../target/oracle/virtue/parse/mod.rs"]
-#[allow(warnings)]
-mod parse;
-#[path = "../../target/oracle/virtue/generate/stream_builder.rs"]
-#[allow(warnings)]
-mod stream_builder;
-#[path = "../../target/oracle/virtue/utils.rs"]
-#[allow(warnings)]
-mod utils;
-
-pub(crate) use error::Error;
-pub(crate) type Result<T = (), E = Error> = std::result::Result<T, E>;
-
-// What virtue's modules take from their own crate; nothing here uses the generator.
-#[allow(dead_code, unused_imports)]
-mod generate {
-    use crate::parse::{GenericConstraints, Generics};
-    pub(crate) use crate::stream_builder::{PushParseError, StreamBuilder};
-    use proc_macro2::Ident;
-
-    pub struct Generator;
-
-    impl Generator {
-        pub fn new(_: Ident, _: Option<Generics>, _: Option<GenericConstraints>) -> Self {
-            Generator
-        }
-    }
-}
-
-#[allow(unused_imports)]
-mod prelude {
-    pub(crate) use crate::Result;
-    pub(crate) use proc_macro2::{
-        Delimiter, Group, Ident, LexError, Literal, Punct, Spacing, Span, TokenStream, TokenTree,
-    };
-}
+#[allow(dead_code)]
+mod lists;
+mod trees;
 
 use kusthrila::{read, MOST_ROWS};
-use prelude::{Delimiter, Group, Ident, Literal, Punct, Spacing, Span, TokenStream, TokenTree};
+use lists::{to_bytes, tokens, Row};
+use prelude::{Ident, Literal, Punct, Spacing, Span, TokenStream};
 use std::hint::black_box;
 use std::time::Instant;
 
-struct Rows(Vec<u8>, usize);
+struct List {
+    rows: Vec<Row>,
+    bytes: Vec<u8>,
+}
 
-impl Rows {
-    fn new() -> Self {
-        Rows(b"kind text\n".to_vec(), 0)
-    }
+fn list(rows: Vec<Row>) -> List {
+    List { bytes: to_bytes(&rows), rows }
+}
 
-    // Tokens parted by spaces; `o0` and `c0` are a group without delimiter.
-    fn add(&mut self, tokens: &str) {
-        for token in tokens.split_whitespace() {
-            let kind = match token {
-                "(" | "[" | "{" => 'o',
-                ")" | "]" | "}" => 'c',
-                _ if token.starts_with(|c: char| c.is_ascii_digit() || c == '"') => 'l',
-                _ if token.starts_with(|c: char| c.is_ascii_alphabetic() || c == '_') => 'i',
-                _ => 'p',
-            };
-            self.0.extend_from_slice(format!("{kind} {token}\n").as_bytes());
-            self.1 += 1;
+// As many parts as fit into so many rows.
+fn filled(rows: usize, before: &str, part: impl Fn(usize) -> String, after: &str) -> List {
+    let (mut all, after) = (tokens(before), tokens(after));
+    for next in (0..).map(|n| tokens(&part(n))) {
+        if all.len() + next.len() + after.len() > rows {
+            break;
         }
+        all.extend(next);
     }
+    all.extend(after);
+    list(all)
 }
 
-// An enum with attributes, generics and nested types, of about so many rows.
-fn large_enum(rows: usize) -> Rows {
-    let mut list = Rows::new();
-    list.add("# [ repr ( u8 ) ] pub ( crate ) enum Valve < ' a , T : Clone + Fn ( u8 ) - > u8 , const N : usize > where T : Copy {");
-    let mut n = 0;
-    while list.1 + 60 < rows {
-        list.add(&format!("# [ valve ( id = {n} ) ] Main{n} = {n} , Block{n} ( pub Vec < Option < T > > , [ u8 ; 4 ] ) , Drain{n} {{ flow : u32 , at : Map < u8 , Vec < u8 > > }} ,"));
-        n += 1;
-    }
-    list.add("}");
-    list
-}
-
-fn small() -> Rows {
-    let mut list = Rows::new();
-    list.add("pub struct Emitter { pub flow : u32 , label : String , on : bool }");
-    list
+// An enum with attributes, generics and nested types.
+fn large_enum(rows: usize) -> List {
+    let before =
+        "# [ repr ( u8 ) ] pub ( crate ) enum Valve < ' a , T : Clone + Fn ( u8 ) - > u8 , const N : usize > where T : Copy {";
+    let part = |n| {
+        format!(
+            "# [ valve ( id = {n} ) ] Main{n} = {n} , Block{n} ( pub Vec < Option < T > > , [ u8 ; 4 ] ) , \
+             Drain{n} {{ flow : u32 , at : Map < u8 , Vec < u8 > > }} ,"
+        )
+    };
+    filled(rows, before, part, "}")
 }
 
 // Groups 30 deep, again and again, in a type's run.
-fn deep(rows: usize) -> Rows {
-    let mut list = Rows::new();
-    list.add("struct A (");
-    while list.1 + 70 < rows {
-        list.add(&format!("{} {}", "( ".repeat(30), ") ".repeat(30)));
-    }
-    list.add(") ;");
-    list
+fn deep(rows: usize) -> List {
+    filled(rows, "struct A (", |_| "( ".repeat(30) + &") ".repeat(30), ") ;")
 }
 
-fn long_run(rows: usize) -> Rows {
-    let mut list = Rows::new();
-    list.add("struct A { a :");
-    list.add(&"X < ".repeat(rows / 2 - 4));
-    list.add("}");
-    list
+fn long_run(rows: usize) -> List {
+    list(tokens(&format!("struct A {{ a : {} }}", "X < ".repeat(rows / 2 - 4))))
 }
 
-fn idle_marks(rows: usize) -> Rows {
-    let mut list = Rows::new();
-    list.add(&"# ".repeat(rows - 10));
-    list.add("# [ a ] struct A ;");
-    list
+fn idle_marks(rows: usize) -> List {
+    list(tokens(&format!("{} # [ a ] struct A ;", "# ".repeat(rows - 10))))
 }
 
-// The least time of several rounds of one call, in nanoseconds.
-fn least(mut call: impl FnMut()) -> f64 {
-    let mut best = f64::MAX;
-    for _ in 0..30 {
-        let start = Instant::now();
-        for _ in 0..50 {
-            call();
+// Empty types: at each `,` an attribute, a visibility, a type and a `,` may begin.
+fn empty_types(rows: usize) -> List {
+    filled(rows, "struct A (", |_| ",".into(), ") ;")
+}
+
+// The longest names, an eighth of the rows: 65,536 bytes hold no more.
+fn long_names(rows: usize) -> List {
+    filled(rows / 8 + 5, "struct A (", |_| "n".repeat(255) + " ,", ") ;")
+}
+
+// A hundred declarations of 10 to 30 rows, no two alike.
+fn small() -> Vec<List> {
+    const PLACES: [&str; 10] = ["Main", "North", "South", "East", "West", "Upper", "Lower", "Young", "Mature", "Drain"];
+    const PARTS: [&str; 10] = ["Valve", "Block", "Emitter", "Filter", "Pump", "Line", "Meter", "Probe", "Timer", "Zone"];
+    const FIELDS: [&str; 10] =
+        ["flow", "minutes", "lines", "pressure", "level", "opened", "closed", "label", "address", "moisture"];
+    const TYPES: [&str; 10] = ["u8", "u16", "u32", "bool", "i64", "String", "Minutes", "Litres", "f32", "usize"];
+    let declaration = |n: usize| {
+        let (place, part) = (PLACES[n / 10], PARTS[n % 10]);
+        let [a, b, c] = [n, n + 3, n + 6].map(|k| FIELDS[k % 10]);
+        let [t, u, v] = [n / 10, n / 10 + 1, n / 10 + 2].map(|k| TYPES[k % 10]);
+        match (n / 10 + n) % 10 {
+            0 => format!("pub struct {place}{part} {{ pub {a} : {t} , {b} : {u} , {c} : {v} }}"),
+            1 => format!("# [ derive ( Clone ) ] struct {place}{part} {{ {a} : {t} , pub ( crate ) {b} : Vec < {u} > }}"),
+            2 => format!("struct {place}{part} ( pub {t} , [ {u} ; {n} ] , Option < {v} > ) ;"),
+            3 => format!("struct {place}{part} < ' a , T : Clone , const N : usize > {{ {a} : & ' a [ T ; N ] }}"),
+            4 => format!("struct {place}{part} < T > where T : Copy + Into < {t} > {{ {a} : T , {b} : {u} , }}"),
+            5 => format!("pub enum {place}{part} {{ Closed , Open = {n} , Fault = - {n} , }}"),
+            6 => format!("# [ repr ( u8 ) ] enum {place}{part} {{ Idle = 0x{n:x} , Running = {n} , Done = 0b1 }}"),
+            7 => format!("enum {place}{part} {{ Off , Timed {{ {a} : {t} , {b} : {u} }} , Manual ( {v} ) }}"),
+            8 => format!("# [ id ( {n} , label = \"{place}\" ) ] pub enum {place}{part} {{ # [ first ] Wet ( {t} ) , Dry }}"),
+            _ => format!("enum {place}{part} < T > {{ Known ( Box < Fn ( {t} ) - > {u} > , T ) , Unknown {{ {a} : {v} }} }}"),
         }
-        best = best.min(start.elapsed().as_nanos() as f64 / 50.0);
+    };
+    (0..100).map(|n| list(tokens(&declaration(n)))).collect()
+}
+
+const SIZED: [(&str, fn(usize) -> List); 6] = [
+    ("enum", large_enum),
+    ("deep", deep),
+    ("run", long_run),
+    ("marks", idle_marks),
+    ("types", empty_types),
+    ("names", long_names),
+];
+
+fn inputs() -> Vec<(&'static str, Vec<List>)> {
+    let mut inputs: Vec<_> = SIZED.iter().map(|(name, make)| (*name, vec![make(4000)])).collect();
+    inputs.insert(1, ("small", small()));
+    inputs
+}
+
+// The least of 50 times of a call, and of the call with the freeing of its answer, in nanoseconds. What it takes is made anew
+// for each, right before the clock starts.
+fn least<T, A>(mut make: impl FnMut() -> T, mut call: impl FnMut(T) -> A) -> (f64, f64) {
+    let (mut best, mut best_freed) = (f64::MAX, f64::MAX);
+    for _ in 0..50 {
+        let taken = black_box(make());
+        let start = Instant::now();
+        let answer = black_box(call(taken));
+        best = best.min(start.elapsed().as_nanos() as f64);
+        drop(answer);
+        best_freed = best_freed.min(start.elapsed().as_nanos() as f64);
+    }
+    (best, best_freed)
+}
+
+// The least of each time over ten turns: a slow while of the machine falls on all of them, and another turn may be faster.
+fn in_turns<const N: usize>(turn: impl Fn() -> Vec<[f64; N]>) -> Vec<[f64; N]> {
+    let mut best = turn();
+    for _ in 1..10 {
+        for (best, time) in best.as_flattened_mut().iter_mut().zip(turn().as_flattened()) {
+            *best = best.min(*time);
+        }
     }
     best
 }
 
-fn reading(list: &Rows) -> f64 {
+// Our reader, once over each list, with so many role bytes lent.
+fn ours(input: &[List], roles: &mut [u8], lent: impl Fn(&List) -> usize) {
+    for list in input {
+        let _ = black_box(read(black_box(&list.bytes), &mut roles[..lent(list)]));
+    }
+}
+
+fn reading(input: &[List], lent: impl Fn(&List) -> usize) -> f64 {
     let mut roles = [0u8; MOST_ROWS];
-    read(&list.0, &mut roles[..list.1]).expect("a declaration");
-    least(|| {
-        let _ = black_box(read(black_box(&list.0), &mut roles[..list.1]));
+    least(|| (), |()| ours(input, &mut roles, &lent)).0
+}
+
+fn a_byte_a_row(list: &List) -> usize {
+    list.rows.len()
+}
+
+fn stream(list: &List) -> TokenStream {
+    let leaf = |kind: u8, text: &str, span: Span| match kind {
+        b'i' => Ident::new(text, span).into(),
+        b'l' => text.parse::<Literal>().expect("a literal").into(),
+        _ => Punct::new(char::from(text.as_bytes()[0]), Spacing::Alone).into(),
+    };
+    trees::trees(&list.rows, |_| Span::call_site(), leaf).into_iter().collect()
+}
+
+// virtue's parser, once over each list, from ready tokens. Its answers are kept until the clock has stopped.
+fn original(input: &[List]) -> (f64, f64) {
+    let make = || (input.iter().map(stream).collect::<Vec<_>>(), Vec::with_capacity(input.len()));
+    least(make, |(mut streams, mut answers)| {
+        answers.extend(streams.drain(..).map(parse::Parse::new));
+        (streams, answers)
     })
 }
 
-// The tokens of a list that is well formed.
-fn tokens(list: &Rows) -> TokenStream {
-    let mut open = vec![Vec::<TokenTree>::new()];
-    for line in list.0.split(|byte| *byte == b'\n').skip(1).filter(|line| !line.is_empty()) {
-        let text = std::str::from_utf8(&line[2..]).expect("text");
-        let token = match line[0] {
-            b'i' => Ident::new(text, Span::call_site()).into(),
-            b'p' => Punct::new(char::from(line[2]), Spacing::Alone).into(),
-            b'l' => text.parse::<Literal>().expect("a literal").into(),
-            b'o' => {
-                open.push(Vec::new());
-                continue;
-            }
-            _ => {
-                let delimiter = match text {
-                    ")" => Delimiter::Parenthesis,
-                    "]" => Delimiter::Bracket,
-                    "}" => Delimiter::Brace,
-                    _ => Delimiter::None,
-                };
-                Group::new(delimiter, open.pop().expect("an open group").into_iter().collect()).into()
-            }
+// One look at each byte, which only counts LFs. What black_box hides from the compiler is looked at byte by byte.
+fn byte_by_byte(bytes: &[u8]) -> usize {
+    let mut count = 0;
+    for byte in bytes {
+        count += black_box((*byte == b'\n') as usize);
+    }
+    count
+}
+
+// The same as the compiler makes it.
+fn plain(bytes: &[u8]) -> usize {
+    bytes.iter().map(|byte| (*byte == b'\n') as usize).sum()
+}
+
+// In parts whose count fits a byte, so that sixteen bytes are looked at together.
+fn vectorised(bytes: &[u8]) -> usize {
+    bytes.chunks(255).map(|part| usize::from(part.iter().map(|byte| (*byte == b'\n') as u8).sum::<u8>())).sum()
+}
+
+fn pass(input: &[List], count: fn(&[u8]) -> usize) -> f64 {
+    // A single one may be too short for the clock.
+    let passes = 20;
+    let all = || {
+        for list in (0..passes).flat_map(|_| input) {
+            black_box(count(black_box(&list.bytes)));
+        }
+    };
+    least(|| (), |()| all()).0 / passes as f64
+}
+
+fn table() {
+    // After so large a block the allocator keeps its pages: else virtue's time would have the system's in it.
+    drop(black_box(vec![0u8; 16 << 20]));
+    let inputs = inputs();
+    for list in inputs.iter().flat_map(|(_, input)| input) {
+        read(&list.bytes, &mut [0; MOST_ROWS]).expect("a declaration");
+        parse::Parse::new(stream(list)).expect("a declaration");
+    }
+    let times = in_turns(|| {
+        let turn = |(_, input): &(&str, Vec<List>)| {
+            let (theirs, freed) = original(input);
+            let [slow, usual, fast] = [byte_by_byte, plain, vectorised].map(|count| pass(input, count));
+            [reading(input, a_byte_a_row), theirs, freed, slow, usual, fast]
         };
-        open.last_mut().expect("an open group").push(token);
+        inputs.iter().map(turn).collect()
+    });
+    println!(
+        "input rows bytes ns-a-row virtue-ns-a-row times-as-fast virtue-freed-ns-a-row times-as-fast of-the-pass-byte-by-byte \
+         of-the-plain-loop of-the-vectorised"
+    );
+    for ((name, input), [ours, theirs, freed, slow, usual, fast]) in inputs.iter().zip(times) {
+        let rows: usize = input.iter().map(a_byte_a_row).sum();
+        let bytes: usize = input.iter().map(|list| list.bytes.len()).sum();
+        let [ours_a_row, theirs_a_row, freed_a_row] = [ours, theirs, freed].map(|time| time / rows as f64);
+        println!(
+            "{name} {rows} {bytes} {ours_a_row:.1} {theirs_a_row:.1} {:.2} {freed_a_row:.1} {:.2} {:.2} {:.2} {:.0}",
+            theirs / ours,
+            freed / ours,
+            ours / slow,
+            ours / usual,
+            ours / fast
+        );
     }
-    open.pop().expect("the list itself").into_iter().collect()
-}
-
-// The least time of virtue's parser from ready tokens; making a copy of them is not counted.
-fn original(list: &Rows) -> f64 {
-    let ready = tokens(list);
-    assert!(parse::Parse::new(ready.clone()).is_ok());
-    let mut best = f64::MAX;
-    for _ in 0..30 {
-        let copies: Vec<TokenStream> = (0..50).map(|_| tokens(list)).collect();
-        let start = Instant::now();
-        for copy in copies {
-            let _ = black_box(parse::Parse::new(copy));
-        }
-        best = best.min(start.elapsed().as_nanos() as f64 / 50.0);
+    let input = small();
+    let lent = in_turns(|| vec![[reading(&input, |_| MOST_ROWS), reading(&input, a_byte_a_row)]])[0];
+    println!("small with {MOST_ROWS} role bytes lent to each: {:.2} times as long", lent[0] / lent[1]);
+    println!("input growth-a-row-from-a-quarter-of-the-rows");
+    let inputs = SIZED.map(|(_, make)| [[make(1000)], [make(4000)]]);
+    let a_row = |input: &[List; 1]| reading(input, a_byte_a_row) / input[0].rows.len() as f64;
+    let times = in_turns(|| inputs.iter().map(|sizes| sizes.each_ref().map(a_row)).collect());
+    for ((name, _), [short, long]) in SIZED.iter().zip(times) {
+        println!("{name} {:.2}", long / short);
     }
-    best
-}
-
-fn counting(list: &Rows) -> f64 {
-    least(|| {
-        let mut count = 0usize;
-        for byte in black_box(&list.0) {
-            // Kept from being vectorised, as a pass that looks at each byte.
-            count += black_box((*byte == b'\n') as usize);
-        }
-        black_box(count);
-    })
 }
 
 fn main() {
-    println!("input rows bytes ns-a-row virtue-ns-a-row times-as-fast of-the-pass");
-    let inputs: [(&str, Rows); 5] = [
-        ("enum", large_enum(4000)),
-        ("small", small()),
-        ("deep", deep(4000)),
-        ("run", long_run(4000)),
-        ("marks", idle_marks(4000)),
-    ];
-    for (name, list) in &inputs {
-        let (time, theirs, rows) = (reading(list), original(list), list.1 as f64);
-        let (faster, pass) = (theirs / time, time / counting(list));
-        println!("{name} {rows} {} {:.1} {:.1} {faster:.1} {pass:.2}", list.0.len(), time / rows, theirs / rows);
+    let words: Vec<String> = std::env::args().skip(1).collect();
+    let words: Vec<&str> = words.iter().map(String::as_str).collect();
+    let (name, times) = match words[..] {
+        [] => return table(),
+        ["ours", name] => (name, 100),
+        ["ours", name, times] => (name, times.parse().expect("TIMES is a number")),
+        _ => panic!("usage: speed [ours NAME [TIMES]]"),
+    };
+    let found = inputs().into_iter().find(|(input, _)| *input == name);
+    let (_, input) = found.unwrap_or_else(|| panic!("there is no input {name}"));
+    let mut roles = [0u8; MOST_ROWS];
+    for _ in 0..times {
+        ours(&input, &mut roles, a_byte_a_row);
     }
-    println!("input growth-a-row-from-1000-to-4000");
-    for (name, make) in [("enum", large_enum as fn(usize) -> Rows), ("deep", deep), ("run", long_run), ("marks", idle_marks)] {
-        let (short, long) = (make(1000), make(4000));
-        println!("{name} {:.2}", (reading(&long) / long.1 as f64) / (reading(&short) / short.1 as f64));
-    }
+    println!("{name}: {} rows read", times * input.iter().map(a_byte_a_row).sum::<usize>());
 }

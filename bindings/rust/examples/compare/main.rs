@@ -1,0 +1,184 @@
+//! Compares the reader with recorded answers, in process, and then reads damaged and random lists.
+//! usage: compare FILE [COUNT]: a file in the format of recorded/README.md, and how many damaged copies of its lists are read
+//! (default 100,000); of each kind of random lists it is a tenth.
+mod random;
+mod reader;
+
+use kusthrila::{check, Place, Refusal, MOST_LISTING, MOST_ROWS};
+use random::{Random, KINDS};
+use reader::{Reader, SCRATCH};
+use std::collections::BTreeMap;
+use std::io::{BufRead, BufReader};
+
+// A section's name and bytes.
+fn section(input: &mut impl BufRead) -> Option<(String, Vec<u8>)> {
+    let mut header = String::new();
+    if input.read_line(&mut header).expect("a header") == 0 {
+        return None;
+    }
+    let (name, size) = header.trim_end().split_once(' ').expect("name and length");
+    let mut body = vec![0; size.parse().expect("a length")];
+    input.read_exact(&mut body).expect("a section's bytes");
+    Some((name.to_string(), body))
+}
+
+fn refused(refusal: &Refusal) -> Vec<u8> {
+    let number = refusal.number;
+    match refusal.place {
+        Place::Row(row) => format!("refused place\n{number} {row}\n").into(),
+        Place::End => format!("refused place\n{number} -\n").into(),
+    }
+}
+
+// The role bytes as letters.
+fn letters(roles: Vec<u8>) -> Vec<u8> {
+    roles.iter().map(|role| b'a' + role).chain([b'\n']).collect()
+}
+
+// Whether a value is written, for each variant, by the letters of every row's role. The rows of a variant's name stand together,
+// and those of its value before the next name.
+fn written(every: &[u8]) -> Vec<bool> {
+    let mut variants = Vec::new();
+    for (n, letter) in every.iter().enumerate() {
+        match letter {
+            b'p' if n == 0 || every[n - 1] != b'p' => variants.push(false),
+            b'q' => *variants.last_mut().expect("a value has a variant") = true,
+            _ => {}
+        }
+    }
+    variants
+}
+
+#[derive(Default)]
+struct Counts {
+    cases: usize,
+    compared: BTreeMap<String, usize>,
+    refusals: BTreeMap<u8, usize>,
+    differences: usize,
+}
+
+impl Counts {
+    fn count(&mut self, what: &str) {
+        *self.compared.entry(what.to_string()).or_default() += 1;
+    }
+
+    fn compare(&mut self, what: &str, ours: &[u8], theirs: &[u8]) {
+        let same = ours.len() == theirs.len()
+            // A row that the Rust's answer does not name may have any role.
+            && ours.iter().zip(theirs).all(|(a, b)| a == b || (what == "roles" && *b == b'.'));
+        self.count(what);
+        if !same {
+            self.differences += 1;
+            if self.differences <= 10 {
+                let [ours, theirs] = [ours, theirs].map(String::from_utf8_lossy);
+                println!("differs: case {}, {what}: {ours:?}, recorded {theirs:?}", self.cases);
+            }
+        }
+    }
+
+    // The value of every variant of the listing, of one that is not there, or the refusal. The listing's number is the Rust's:
+    // the written value, or where none is written the position.
+    fn values(&mut self, reader: &mut Reader, list: &[u8], every: &[u8], listing: &[u8]) {
+        let mut value = |position| match reader.value(list, position, SCRATCH) {
+            Ok(Some(text)) => text,
+            Ok(None) => b"none".to_vec(),
+            Err(refusal) => refused(&refusal),
+        };
+        if every.is_empty() {
+            return self.compare("values refused", &value(0), listing);
+        }
+        let lines = std::str::from_utf8(listing).expect("ASCII").lines();
+        let numbers = lines.filter_map(|line| line.strip_prefix("variant ")?.split_once(' '));
+        let numbers: Vec<&str> = numbers.map(|(_, number)| number).collect();
+        let written = written(every);
+        self.compare("variants", written.len().to_string().as_bytes(), numbers.len().to_string().as_bytes());
+        for (position, (number, written)) in numbers.iter().zip(written).enumerate() {
+            if written {
+                self.compare("values", &value(position), number.as_bytes());
+                self.count("values written");
+            } else {
+                self.compare("values", &value(position), b"none");
+                self.compare("positions", position.to_string().as_bytes(), number.as_bytes());
+            }
+        }
+        self.compare("values of no variant", &value(numbers.len()), b"none");
+    }
+}
+
+fn main() {
+    let mut words = std::env::args().skip(1);
+    let path = words.next().expect("usage: compare FILE [COUNT]");
+    let count: usize = words.next().map_or(100_000, |word| word.parse().expect("a number"));
+    let mut input = BufReader::new(std::fs::File::open(&path).expect("the file"));
+    let (mut reader, mut counts) = (Reader::new(), Counts::default());
+    let (mut list, mut every, mut lists) = (Vec::new(), Vec::new(), Vec::new());
+    while let Some((name, body)) = section(&mut input) {
+        let fill = counts.cases as u8;
+        match name.as_str() {
+            "list" => {
+                counts.cases += 1;
+                if counts.cases % 97 == 0 && body.len() < 4096 {
+                    lists.push(body.clone());
+                }
+                (list, every) = (body, Vec::new());
+            }
+            "check" => {
+                let ours = check(&list).map_or_else(|refusal| refused(&refusal), |rows| format!("rows {rows}\n").into());
+                counts.compare("check", &ours, &body);
+            }
+            "roles" => {
+                let ours = match reader.read(&list, MOST_ROWS, fill) {
+                    Ok(roles) => [b"accepted\n".to_vec(), letters(roles)].concat(),
+                    Err(refusal) => {
+                        *counts.refusals.entry(refusal.number).or_default() += 1;
+                        refused(&refusal)
+                    }
+                };
+                counts.compare("roles", &ours, &body);
+            }
+            "every" => {
+                let ours = reader.read(&list, MOST_ROWS, !fill).map_or_else(|refusal| refused(&refusal), letters);
+                counts.compare("every", &ours, &body);
+                every = body;
+            }
+            "listing" => {
+                let ours = reader.listing(&list, MOST_LISTING).unwrap_or_else(|refusal| refused(&refusal));
+                counts.compare("listing", &ours, &body);
+                counts.values(&mut reader, &list, &every, &body);
+            }
+            _ => {}
+        }
+    }
+    println!("cases {}", counts.cases);
+    for (what, count) in &counts.compared {
+        println!("{what} {count}");
+    }
+    for (number, count) in &counts.refusals {
+        println!("refusal {number}: {count}");
+    }
+
+    let random = &mut Random(0x9E37_79B9_7F4A_7C15);
+    let damaged = if lists.is_empty() { 0 } else { count };
+    let mut accepted = 0;
+    for _ in 0..damaged {
+        let from = random.below(lists.len());
+        let list = random.damaged(&lists[from]);
+        accepted += usize::from(reader.answer(&list, random));
+    }
+    println!("damaged lists answered {damaged}, accepted {accepted}");
+    for kind in KINDS {
+        let mut accepted = 0;
+        for n in 0..count / 10 {
+            // The first are about as long as a list may be.
+            let most = 1 << random.below(13);
+            let len = if n < 6 { 65_534 + n } else { random.below(most) };
+            let list = random.list(kind, len);
+            accepted += usize::from(reader.answer(&list, random));
+        }
+        println!("random lists ({kind}) answered {}, accepted {accepted}", count / 10);
+    }
+    println!("differences {}", counts.differences);
+    if counts.differences > 0 {
+        std::process::exit(1);
+    }
+}

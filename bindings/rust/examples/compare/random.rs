@@ -1,0 +1,97 @@
+//! Damaged lists and random ones.
+
+const NAMES: &[u8] = b"kind text\n";
+
+/// The kinds of random lists. Those with names begin with the right first line.
+pub const KINDS: [&str; 5] = ["bytes", "letters", "names, bytes", "names, letters", "names, rows"];
+
+pub struct Random(pub u64);
+
+impl Random {
+    pub fn below(&mut self, n: usize) -> usize {
+        self.0 ^= self.0 << 13;
+        self.0 ^= self.0 >> 7;
+        self.0 ^= self.0 << 17;
+        (self.0 % n.max(1) as u64) as usize
+    }
+
+    pub fn byte(&mut self) -> u8 {
+        self.below(256) as u8
+    }
+
+    pub fn pick<T: Copy>(&mut self, from: &[T]) -> T {
+        from[self.below(from.len())]
+    }
+
+    /// A copy with a byte changed, dropped or put in, up to three times over.
+    pub fn damaged(&mut self, list: &[u8]) -> Vec<u8> {
+        let mut bytes = list.to_vec();
+        for _ in 0..=self.below(3) {
+            let at = self.below(bytes.len());
+            match self.below(3) {
+                0 if !bytes.is_empty() => bytes[at] = self.byte(),
+                1 if !bytes.is_empty() => drop(bytes.remove(at)),
+                _ => bytes.insert(at, self.byte()),
+            }
+        }
+        bytes
+    }
+
+    /// A random list of one of the kinds, so many bytes long; with rows, a little longer.
+    pub fn list(&mut self, kind: &str, len: usize) -> Vec<u8> {
+        let mut list = Vec::new();
+        let kind = match kind.strip_prefix("names, ") {
+            Some(kind) => {
+                list.extend_from_slice(&NAMES[..NAMES.len().min(len)]);
+                kind
+            }
+            None => kind,
+        };
+        match kind {
+            "rows" => self.rows(&mut list, len),
+            "letters" => list.resize_with(len, || self.pick(b"iplocx    \n\n\n\nabrZ_09#=<>-,:;'\"([{0)]}")),
+            _ => list.resize_with(len, || self.byte()),
+        }
+        list
+    }
+
+    // The start of a declaration, then right rows in any order, with every group closed.
+    fn rows(&mut self, list: &mut Vec<u8>, len: usize) {
+        const STARTS: [&[&str]; 5] = [
+            &[],
+            &["i struct", "i A", "o {"],
+            &["i struct", "i A", "o ("],
+            &["i struct", "i A", "p <"],
+            &["i enum", "i E", "o {"],
+        ];
+        // `c` closes what is open; `i n` becomes a longer name.
+        const ROWS: [&str; 33] = [
+            "i a", "i B", "i r#c", "i pub", "i crate", "i in", "i where", "i const", "i struct", "i n", "i n", "i n", "i n",
+            "l 1", "l 007", "l \"s\"", "p ,", "p ,", "p ,", "p :", "p :", "p =", "p -", "p <", "p >", "p #", "p ;", "p '", "o (",
+            "o [", "o {", "o 0", "c",
+        ];
+        let mut start = self.pick(&STARTS).iter();
+        let mut open = Vec::new();
+        while list.len() < len || !open.is_empty() {
+            let mut row = match start.next() {
+                Some(row) => row,
+                None if list.len() < len => self.pick(&ROWS),
+                None => "c",
+            };
+            match row {
+                "c" if open.is_empty() => continue,
+                "c" => row = open.pop().expect("an open group"),
+                "o (" => open.push("c )"),
+                "o [" => open.push("c ]"),
+                "o {" => open.push("c }"),
+                "o 0" => open.push("c 0"),
+                _ => {}
+            }
+            list.extend_from_slice(row.as_bytes());
+            if row == "i n" {
+                list.resize(list.len() + self.below(255), b'n');
+            }
+            list.push(b'\n');
+        }
+    }
+}
