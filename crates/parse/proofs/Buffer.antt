@@ -2,11 +2,11 @@
 use mathlib.Core.Path.{_≡_, refl, ap, _∙_, sym}
 use mathlib.Core.List.{List, [], _∷_, _++_}
 use Prim.Native.Nat.{ℕ, zero, suc, _+_, _-_, _≤_, _<_}
-use native.Mathlib.Nat.{add-zero, add-suc, suc-add}
+use native.Mathlib.Nat.{add-zero, zero-add, add-suc, suc-add}
 use native.Mathlib.Numerals.{add-one}
 use native.Mathlib.Omega.{arith}
 use lib.ListN.{length, set, replicate, length-append, length-replicate}
-use lib.Seq.{sets}
+use lib.Seq.{sets, set-out, length-sets}
 
 pub sets-append : (l : List ℕ) (i : ℕ) (xs ys : List ℕ) → sets l i (xs ++ ys) ≡ sets (sets l i xs) (i + length xs) ys
 sets-append l i [] ys = rw add-zero
@@ -32,3 +32,24 @@ fill-step l from i v h =
     let a : i + 1 - from ≡ suc (i - from) = omega arith in
     let b : from + (i - from) ≡ i = omega arith in
     sym (ap (λ (n : ℕ). sets l from (replicate n v)) a ∙ fill-more l from (i - from) v ∙ ap (λ (k : ℕ). set (sets l from (replicate (i - from) v)) k v) b)
+
+-- stores past the end change nothing
+sets-out : (l : List ℕ) (i : ℕ) (xs : List ℕ) → length l ≤ i → sets l i xs ≡ l
+sets-out l i [] h = refl
+sets-out l i (x ∷ xs) h = ap (λ (k : List ℕ). sets k (suc i) xs) (set-out l i x h) ∙ sets-out l (suc i) xs (omega arith)
+
+replicate-add : (n m v : ℕ) → replicate (n + m) v ≡ replicate n v ++ replicate m v
+replicate-add zero m v = ap (λ (k : ℕ). replicate k v) (zero-add m)
+replicate-add (suc n) m v = ap (λ (k : ℕ). replicate k v) (suc-add n m) ∙ ap (λ (xs : List ℕ). v ∷ xs) (replicate-add n m v)
+
+pub fill-clip : (l : List ℕ) (from to v : ℕ) → length l ≤ to → sets l from (replicate (length l - from) v) ≡ sets l from (replicate (to - from) v)
+fill-clip l from to v h =
+    let n = length l - from in
+    let m = to - from - n in
+    let e : to - from ≡ n + m = omega arith in
+    let out : length (sets l from (replicate n v)) ≤ from + length (replicate n v) = omega (arith, length-sets l from (replicate n v), length-replicate n v) in
+    sym
+    (ap (λ (k : ℕ). sets l from (replicate k v)) e
+    ∙ ap (sets l from) (replicate-add n m v)
+    ∙ sets-append l from (replicate n v) (replicate m v)
+    ∙ sets-out (sets l from (replicate n v)) (from + length (replicate n v)) (replicate m v) out)

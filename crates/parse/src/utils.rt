@@ -89,15 +89,28 @@ pub fn mark(roles: &mut [u8], row: usize, role: u8)
     }
 }
 
-// The same role for the rows from `from` up to `to`.
-pub fn fill(roles: &mut [u8], from: usize, to: usize, role: u8)
+// The same role for the rows from `from` up to `to`, for which the buffer has bytes.
+fn fill_within(roles: &mut [u8], from: usize, to: usize, role: u8)
+    requires { ⌜ to ≤ length (now roles) ⌝ }
     ensures { λ _. ⌜ now (roles .exit) ≡ sets (now (roles .entry)) from (replicate (to - from) role) ⌝ }
 {
     let mut i = from;
     while i < to {
-        mark(roles, i, role);
+        roles[i] = role;
         i += 1;
     }
+}
+
+// The same role for the rows from `from` up to `to`, where the buffer has bytes for them.
+pub fn fill(roles: &mut [u8], from: usize, to: usize, role: u8)
+    ensures { λ _. ⌜ now (roles .exit) ≡ sets (now (roles .entry)) from (replicate (to - from) role) ⌝ }
+{
+    let len = roles.len();
+    if len < to {
+        fill_within(roles, from, len, role);
+        return;
+    }
+    fill_within(roles, from, to, role);
 }
 
 // Past a token's own row.
