@@ -6,3 +6,4 @@ pub mod Forms
 pub mod Walks
 pub mod Streams
 pub mod Passed
+pub mod Bounds
