@@ -152,7 +152,7 @@ fn tuple_lines(s: &[u8], from: Cursor, roles: &mut [u8], out: &mut [u8], start: 
 {
     let mut c = from;
     let mut at = start;
-    let mut count = 0;
+    let mut count: usize = 0;
     loop {
         match tuple_field(s, c, roles) {
             TypeStep::One(next) => {
