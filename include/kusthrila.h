@@ -20,8 +20,8 @@
 /* No list has more rows: a role buffer of this many bytes is always long enough. */
 #define KUSTHRILA_MOST_ROWS 4096u
 
-/* No listing is longer: this is reckoned (docs/DECISIONS.md), not yet proved. */
-#define KUSTHRILA_MOST_LISTING 262144u
+/* No listing is longer: MOST in crates/describe/specs/Listing.antt, of which the law `fits` is proved. */
+#define KUSTHRILA_MOST_LISTING 147473u
 
 /* Checks a list: the number of its rows, or refusal 1 to 7. */
 uint64_t kusthrila_check(const uint8_t *list, size_t list_len);

@@ -10,8 +10,8 @@ extern "C" {
 /// No list has more rows.
 pub const MOST_ROWS: usize = 4096;
 
-/// No listing is longer: this is reckoned, not yet proved.
-pub const MOST_LISTING: usize = 262_144;
+/// No listing is longer: `MOST` in `crates/describe/specs/Listing.antt`, of which the law `fits` is proved.
+pub const MOST_LISTING: usize = 147_473;
 
 /// Where a refusal stands.
 #[derive(Clone, Copy, Debug, PartialEq, Eq)]

@@ -1,13 +1,11 @@
 -- Laws on the answers of the calls.
 use mathlib.Core.Path.{_≡_, refl, ap, _∙_, sym, subst, subst⁻¹}
-use mathlib.Core.Bool.{Bool, true, false, cond}
 use mathlib.Core.List.{List}
 use Prim.Native.Nat.{ℕ, _≤_, _<_}
 use native.Mathlib.Omega.{arith}
-use borrow.Author.Tests.{lt-ltb, le-ltb, le-leb, ltb-false}
-use lib.Dec.{ltb}
+use borrow.Author.Tests.{lt-ltb, le-ltb, le-leb}
 use lib.ListN.{length, take, length-take}
-use lib.Seq.{slice, sets}
+use lib.Seq.{slice, sets, length-take-le}
 use Rattle.token_list.specs.Check as list
 use Rattle.token_list.specs.Stream.{Trees, at}
 use Rattle.token_list.specs.Contract.{InList}
@@ -16,6 +14,7 @@ use Rattle.token_list.specs.declared.check.Refusal.{Refusal}
 use Rattle.token_list.specs.declared.stream.Token.{Token}
 use Rattle.token_list.proofs.Passed.{passed-list}
 use Rattle.token_list.proofs.Texts.{chosen, passed-over}
+use Rattle.report.specs.Text.{refusalText}
 use Rattle.report.specs.Contract.{Put}
 use Rattle.report.proofs.Texts.{kept, shown, joined}
 use Rattle.reading.specs.Declaration as declaration
@@ -100,30 +99,18 @@ module _ (s : List ℕ) (k n : ℕ) where
 
 -- ## A listing
 
-abbrev isPassed : list.Answer → Type 0
-isPassed (list.Answer.passed n) = Unit {0}
-isPassed (list.Answer.refused n p) = ⊥
-
-pub passed-size : (s : List ℕ) {n : ℕ} → list.check s ≡ list.Answer.passed n → length s ≤ 65536
-unfolding list.check
-passed-size s {n} e = go _ (ltb 65536 (length s)) refl e
-  where
-    go : (a : list.Answer) (b : Bool) → ltb 65536 (length s) ≡ b → cond b (list.Answer.refused 1 list.END) a ≡ list.Answer.passed n → length s ≤ 65536
-    go a true h q = absurd (subst⁻¹ isPassed q tt)
-    go a false h q = ltb-false 65536 (length s) h
-
 pub put-listing : {k l m o : List ℕ} {i j r : ℕ} (x : declaration.Declaration) → Put k l 0 i (listing.itemLines x) → Put l m i j (listing.numbered listing.parameterLine 0 (x .parameters))
     → Put m o j r (listing.bodyLines (x .body)) → Put k o 0 r (listing.listing x)
 unfolding listing.listing
 put-listing x p q t = joined p (joined q t)
 
 module _ {x : List ℕ} (text : List ℕ) where
-  pub fits-not : (n : ℕ) → n ≡ length text → length x < n → ListedAs x x (listing.fitted (length x) text) (listeds.Refused (record { number = 8; place = 65535 }))
+  pub fits-not : (n : ℕ) → n ≡ length text → length x < n → ListedAs x x (listing.fitted (length x) (listing.listed text)) (listeds.Refused (record { number = 8; place = 65535 }))
   fits-not n e h =
       let q = chosen _ (listing.refused 8 list.END) (listing.listed text) (lt-ltb (length x) (length text) (omega (arith, e, h))) in
       record { room = tt; answer = sym q; output = sym (ap (listing.output x) q) }
 
-  pub fits : {y : List ℕ} (n : ℕ) → n ≡ length text → n ≤ length x → {r : ℕ} → Put x y 0 r text → ListedAs x y (listing.fitted (length x) text) (listeds.Written r)
+  pub fits : {y : List ℕ} (n : ℕ) → n ≡ length text → n ≤ length x → {r : ℕ} → Put x y 0 r text → ListedAs x y (listing.fitted (length x) (listing.listed text)) (listeds.Written r)
   fits {y} n e h {r} p =
       let q = passed-over _ (listing.refused 8 list.END) (listing.listed text) (le-ltb (length x) (length text) (omega (arith, e, h))) in
       record { room = omega (arith, p .next, e, h, kept p); answer = ap listing.listed (shown p (omega (arith, p .next, e, h))) ∙ sym q; output = p .bytes ∙ sym (ap (listing.output x) q) }
@@ -136,9 +123,22 @@ listed-refused e f = record { room = tt; answer = e; output = f }
 
 module _ (s : List ℕ) (n : ℕ) where
   pub listing-checked : {m p : ℕ} → list.check s ≡ list.Answer.refused m p → listing.answer s n ≡ listing.refused m p
-  unfolding listing.answer
-  listing-checked e = ap (listing.checkedAnswer s n) e
+  unfolding listing.answer listing.whole
+  listing-checked e = ap (λ (a : list.Answer). listing.fitted n (listing.checkedAnswer s a)) e
 
-  pub listing-read : {r : ℕ} → list.check s ≡ list.Answer.passed r → listing.answer s n ≡ listing.itemAnswer n (item 0 (at s 10 .here))
-  unfolding listing.answer
-  listing-read e = ap (listing.checkedAnswer s n) e
+  pub listing-read : {r : ℕ} → list.check s ≡ list.Answer.passed r → listing.answer s n ≡ listing.fitted n (listing.itemAnswer (item 0 (at s 10 .here)))
+  unfolding listing.answer listing.whole
+  listing-read e = ap (λ (a : list.Answer). listing.fitted n (listing.checkedAnswer s a)) e
+
+-- what is written is the text of the answer
+module _ {x y : List ℕ} {a : listing.Answer} where
+  pub listed-put : {n : ℕ} → ListedAs x y a (listeds.Written n) → Put x y 0 n (listing.answerText a)
+  listed-put {n} l =
+      let q : a ≡ listing.listed (take n y) = sym (l .answer) in
+      rw q (record { next = omega (arith, length-take-le n y (l .room)); bytes = l .output ∙ ap (listing.output x) q })
+
+  pub refused-put : {z : List ℕ} {n : ℕ} {r : Refusal} → ListedAs x y a (listeds.Refused r) → Put y z 0 n (refusalText (r .number) (r .place)) → Put x z 0 n (listing.answerText a)
+  refused-put {z} {n} {r} l p =
+      let q : a ≡ listing.refused (r .number) (r .place) = sym (l .answer) in
+      let same : y ≡ x = l .output ∙ ap (listing.output x) q in
+      rw q (rw same at p)

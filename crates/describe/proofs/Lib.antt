@@ -3,4 +3,6 @@ pub mod Inside
 pub mod Parts
 pub mod Worths
 pub mod Answers
+pub mod Costs
 pub mod Lined
+pub mod Length

@@ -1,10 +1,10 @@
 -- Laws on values: the worth of digits, and the text of a negative.
 use mathlib.Core.Path.{_≡_, refl, ap, _∙_, sym, subst, subst⁻¹}
-use mathlib.Core.Bool.{Bool, true, false, _&&_, false≢true}
+use mathlib.Core.Bool.{Bool, true, false, cond, _&&_, false≢true}
 use mathlib.Core.List.{List, [], _∷_}
 use Prim.Native.Nat.{ℕ, zero, suc, _+_, _-_, _*_, _≤_, _<_}
 use native.Mathlib.Omega.{arith}
-use lib.Dec.{leb}
+use lib.Dec.{leb, eqb}
 use lib.ListN.{length, getD, take, drop}
 use lib.Seq.{slice}
 use borrow.Author.Tests.{leb-true, le-leb, lt-leb, eq-eqb, ne-eqb}
@@ -67,6 +67,14 @@ negative-some n e = passed-over _ _ _ (ne-eqb n 0 e)
 
 pub decimal-i64 : (n : ℕ) → n ≤ 9223372036854775807 → length (decimal n) ≤ 19
 decimal-i64 n h = decimal-within 18 n (omega arith)
+
+pub negative-within : (n : ℕ) → n ≤ 9223372036854775807 → length (negativeText n) ≤ 20
+unfolding negativeText
+negative-within n h = go (eqb n 0)
+  where
+    go : (b : Bool) → length (cond b (48 ∷ []) (45 ∷ decimal n)) ≤ 20
+    go true = omega arith
+    go false = omega (arith, decimal-i64 n h)
 
 pub put-as : {k l s t : List ℕ} {h i : ℕ} → s ≡ t → Put k l h i t → Put k l h i s
 put-as {k} {l} {h = h} {i} e p = subst⁻¹ (Put k l h i) e p

@@ -1,13 +1,14 @@
 -- The listing of a declaration (document 01, "The listing program").
+use mathlib.Core.Path.{_≡_}
 use mathlib.Core.Bool.{cond}
 use mathlib.Core.List.{List, [], _∷_, _++_}
-use Prim.Native.Nat.{ℕ, _+_}
+use Prim.Native.Nat.{ℕ, _+_, _≤_}
 use lib.Dec.{ltb}
 use lib.ListN.{length}
 use lib.Seq.{sets}
 use Rattle.token_list.specs.Check as list
 use Rattle.token_list.specs.Stream.{Trees, at}
-use Rattle.report.specs.Text.{decimal}
+use Rattle.report.specs.Text.{decimal, refusalText}
 use Rattle.reading.specs.Declaration.{Kind, struct, enum, Parameter, lifetime, constant, type, Field, Fields, unit, named, tuple, Value, absent, literal, negative, Variant, Body, fields, variants, Declaration}
 use Rattle.reading.specs.Took.{Took, took, refuse}
 use Rattle.reading.specs.Reading.{item}
@@ -101,23 +102,46 @@ pub data Answer : Type 0 where
   -- the refusal's number and place
   refused : ℕ → ℕ → Answer
 
--- a declaration, and an output of n bytes
-abbrev pub fitted : ℕ → List ℕ → Answer
-fitted n text = cond (ltb n (length text)) (refused 8 list.END) (listed text)
+abbrev pub itemAnswer : Took Declaration → Answer
+itemAnswer (took d rs us) = listed (listing d)
+itemAnswer (refuse n p) = refused n p
 
-abbrev pub itemAnswer : ℕ → Took Declaration → Answer
-itemAnswer n (took d rs us) = fitted n (listing d)
-itemAnswer n (refuse m p) = refused m p
+abbrev pub checkedAnswer : List ℕ → list.Answer → Answer
+checkedAnswer s (list.Answer.refused n p) = refused n p
+checkedAnswer s (list.Answer.passed rows) = itemAnswer (item 0 (at s 10 .here))
 
-abbrev pub checkedAnswer : List ℕ → ℕ → list.Answer → Answer
-checkedAnswer s n (list.Answer.refused m p) = refused m p
-checkedAnswer s n (list.Answer.passed rows) = itemAnswer n (item 0 (at s 10 .here))
+-- for a list, where there is room
+unfoldable pub whole : List ℕ → Answer
+whole s = checkedAnswer s (list.check s)
 
--- a list, and an output of n bytes
+-- in an output of n bytes
+abbrev pub fitted : ℕ → Answer → Answer
+fitted n (listed text) = cond (ltb n (length text)) (refused 8 list.END) (listed text)
+fitted n (refused m p) = refused m p
+
+-- for a list and an output of n bytes
 unfoldable pub answer : List ℕ → ℕ → Answer
-answer s n = checkedAnswer s n (list.check s)
+answer s n = fitted n (whole s)
 
 -- the output: the listing, and past it the bytes that stood there; after a refusal all stay
 abbrev pub output : List ℕ → Answer → List ℕ
 output x (listed text) = sets x 0 text
 output x (refused n p) = x
+
+-- what the program prints: the listing, or the refusal
+abbrev pub answerText : Answer → List ℕ
+answerText (listed text) = text
+answerText (refused n p) = refusalText n p
+
+-- the line of names, the 65,536 bytes that a list may have, and 20 bytes for each of its 4,096 rows
+abbrev pub MOST : ℕ
+MOST = 147473
+
+-- of a list s, and an output of n bytes
+pub record Fits (s : List ℕ) (n : ℕ) : Type 0 where
+  -- no listing is longer than MOST
+  pub longest : (text : List ℕ) → answer s n ≡ listed text → length text ≤ MOST
+  -- an output of that length has room for the whole listing
+  pub room : MOST ≤ n → answer s n ≡ whole s
+  -- and is never refused as too short
+  pub never : MOST ≤ n → (p : ℕ) → answer s n ≡ refused 8 p → ⊥

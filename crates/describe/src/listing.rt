@@ -23,6 +23,7 @@ use parse::utils::past;
 use report::put::put_byte;
 use report::put::put_bytes;
 use report::put::put_number;
+use report::put::put_refusal;
 use token_list::check::Checked;
 use token_list::check::Cursor;
 use token_list::check::END;
@@ -43,7 +44,7 @@ ghost use Rattle.report.specs.Contract.{Put};
 ghost use Rattle.reading.specs.Declaration.{Parameter, Field, Fields, Value, Variant, Body, Declaration};
 ghost use Rattle.reading.specs.Reading.{every, namedField, tupleField, variant, parameter, generics, bodyOf, item};
 ghost use Rattle.parse.specs.Contract.{kindOf, InsideAt, TextOf, ValueOf, FieldsOf, VariantOf, ParameterOf};
-ghost use Rattle.describe.specs.Listing.{FIELD, DASH, line, numbered, kindText, number, parameterLine, namedLine, tupleLine, fieldLines, variantLine, variantLines, bodyLines, itemLines, listing, fitted, itemAnswer, answer};
+ghost use Rattle.describe.specs.Listing.{FIELD, DASH, line, numbered, kindText, number, parameterLine, namedLine, tupleLine, fieldLines, variantLine, variantLines, bodyLines, itemLines, listing, listed, itemAnswer, fitted, answer, whole, answerText, MOST};
 ghost use Rattle.describe.specs.Contract.{DeclarationOf, StructAt, ListedAs};
 
 // The listing's length, or a refusal.
@@ -151,7 +152,7 @@ fn tuple_lines(s: &[u8], from: Cursor, roles: &mut [u8], out: &mut [u8], start: 
 {
     let mut c = from;
     let mut at = start;
-    let mut count = 0;
+    let mut count: usize = 0;
     loop {
         match tuple_field(s, c, roles) {
             TypeStep::One(next) => {
@@ -402,7 +403,7 @@ fn put_listing(s: &[u8], d: DeclarationAt, roles: &mut [u8], out: &mut [u8]) -> 
 fn fit_listing(s: &[u8], d: DeclarationAt, roles: &mut [u8], out: &mut [u8]) -> Listed
     requires { ⌜ ((x : Declaration) × DeclarationOf (now s) d x) ⌝ }
     requires { ⌜ length (now s) ≤ 65536 ⌝ }
-    ensures { λ r. ⌜ ((x : Declaration) → DeclarationOf (now (s .entry)) d x → ListedAs (now (out .entry)) (now (out .exit)) (fitted (length (now (out .entry))) (listing x)) r) ⌝ }
+    ensures { λ r. ⌜ ((x : Declaration) → DeclarationOf (now (s .entry)) d x → ListedAs (now (out .entry)) (now (out .exit)) (fitted (length (now (out .entry))) (listed (listing x))) r) ⌝ }
 {
     let mut nowhere = [0u8; 1];
     let needed = put_listing(s, d, roles, &mut nowhere);
@@ -420,7 +421,7 @@ fn fit_listing(s: &[u8], d: DeclarationAt, roles: &mut [u8], out: &mut [u8]) -> 
 fn read_listing(s: &[u8], out: &mut [u8], roles: &mut [u8]) -> Listed
     requires { ⌜ InList (now s) (record { at = 10; row = 0 }) ⌝ }
     requires { ⌜ length (now s) ≤ 65536 ⌝ }
-    ensures { λ r. ⌜ ListedAs (now (out .entry)) (now (out .exit)) (itemAnswer (length (now (out .entry))) (item 0 (at (now (s .entry)) 10 .here))) r ⌝ }
+    ensures { λ r. ⌜ ListedAs (now (out .entry)) (now (out .exit)) (fitted (length (now (out .entry))) (itemAnswer (item 0 (at (now (s .entry)) 10 .here)))) r ⌝ }
 {
     let c = Cursor { at: 10, row: 0 };
     match read(s, c, roles) {
@@ -439,5 +440,16 @@ pub fn write_listing(list: &[u8], out: &mut [u8]) -> Listed
             let mut roles = [0u8; 4096];
             read_listing(list, out, &mut roles)
         }
+    }
+}
+
+// Writes the listing or the refusal at the start of the output; answers its length, at most 147,473.
+pub fn report_listing(list: &[u8], out: &mut [u8]) -> usize
+    ensures { λ r. ⌜ (MOST ≤ length (now (out .entry)) → Put (now (out .entry)) (now (out .exit)) 0 r (answerText (whole (now (list .entry))))) ⌝ }
+    ensures { λ r. ⌜ r ≤ MOST ⌝ }
+{
+    match write_listing(list, out) {
+        Listed::Written(n) => n,
+        Listed::Refused(r) => put_refusal(out, 0, r),
     }
 }

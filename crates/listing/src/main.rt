@@ -1,9 +1,6 @@
 // The listing of the declaration on standard input: prints its fields, variants and numbers, or the refusal.
-use describe::listing::Listed;
-use describe::listing::write_listing;
 use libc::STDIN_FILENO;
 use libc::STDOUT_FILENO;
-use report::put::put_refusal;
 ghost use mathlib.Core.Path.{_≡_};
 ghost use lib.ListN.{length};
 
@@ -14,25 +11,17 @@ fn list_buffer() -> [u8; 65537]
     [0; 65537]
 }
 
-// More than a listing needs: the texts of each line stand once in rows of its own, of which there are at
-// most 4,096, and a line adds at most 20 bytes to them.
-fn output() -> [u8; 262144]
-    ensures { λ r. ⌜ 262144 ≡ length r ⌝ }
+// As many bytes as the longest listing may have: MOST in describe/specs/Listing.antt.
+fn output() -> [u8; 147473]
+    ensures { λ r. ⌜ 147473 ≡ length r ⌝ }
 {
-    [0; 262144]
+    [0; 147473]
 }
 
 fn main() {
     let mut list = list_buffer();
     let n = io::read_full(STDIN_FILENO, &mut list);
     let mut out = output();
-    match write_listing(&list[..n], &mut out) {
-        Listed::Written(k) => {
-            io::write_all(STDOUT_FILENO, &out[..k]);
-        }
-        Listed::Refused(r) => {
-            let k = put_refusal(&mut out, 0, r);
-            io::write_all(STDOUT_FILENO, &out[..k]);
-        }
-    }
+    let k = describe::listing::report_listing(&list[..n], &mut out);
+    io::write_all(STDOUT_FILENO, &out[..k]);
 }

@@ -124,7 +124,7 @@ module _ (s : List ℕ) (rows : ℕ) (e : list.check s ≡ list.passed rows) (b0
           let n : i .next .row ≡ length rs = omega (arith, mv .row) in
           record {
             answer = subst⁻¹ (ParsedAs s (parsedOf i)) a (parsed-as s i (i .kind) d (rs ++ replicate (size us) 0) refl o);
-            buffer = q ∙ filled b0 b1 rs (i .next .row) rows (size us) (mv .roles) n (c ∙ passed-list s rows e .size) room ∙ sym (ap (buffer (length b0)) a);
+            buffer = q ∙ filled b0 b1 rs (i .next .row) rows (size us) (mv .roles) n (c .rows ∙ passed-list s rows e .size) room ∙ sym (ap (buffer (length b0)) a);
           }
 
 -- what the answer tells of acceptance

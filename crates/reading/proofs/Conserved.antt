@@ -15,7 +15,7 @@ use Rattle.reading.specs.Declaration.{Kind, struct, enum, Parameter, Fie
 use Rattle.reading.specs.Took.{Took, took, refuse, Reader, onward, after, _>>=_, pure, wrong}
 use Rattle.reading.specs.Reading as r
 use Rattle.reading.specs.Reading.{Maybe, done, one, Word, missing, found, Stops, Ending, Verdict, belongs, ends, unopened, rounds, every, more}
-pub use Rattle.reading.proofs.Rounds.{Conserved, Conserving, conserved, onward-conserved, after-conserved, bind, pure-conserving, choice, reader-choice, nothing-taken, from-conserved, copied-length, copied-conserved, copied-alone, one-row, Shorter, onward-shorter, onward-still, after-shorter, least, after-still, shorter-choice, from-shorter, looser, Round, Rounding, round-conserved, shorter-round, round-choice, onward-round, after-round, Ended, ended-at, Last, Lasting, onward-last, after-last, bind-last, last-choice, closing-conserved, pure-after-ended, fuel, every-step, every-conserving, every-ended}
+pub use Rattle.reading.proofs.Rounds.{Parted, past-none, past-leaf, past-group, past-both, ownNumber, Conserved, Conserving, conserved, refusal-number, onward-conserved, after-conserved, bind, pure-conserving, choice, reader-choice, nothing-taken, from-conserved, copied-length, copied-conserved, copied-alone, one-row, Shorter, onward-shorter, onward-still, after-shorter, least, after-still, shorter-choice, from-shorter, looser, Round, Rounding, round-conserved, shorter-round, round-choice, onward-round, after-round, Ended, ended-at, Last, Lasting, onward-last, after-last, bind-last, last-choice, closing-conserved, pure-after-ended, fuel, every-step, every-conserving, every-ended}
 use Rattle.reading.proofs.Rounds.{taken, shorter, another, finished, ended, last, refused}
 
 -- ## The readers
@@ -34,18 +34,18 @@ judged-conserved : (v : Verdict) {go : ℕ → Bool → Took Ending} (ts : Trees
     → Conserved ts (r.judged v go ts row)
 judged-conserved (belongs e m) ts row c = c e m
 judged-conserved (ends e) ts row c = nothing-taken
-judged-conserved unopened ts row c = refused
+judged-conserved unopened ts row c = refused refl
 
 pub runFrom-conserving : (st : Stops) (n depth : ℕ) (minus : Bool) → Conserving (r.runFrom st n depth minus)
 runFrom-conserving st n depth minus row end = nothing-taken
 runFrom-conserving st n depth minus row (leaf q us) =
-    judged-conserved (r.judge st depth minus q) (leaf q us) row (λ e m. onward-conserved {us = us} (n ∷ []) (omega arith) (runFrom-conserving st n e m (row + 1) us))
+    judged-conserved (r.judge st depth minus q) (leaf q us) row (λ e m. onward-conserved (n ∷ []) (past-leaf q us) (runFrom-conserving st n e m (row + 1) us))
 runFrom-conserving st n depth minus row (group d ts us) =
     judged-conserved (r.judgeGroup st depth d) (group d ts us) row (λ e m. copied-conserved n d ts us (runFrom-conserving st n e m (row + r.whole ts) us))
 
 kept-conserved : {ts : Trees} {t : Took Ending} (us : Trees) → Conserved ts t → Conserved ts (r.kept us t)
 kept-conserved us (taken rs vs e) = taken rs vs e
-kept-conserved us refused = refused
+kept-conserved us (refused n) = refused n
 
 pub run-conserving : (st : Stops) (n : ℕ) → Conserving (r.run st n)
 run-conserving st n row ts = kept-conserved ts (runFrom-conserving st n 0 false row ts)
@@ -61,13 +61,13 @@ mutual
   attributes-conserving row (leaf q us) = choice (r.isPunct 35 q) (marked-conserved row q us) nothing-taken
 
   marked-conserved : (row : ℕ) (q : Row) (us : Trees) → Conserved (leaf q us) (r.marked row us)
-  marked-conserved row q end = refused
+  marked-conserved row q end = refused refl
   marked-conserved row q (group d ts us) =
       choice (eqb d 91)
-      (onward-conserved {us = us} (role.attribute-mark ∷ r.copied role.attribute-group ts) (omega (arith, copied-length role.attribute-group ts)) (attributes-conserving (row + 1 + r.whole ts) us))
-      refused
+      (onward-conserved (role.attribute-mark ∷ r.copied role.attribute-group ts) (past-both (role.attribute-mark ∷ []) (r.copied role.attribute-group ts) (past-leaf q (group d ts us)) (past-group role.attribute-group d ts us)) (attributes-conserving (row + 1 + r.whole ts) us))
+      (refused refl)
   marked-conserved row q (leaf p us) =
-      choice (r.isPunct 35 p) (onward-conserved {us = leaf p us} (role.idle-mark ∷ []) (omega arith) (marked-conserved (row + 1) p us)) refused
+      choice (r.isPunct 35 p) (onward-conserved (role.idle-mark ∷ []) (past-leaf q (leaf p us)) (marked-conserved (row + 1) p us)) (refused refl)
 
 pub scopeAfter-conserving : Conserving r.scopeAfter
 scopeAfter-conserving row end = nothing-taken
@@ -82,18 +82,18 @@ anyScope-conserving row (group d ts us) = copied-alone role.scope d ts us
 pub visibility-conserving : Conserving r.visibility
 visibility-conserving row end = nothing-taken
 visibility-conserving row (leaf q us) =
-    choice (r.isWord r.PUB q) (onward-conserved {us = us} (role.visibility ∷ []) (omega arith) (scopeAfter-conserving (row + 1) us)) nothing-taken
+    choice (r.isWord r.PUB q) (onward-conserved (role.visibility ∷ []) (past-leaf q us) (scopeAfter-conserving (row + 1) us)) nothing-taken
 visibility-conserving row (group d ts us) =
     choice (r.lone (r.isWord r.PUB) ts) (copied-conserved role.visibility d ts us (anyScope-conserving (row + r.whole ts) us)) nothing-taken
 
 pub named!-conserving : (w : Word) → Conserving (r.named! w)
-named!-conserving missing row ts = refused
+named!-conserving missing row ts = refused refl
 named!-conserving (found t p) row ts = nothing-taken
 
 pub kindOf-conserving : (w : Word) → Conserving (r.kindOf w)
-kindOf-conserving missing = λ row ts. refused
+kindOf-conserving missing = λ row ts. refused refl
 kindOf-conserving (found t p) =
-    reader-choice (same t r.STRUCT) (pure-conserving struct) (reader-choice (same t r.ENUM) (pure-conserving enum) (λ row ts. refused))
+    reader-choice (same t r.STRUCT) (pure-conserving struct) (reader-choice (same t r.ENUM) (pure-conserving enum) (λ row ts. refused refl))
 
 pub dataType-conserving : Conserving r.dataType
 dataType-conserving =
@@ -101,10 +101,10 @@ dataType-conserving =
 
 -- ## Parameters
 
-pub parameterName-conserving : (n p : ℕ) → Conserving (r.parameterName n p)
-parameterName-conserving n p row end = refused
-parameterName-conserving n p row (leaf q us) = choice (r.isIdent q) (one-row role.parameter-name q us) refused
-parameterName-conserving n p row (group d ts us) = refused
+pub parameterName-conserving : (n p : ℕ) → ownNumber n ≡ true → Conserving (r.parameterName n p)
+parameterName-conserving n p own row end = refused own
+parameterName-conserving n p own row (leaf q us) = choice (r.isIdent q) (one-row role.parameter-name q us) (refused own)
+parameterName-conserving n p own row (group d ts us) = refused own
 
 pub marked-run-conserving : (b : ℕ) → Conserving (r.marked-run b)
 marked-run-conserving b = bind (punctIf-conserving b role.separator) (λ t. runIf-conserving t r.parameterStops role.bound)
@@ -113,10 +113,10 @@ pub comma-conserving : {A : Type 0} (a : A) → Conserving (r.comma a)
 comma-conserving a = bind (punctIf-conserving 44 role.separator) (λ t. pure-conserving (one a))
 
 pub lifetimeAfter-conserving : (q : ℕ) → Conserving (r.lifetimeAfter q)
-lifetimeAfter-conserving q = bind (parameterName-conserving 24 q) (λ n. bind (marked-run-conserving 58) (λ b. pure-conserving _))
+lifetimeAfter-conserving q = bind (parameterName-conserving 24 q refl) (λ n. bind (marked-run-conserving 58) (λ b. pure-conserving _))
 
 pub constantAfter-conserving : Conserving r.constantAfter
-constantAfter-conserving = bind (parameterName-conserving 27 65535) (λ n. bind (marked-run-conserving 58) (λ b. pure-conserving _))
+constantAfter-conserving = bind (parameterName-conserving 27 65535 refl) (λ n. bind (marked-run-conserving 58) (λ b. pure-conserving _))
 
 pub typeRuns-conserving : (n : List ℕ) (t : Bool) → Conserving (r.typeRuns n t)
 typeRuns-conserving n true = bind (run-conserving r.parameterStops role.bound) (λ b. pure-conserving _)
@@ -126,13 +126,13 @@ pub typeAfter-conserving : (n : List ℕ) → Conserving (r.typeAfter n)
 typeAfter-conserving n = bind (punctIf-conserving 58 role.separator) (typeRuns-conserving n)
 
 parameter-shorter : (angle row : ℕ) (ts : Trees) → Shorter (size ts) ts (r.parameter angle row ts)
-parameter-shorter angle row end = refused
-parameter-shorter angle row (group d ts us) = refused
+parameter-shorter angle row end = refused refl
+parameter-shorter angle row (group d ts us) = refused refl
 parameter-shorter angle row (leaf q us) =
     shorter-choice (r.isPunct 39 q) (from-shorter role.parameter-name row q us (bind (lifetimeAfter-conserving row) comma-conserving))
-    (shorter-choice (r.isPunct 62 q) (shorter (role.angle ∷ []) us (omega arith) (omega arith))
+    (shorter-choice (r.isPunct 62 q) (shorter (role.angle ∷ []) us (past-leaf q us) (omega arith))
     (shorter-choice (r.isWord r.CONST q) (from-shorter role.parameter-name row q us (bind constantAfter-conserving comma-conserving))
-    (shorter-choice (r.isIdent q) (from-shorter role.parameter-name row q us (bind (typeAfter-conserving (q .text)) comma-conserving)) refused)))
+    (shorter-choice (r.isIdent q) (from-shorter role.parameter-name row q us (bind (typeAfter-conserving (q .text)) comma-conserving)) (refused refl))))
 
 pub parameter-round : (angle : ℕ) → Rounding (r.parameter angle)
 parameter-round angle row ts = shorter-round (omega arith) (parameter-shorter angle row ts)
@@ -151,19 +151,19 @@ clause-conserving row (leaf q us) =
 
 -- ## Fields
 
-pub must-conserving : (n : ℕ) (b : Bool) → Conserving (r.must n b)
-must-conserving n true row ts = nothing-taken
-must-conserving n false row ts = refused
+pub must-conserving : (n : ℕ) (b : Bool) → ownNumber n ≡ true → Conserving (r.must n b)
+must-conserving n true own row ts = nothing-taken
+must-conserving n false own row ts = refused own
 
 pub fieldAfter-conserving : (n : List ℕ) → Conserving (r.fieldAfter n)
 fieldAfter-conserving n =
-    bind (punctIf-conserving 58 role.separator) (λ t. bind (must-conserving 23 t) (λ u. bind (run-conserving r.fieldStops role.type) (λ f. comma-conserving _)))
+    bind (punctIf-conserving 58 role.separator) (λ t. bind (must-conserving 23 t refl) (λ u. bind (run-conserving r.fieldStops role.type) (λ f. comma-conserving _)))
 
 pub fieldStart-round : Rounding r.fieldStart
-fieldStart-round row end = finished [] end (omega arith)
-fieldStart-round row (group d ts us) = refused
+fieldStart-round row end = finished [] end (past-none end)
+fieldStart-round row (group d ts us) = refused refl
 fieldStart-round row (leaf q us) =
-    round-choice (r.isIdent q) (shorter-round (omega arith) (from-shorter role.field-name row q us (fieldAfter-conserving (q .text)))) refused
+    round-choice (r.isIdent q) (shorter-round (omega arith) (from-shorter role.field-name row q us (fieldAfter-conserving (q .text)))) (refused refl)
 
 pub namedField-round : Rounding r.namedField
 namedField-round row ts =
@@ -185,7 +185,7 @@ judge-comma q e = go (eqb (q .kind) 112) (eqb (first (q .text)) 60) (eqb (first 
 
 kept-shorter : {b : ℕ} {ts : Trees} {t : Took Ending} (us : Trees) → Shorter b ts t → Shorter b ts (r.kept us t)
 kept-shorter us (shorter rs vs e h) = shorter rs vs e h
-kept-shorter us refused = refused
+kept-shorter us (refused n) = refused n
 
 tail-leaf : (row : ℕ) (q : Row) (us : Trees) (v : Verdict) (go : ℕ → Bool → Took Ending) → r.judge r.fieldStops 0 false q ≡ v
     → ((e : ℕ) (m : Bool) → Shorter (size (leaf q us)) (leaf q us) (go e m))
@@ -195,21 +195,21 @@ tail-leaf row q us (ends e) go j k = taken-comma (r.isPunct 44 q) (judge-comma q
   where
     taken-comma : (b : Bool) → b ≡ true
         → Shorter (size (leaf q us)) (leaf q us) (after row (took end [] (leaf q us)) (λ t row us'. after row (cond b (took true (role.separator ∷ []) us) (took false [] (leaf q us))) (λ c. pure (one t))))
-    taken-comma true f = shorter (role.separator ∷ []) us (omega arith) (omega arith)
+    taken-comma true f = shorter (role.separator ∷ []) us (past-leaf q us) (omega arith)
     taken-comma false f = absurd (false≢true f)
-tail-leaf row q us unopened go j k = refused
+tail-leaf row q us unopened go j k = refused refl
 
 -- a type and the comma after it
 tail-shorter : (row : ℕ) (ts : Trees) → Shorter (least ts) ts ((r.run r.fieldStops role.type >>= r.comma) row ts)
-tail-shorter row end = shorter [] end (omega arith) (omega arith)
+tail-shorter row end = shorter [] end (past-none end) (omega arith)
 tail-shorter row (leaf q us) =
     looser (omega arith)
     (tail-leaf row q us (r.judge r.fieldStops 0 false q) (λ e m. onward (role.type ∷ []) (r.runFrom r.fieldStops role.type e m (row + 1) us)) refl
-    (λ e m. onward-shorter {us = us} (role.type ∷ []) (omega arith) (omega arith) (runFrom-conserving r.fieldStops role.type e m (row + 1) us)))
+    (λ e m. onward-shorter (role.type ∷ []) (past-leaf q us) (omega arith) (runFrom-conserving r.fieldStops role.type e m (row + 1) us)))
 tail-shorter row (group d ts us) =
     after-shorter row r.comma
     (kept-shorter (group d ts us)
-    (onward-shorter {us = us} (r.copied role.type ts) (omega (arith, copied-length role.type ts)) (omega arith) (runFrom-conserving r.fieldStops role.type 0 false (row + r.whole ts) us)))
+    (onward-shorter (r.copied role.type ts) (past-group role.type d ts us) (omega arith) (runFrom-conserving r.fieldStops role.type 0 false (row + r.whole ts) us)))
     comma-conserving
 
 tupleType-shorter : (row : ℕ) (ts : Trees) → Shorter (least ts) ts (r.tupleType row ts)
@@ -218,7 +218,7 @@ tupleType-shorter row ts =
     (λ a row us. after-still row (λ v. r.run r.fieldStops role.type >>= r.comma) (visibility-conserving row us) (λ v. tail-shorter))
 
 pub tupleField-round : Rounding r.tupleField
-tupleField-round row end = finished [] end (omega arith)
+tupleField-round row end = finished [] end (past-none end)
 tupleField-round row (leaf q us) = shorter-round (omega arith) (tupleType-shorter row (leaf q us))
 tupleField-round row (group d ts us) = shorter-round (omega arith) (tupleType-shorter row (group d ts us))
 
@@ -263,42 +263,42 @@ variantFields-conserving row end = nothing-taken
 variantFields-conserving row (leaf q us) = nothing-taken
 variantFields-conserving row (group d ts us) =
     choice (eqb d 123) (closing-conserved d ts us (namedFields-ended (row + 1) ts) (namedFields-conserving (row + 1) ts))
-    (choice (eqb d 40) (closing-conserved d ts us (tupleFields-ended (row + 1) ts) (tupleFields-conserving (row + 1) ts)) refused)
+    (choice (eqb d 40) (closing-conserved d ts us (tupleFields-ended (row + 1) ts) (tupleFields-conserving (row + 1) ts)) (refused refl))
 
 pub negativeValue-conserving : Conserving r.negativeValue
-negativeValue-conserving row end = refused
-negativeValue-conserving row (group d ts us) = refused
-negativeValue-conserving row (leaf q us) = choice (r.isLiteral q) (choice (r.negatable (q .text)) (one-row role.value q us) refused) refused
+negativeValue-conserving row end = refused refl
+negativeValue-conserving row (group d ts us) = refused refl
+negativeValue-conserving row (leaf q us) = choice (r.isLiteral q) (choice (r.negatable (q .text)) (one-row role.value q us) (refused refl)) (refused refl)
 
 pub discriminant-conserving : Conserving r.discriminant
-discriminant-conserving row end = refused
-discriminant-conserving row (group d ts us) = refused
+discriminant-conserving row end = refused refl
+discriminant-conserving row (group d ts us) = refused refl
 discriminant-conserving row (leaf q us) =
-    choice (r.isLiteral q) (one-row role.value q us) (choice (r.isPunct 45 q) (from-conserved role.value row q us negativeValue-conserving) refused)
+    choice (r.isLiteral q) (one-row role.value q us) (choice (r.isPunct 45 q) (from-conserved role.value row q us negativeValue-conserving) (refused refl))
 
 pub valueIf-conserving : Conserving r.valueIf
 valueIf-conserving row end = nothing-taken
-valueIf-conserving row (group d ts us) = refused
+valueIf-conserving row (group d ts us) = refused refl
 valueIf-conserving row (leaf q us) =
-    choice (r.isPunct 61 q) (from-conserved role.separator row q us discriminant-conserving) (choice (r.isPunct 44 q) nothing-taken refused)
+    choice (r.isPunct 61 q) (from-conserved role.separator row q us discriminant-conserving) (choice (r.isPunct 44 q) nothing-taken (refused refl))
 
 -- a word that must stand here takes a row
 word-shorter : {A : Type 0} (n : ℕ) (f : List ℕ → Reader A) → ((t : List ℕ) → Conserving (f t))
     → (row : ℕ) (ts : Trees) → Shorter (least ts) ts ((r.word n >>= λ w. r.named! w >>= f) row ts)
-word-shorter n f k row end = refused
+word-shorter n f k row end = refused refl
 word-shorter n f k row (leaf q us) = go (r.isIdent q)
   where
     go : (b : Bool)
         → Shorter (least (leaf q us)) (leaf q us) (after row (cond b (took (found (q .text) row) (n ∷ []) us) (took missing [] (leaf q us))) (λ w. r.named! w >>= f))
-    go true = onward-shorter {us = us} (n ∷ []) (omega arith) (omega arith) (onward-conserved {us = us} [] (omega arith) (k (q .text) _ us))
-    go false = refused
+    go true = onward-shorter (n ∷ []) (past-leaf q us) (omega arith) (onward-conserved [] (past-none us) (k (q .text) _ us))
+    go false = refused refl
 word-shorter n f k row (group d ts us) = go (r.lone r.isIdent ts)
   where
     go : (b : Bool)
         → Shorter (least (group d ts us)) (group d ts us) (after row (cond b (took (found (r.textOf ts) (row + 1)) (r.copied n ts) us) (took missing [] (group d ts us))) (λ w. r.named! w >>= f))
     go true =
-        onward-shorter {us = us} (r.copied n ts) (omega (arith, copied-length n ts)) (omega arith) (onward-conserved {us = us} [] (omega arith) (k (r.textOf ts) _ us))
-    go false = refused
+        onward-shorter (r.copied n ts) (past-group n d ts us) (omega arith) (onward-conserved [] (past-none us) (k (r.textOf ts) _ us))
+    go false = refused refl
 
 -- a variant's parts after its name
 abbrev pub variantRest : List ℕ → Reader (Maybe Variant)
@@ -313,7 +313,7 @@ variantHere-shorter row ts =
     (λ a. word-shorter role.variant-name variantRest variantRest-conserving)
 
 pub variant-round : Rounding r.variant
-variant-round row end = finished [] end (omega arith)
+variant-round row end = finished [] end (past-none end)
 variant-round row (leaf q us) = shorter-round (omega arith) (variantHere-shorter row (leaf q us))
 variant-round row (group d ts us) = shorter-round (omega arith) (variantHere-shorter row (group d ts us))
 
@@ -334,18 +334,18 @@ pub enumVariants-ended : (row : ℕ) (ts : Trees) → Ended (r.enumVariants row 
 enumVariants-ended row ts = pure-after-ended row Body.variants (every-ended r.variant variant-last row ts)
 
 pub structBody-conserving : Conserving r.structBody
-structBody-conserving row end = refused
-structBody-conserving row (leaf q us) = choice (r.isPunct 59 q) (one-row role.delimiter q us) refused
+structBody-conserving row end = refused refl
+structBody-conserving row (leaf q us) = choice (r.isPunct 59 q) (one-row role.delimiter q us) (refused refl)
 structBody-conserving row (group d ts us) =
     choice (eqb d 123)
     (closing-conserved d ts us (pure-after-ended (row + 1) Body.fields (namedFields-ended (row + 1) ts)) (bind namedFields-conserving (λ f. pure-conserving _) (row + 1) ts))
     (choice (eqb d 40)
     (closing-conserved d ts us (pure-after-ended (row + 1) Body.fields (tupleFields-ended (row + 1) ts)) (bind tupleFields-conserving (λ f. pure-conserving _) (row + 1) ts))
-    refused)
+    (refused refl))
 
 pub enumBody-conserving : Conserving r.enumBody
-enumBody-conserving row end = refused
-enumBody-conserving row (leaf q us) = choice (r.isPunct 59 q) (one-row role.delimiter q us) refused
+enumBody-conserving row end = refused refl
+enumBody-conserving row (leaf q us) = choice (r.isPunct 59 q) (one-row role.delimiter q us) (refused refl)
 enumBody-conserving row (group d ts us) = closing-conserved d ts us (enumVariants-ended (row + 1) ts) (enumVariants-conserving (row + 1) ts)
 
 pub bodyOf-conserving : (k : Kind) → Conserving (r.bodyOf k)

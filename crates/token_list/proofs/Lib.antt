@@ -7,3 +7,4 @@ pub mod Walks
 pub mod Rows
 pub mod Streams
 pub mod Passed
+pub mod Bounds

@@ -3,7 +3,7 @@ use lib.ListN.{length}
 use mathlib.Core.Path.{sym, ap}
 use Rattle.parse.proofs.Meeting as meeting
 use Rattle.describe.proofs.Answers.{meets-tells, meets-refusal, listed-as, listed-refused}
-use Rattle.describe.specs.Listing.{itemAnswer, output}
+use Rattle.describe.specs.Listing.{itemAnswer, fitted, output}
 use borrow.Author.Needs.{needs}
 use Rattle.describe.proofs.listing.read_listing.Statement.{statement}
 use Rattle.describe.proofs.listing.read_listing.Tie as tie
@@ -24,7 +24,7 @@ same-length : tie.Need-same-length
 same-length c = search needs
 
 returns : tie.Need-returns
-returns c = let e = meets-refusal (meeting.say (declarationShown ((c .before .before .before .before .before .before .before .before .before .before .args) .s .now)) declarationSaid ((c .before .r) .given .1) ((c .before .before .before .before .before .read) .ensures)) in listed-refused (sym (ap (itemAnswer (length ((c .before .before .before .before .before .before .before .before .before .before .args) .out .now))) e)) (sym (ap (λ t. output ((c .before .before .before .before .before .before .before .before .before .before .args) .out .now) (itemAnswer (length ((c .before .before .before .before .before .before .before .before .before .before .args) .out .now)) t)) e))
+returns c = let e = meets-refusal (meeting.say (declarationShown ((c .before .before .before .before .before .before .before .before .before .before .args) .s .now)) declarationSaid ((c .before .r) .given .1) ((c .before .before .before .before .before .read) .ensures)) in listed-refused (sym (ap (λ t. fitted (length ((c .before .before .before .before .before .before .before .before .before .before .args) .out .now)) (itemAnswer t)) e)) (sym (ap (λ t. output ((c .before .before .before .before .before .before .before .before .before .before .args) .out .now) (fitted (length ((c .before .before .before .before .before .before .before .before .before .before .args) .out .now)) (itemAnswer t))) e))
 
 same-length-2 : tie.Need-same-length-2
 same-length-2 c = search needs
@@ -33,7 +33,7 @@ same-length-3 : tie.Need-same-length-3
 same-length-3 c = search needs
 
 returns-2 : tie.Need-returns-2
-returns-2 c = let m = meets-tells (meeting.say (declarationShown ((c .before .before .before .before .before .before .before .before .before .before .before .before .before .before .before .before .before .args) .s .now)) declarationSaid ((c .before .before .before .before .before .before .before .before .d) .given .1) ((c .before .before .before .before .before .before .before .before .before .before .before .before .read) .ensures)) in listed-as (ap (itemAnswer (length ((c .before .before .before .before .before .before .before .before .before .before .before .before .before .before .before .before .before .args) .out .now))) (m .3)) ((c .before .before .before .before .fit-listing) .ensures (m .0) (m .4))
+returns-2 c = let m = meets-tells (meeting.say (declarationShown ((c .before .before .before .before .before .before .before .before .before .before .before .before .before .before .before .before .before .args) .s .now)) declarationSaid ((c .before .before .before .before .before .before .before .before .d) .given .1) ((c .before .before .before .before .before .before .before .before .before .before .before .before .read) .ensures)) in listed-as (ap (λ t. fitted (length ((c .before .before .before .before .before .before .before .before .before .before .before .before .before .before .before .before .before .args) .out .now)) (itemAnswer t)) (m .3)) ((c .before .before .before .before .fit-listing) .ensures (m .0) (m .4))
 
 pub read-listing-spec : {M : Type 1} → statement M
 read-listing-spec =

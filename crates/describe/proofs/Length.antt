@@ -1,0 +1,146 @@
+-- No listing is longer than MOST.
+use mathlib.Core.Path.{_≡_, refl, ap, _∙_, sym, subst}
+use mathlib.Core.Bool.{Bool, true, false, cond, true≢false}
+use mathlib.Core.List.{List, [], _∷_}
+use Prim.Native.Nat.{ℕ, _+_, _*_, _≤_, _<_}
+use native.Mathlib.Omega.{arith}
+use borrow.Author.Tests.{le-ltb}
+use lib.Dec.{ltb}
+use lib.ListN.{length, take, length-append}
+use lib.Seq.{length-take-le}
+use Rattle.token_list.specs.Check as list
+use Rattle.token_list.specs.Stream.{at}
+use Rattle.token_list.proofs.Texts.{passed-over}
+use Rattle.token_list.proofs.Passed.{passed-list}
+use Rattle.token_list.proofs.Bounds as bounds
+use Rattle.report.specs.Text.{decimal}
+use Rattle.report.specs.Contract.{Put}
+use Rattle.report.proofs.Texts.{decimal-within}
+use Rattle.reading.specs.Declaration.{Kind, struct, enum, Fields, unit, named, tuple, Value, absent, literal, negative, Body, fields, variants, Declaration}
+use Rattle.reading.specs.Took.{Took, took, refuse}
+use Rattle.reading.specs.Reading.{item}
+use Rattle.reading.proofs.Conserved.{Conserved, ownNumber, refusal-number, item-conserving}
+use Rattle.parse.specs.Contract.{bodyCount}
+use Rattle.describe.specs.Listing.{line, numbered, parameterLine, namedLine, tupleLine, fieldLines, number, variantLines, bodyLines, kindText, listing, Answer, listed, refused, itemAnswer, checkedAnswer, whole, fitted, answer, answerText, MOST, Fits}
+use Rattle.describe.specs.Contract.{ListedAs}
+use Rattle.describe.specs.declared.listing.Listed.the-variants as listeds
+use Rattle.describe.proofs.Costs.{total, parameterCost, fieldCost, typeCost, fieldsCost, valueCost, variantCost, bodyCost, itemCost, item-cost}
+
+-- ## Lines
+
+line-length : (part name number : List ℕ) → length (line part name number) ≡ length part + length name + length number + 2
+unfolding line
+line-length part name number = simp length-append (omega arith)
+
+four-digits : (k : ℕ) → k < 10000 → length (decimal k) ≤ 4
+four-digits k h = decimal-within 3 k (omega arith)
+
+-- a cost that covers the lines of a thing; the bounds keep a position to four digits
+record Covers {A : Type 0} (f : ℕ → A → List ℕ) (cost : A → ℕ) : Type 0 where
+  least : (x : A) → 20 ≤ cost x
+  enough : (k : ℕ) (x : A) → k < 10000 → cost x < 200000 → length (f k x) ≤ cost x
+
+module _ {A : Type 0} {f : ℕ → A → List ℕ} {cost : A → ℕ} (p : Covers f cost) where
+  numbered-length : (k : ℕ) (xs : List A) → 20 * k + total cost xs < 200000 → length (numbered f k xs) ≤ total cost xs
+  numbered-length k [] h = omega arith
+  numbered-length k (x ∷ xs) h =
+      let least = p .least x in
+      omega (arith, length-append (f k x) (numbered f (k + 1) xs), p .enough k x (omega arith) (omega arith), numbered-length (k + 1) xs (omega arith))
+
+  count-least : (xs : List A) → 20 * length xs ≤ total cost xs
+  count-least [] = omega arith
+  count-least (x ∷ xs) = omega (arith, p .least x, count-least xs)
+
+parameters-cover : Covers parameterLine parameterCost
+parameters-cover = record { least = λ p. omega arith; enough = λ k p h g. simp line-length (omega arith) }
+
+named-cover : Covers namedLine fieldCost
+named-cover = record { least = λ f. omega arith; enough = λ k f h g. simp line-length (omega (arith, four-digits k h)) }
+
+tuple-cover : Covers tupleLine typeCost
+tuple-cover = record { least = λ t. omega arith; enough = λ k t h g. simp line-length (omega (arith, four-digits k h)) }
+
+fields-length : (f : Fields) → fieldsCost f < 200000 → length (fieldLines f) ≤ fieldsCost f
+fields-length unit h = omega arith
+fields-length (named fs) h = numbered-length named-cover 0 fs (omega arith)
+fields-length (tuple ts) h = numbered-length tuple-cover 0 ts (omega arith)
+
+number-length : (k : ℕ) (v : Value) → k < 10000 → length (number k v) ≤ valueCost v + 4
+number-length k absent h = omega (arith, four-digits k h)
+number-length k (literal t) h = omega arith
+number-length k (negative n) h = omega arith
+
+variants-cover : Covers variantLines variantCost
+variants-cover =
+    record {
+      least = λ v. omega arith;
+      enough = λ k v h g. simp (length-append, line-length) (omega (arith, number-length k (v .value) h, fields-length (v .fields) (omega arith)));
+    }
+
+body-length : (b : Body) → bodyCost b < 200000 → (length (bodyLines b) ≤ bodyCost b) × (bodyCount b < 10000)
+body-length (fields unit) h = (omega arith, omega arith)
+body-length (fields (named fs)) h = (fields-length (named fs) h, omega (arith, count-least named-cover fs))
+body-length (fields (tuple ts)) h = (fields-length (tuple ts) h, omega (arith, count-least tuple-cover ts))
+body-length (variants vs) h = (numbered-length variants-cover 0 vs (omega arith), omega (arith, count-least variants-cover vs))
+
+kind-length : (k : Kind) → length (kindText k) ≤ 7
+kind-length struct = omega arith
+kind-length enum = omega arith
+
+listing-length : (d : Declaration) → itemCost d < 200000 → length (listing d) ≤ 17 + itemCost d
+unfolding listing
+listing-length d h =
+    let b = body-length (d .body) (omega arith) in
+    simp (length-append, line-length)
+    (omega (arith, kind-length (d .kind), four-digits (bodyCount (d .body)) (b .1), numbered-length parameters-cover 0 (d .parameters) (omega arith), b .0))
+
+-- ## The law
+
+abbrev Right : Answer → Type 0
+Right (listed text) = length text ≤ MOST
+Right (refused n p) = n ≡ 8 → ⊥
+
+fitted-listed : {text : List ℕ} (n : ℕ) (a : Answer) → fitted n a ≡ listed text → a ≡ listed text
+fitted-listed {text} n (listed t) e = go (ltb n (length t)) e
+  where
+    go : (b : Bool) → cond b (refused 8 list.END) (listed t) ≡ listed text → listed t ≡ listed text
+    go true e = cc
+    go false e = e
+fitted-listed n (refused m p) e = cc
+
+fitted-same : (n : ℕ) → MOST ≤ n → (a : Answer) → Right a → fitted n a ≡ a
+fitted-same n h (listed text) l = passed-over _ _ _ (le-ltb n (length text) (omega arith))
+fitted-same n h (refused m p) l = refl
+
+module _ (s : List ℕ) where
+  by-item : {n : ℕ} → list.check s ≡ list.Answer.passed n → (t : Took Declaration) → item 0 (at s 10 .here) ≡ t → Right (itemAnswer t)
+  by-item {n} e (took d rs us) f =
+      let b = bounds.bounds s e in
+      let c : itemCost d ≤ 147456 = omega (arith, item-cost 0 (at s 10 .here) f, passed-list s n e .size) in
+      omega (arith, listing-length d (omega arith))
+  by-item e (refuse n p) f = λ q. true≢false (sym (refusal-number (subst (Conserved (at s 10 .here)) f (item-conserving 0 (at s 10 .here)))) ∙ ap ownNumber q)
+
+  by-check : (a : list.Answer) → list.check s ≡ a → Right (checkedAnswer s a)
+  by-check (list.Answer.passed n) e = by-item e (item 0 (at s 10 .here)) refl
+  by-check (list.Answer.refused n p) e = λ q. omega (arith, bounds.refusal-number s e)
+
+  right : Right (whole s)
+  unfolding whole
+  right = by-check (list.check s) refl
+
+  pub fits : (n : ℕ) → Fits s n
+  unfolding answer
+  fits n =
+      record {
+        longest = λ text e. rw (fitted-listed n (whole s) e) at right;
+        room = λ h. fitted-same n h (whole s) right;
+        never = λ h p e. (rw (sym (fitted-same n h (whole s) right) ∙ e) at right) refl;
+      }
+
+  -- what is written in any output
+  module _ {x y : List ℕ} {n : ℕ} where
+    pub reported : Put x y 0 n (answerText (answer s (length x))) → MOST ≤ length x → Put x y 0 n (answerText (whole s))
+    reported p h = rw (fits (length x) .room h) at p
+
+    pub reported-length : ListedAs x y (answer s (length x)) (listeds.Written n) → n ≤ MOST
+    reported-length l = omega (arith, fits (length x) .longest (take n y) (sym (l .answer)), length-take-le n y (l .room))

@@ -1,0 +1,49 @@
+use native.Mathlib.Omega.{arith}
+use Rattle.describe.proofs.Answers.{listed-put, refused-put}
+use Rattle.describe.proofs.Length.{reported, reported-length}
+use borrow.Author.Needs.{needs}
+use Rattle.describe.proofs.listing.report_listing.Statement.{statement}
+use Rattle.describe.proofs.listing.report_listing.Tie as tie
+
+write-listing-requires : tie.Need-write-listing-requires
+write-listing-requires c κs = search needs
+
+enum-known-n : tie.Need-enum-known-n
+enum-known-n c = search needs
+
+enum-known-r : tie.Need-enum-known-r
+enum-known-r c = search needs
+
+put-refusal-requires : tie.Need-put-refusal-requires
+put-refusal-requires c κs = search needs
+
+same-length : tie.Need-same-length
+same-length c = search needs
+
+returns : tie.Need-returns
+returns c =
+    let l = rw (c .before .n .given .1) at (c .before .before .before .before .before .write-listing .ensures) in
+    let s = c .before .before .before .before .before .before .before .before .before .args .list .now in
+    (reported s (listed-put l), reported-length s l)
+
+same-length-2 : tie.Need-same-length-2
+same-length-2 c = search needs
+
+returns-2 : tie.Need-returns-2
+returns-2 c =
+    let l = rw (c .before .before .before .before .before .r .given .1) at (c .before .before .before .before .before .before .before .before .before .write-listing .ensures) in
+    let p = c .before .before .put-refusal .ensures in
+    (reported (c .before .before .before .before .before .before .before .before .before .before .before .before .before .args .list .now) (refused-put l (p .0)), omega (arith, p .1))
+
+pub report-listing-spec : {M : Type 1} → statement M
+report-listing-spec =
+    tie.close
+    (tie.spec
+    write-listing-requires
+    enum-known-n
+    enum-known-r
+    put-refusal-requires
+    same-length
+    returns
+    same-length-2
+    returns-2)
