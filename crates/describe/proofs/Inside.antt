@@ -28,15 +28,6 @@ took-not-refuse e = absurd (subst⁻¹ accepted e tt)
 pub took-value : {A : Type 0} {a b : A} {rs qs : List ℕ} {us vs : Trees} → took a rs us ≡ took b qs vs → a ≡ b
 took-value {a = a} e = ap (value a) e
 
--- with the value, that it is read at c
-pub meets-inside : {A : Type 0} (m : Reader A) {s : List ℕ} {c : Cursor} {b0 b1 : List ℕ} {sh : A → Type 0} {x : Said} → InList s c
-    → Meets s c b0 b1 sh x (m (c .row) (stream s c)) → Meets s c b0 b1 (λ (a : A). sh a × InsideAt m s c a) x (m (c .row) (stream s c))
-meets-inside {A} m {s} {c} {b0} {b1} {sh} i w = go refl w
-  where
-    go : {x : Said} {t : Took A} → m (c .row) (stream s c) ≡ t → Meets s c b0 b1 sh x t → Meets s c b0 b1 (λ (a : A). sh a × InsideAt m s c a) x t
-    go e (stands {rs = rs} {us = us} mv h) = stands mv (h, record { inList = i; roles = rs; rest = us; gives = e })
-    go e refuses = refuses
-
 -- a second reading refuses nothing
 pub inside-stands : {A B : Type 0} (m : Reader A) {s : List ℕ} {c : Cursor} {a : A} {b0 b1 : List ℕ} {sh : A → Type 0} {n p : ℕ} → InsideAt m s c a
     → Meets s c b0 b1 sh (no n p) (m (c .row) (stream s c)) → B

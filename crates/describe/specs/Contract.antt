@@ -9,44 +9,14 @@ use mathlib.Core.Bool.{Bool, true, false, cond}
 use Rattle.token_list.specs.Stream.{Trees}
 use Rattle.token_list.specs.declared.check.Cursor.{Cursor}
 use Rattle.reading.specs.Declaration as declaration
-use Rattle.reading.specs.Took.{Reader, pure, _>>=_}
 use Rattle.reading.specs.Reading as reading
-use Rattle.parse.specs.Contract.{Said, on, no, refusal, TextOf, InsideAt, kindOf, bodyCount}
+use Rattle.parse.specs.Contract.{InsideAt}
 use Rattle.describe.specs.Value as value
 use Rattle.describe.specs.Listing as listing
 use Rattle.describe.specs.declared.listing.Listed.{Listed}
 use Rattle.describe.specs.declared.listing.Listed.the-variants as listeds
 use Rattle.describe.specs.declared.value.ValuePlace.{ValuePlace}
 use Rattle.describe.specs.declared.value.ValuePlace.the-variants as places
-use Rattle.describe.specs.declared.declaration.DeclarationAt.{DeclarationAt}
-use Rattle.describe.specs.declared.declaration.DeclarationStep.{DeclarationStep}
-use Rattle.describe.specs.declared.declaration.DeclarationStep.the-variants as declarations
-
--- ## The answers of declaration
-
--- what follows the item's word and name
-abbrev pub partsAfter : declaration.Kind → List ℕ → Reader declaration.Declaration
-partsAfter k n = do
-  p ← reading.generics
-  c ← reading.clause
-  b ← reading.bodyOf k
-  pure (record { kind = k; name = n; parameters = p; clause = c; body = b })
-
--- what is told of a declaration: its kind, name and count, and where its generics and its body are read
-pub record DeclarationOf (s : List ℕ) (p : DeclarationAt) (d : declaration.Declaration) : Type 0 where
-  pub kind : d .kind ≡ kindOf (p .kind)
-  pub name : TextOf s (p .name) (d .name)
-  pub count : p .count ≡ bodyCount (d .body)
-  pub parameters : InsideAt reading.generics s (p .generics) (d .parameters)
-  pub body : InsideAt (reading.bodyOf (kindOf (p .kind))) s (p .body) (d .body)
-
-abbrev pub declarationSaid : DeclarationStep → Said
-declarationSaid (declarations.At p) = on (p .end)
-declarationSaid (declarations.Refused r) = refusal r
-
-abbrev pub declarationShown : List ℕ → DeclarationStep → declaration.Declaration → Type 0
-declarationShown s (declarations.At p) d = DeclarationOf s p d
-declarationShown s (declarations.Refused r) d = ⊥
 
 -- ## The answers of value
 

@@ -1,8 +1,5 @@
 // The listing of a declaration, written into a lent output. A function that writes answers where the
 // next text goes; what does not fit is left out, and counted all the same.
-use crate::declaration::DeclarationAt;
-use crate::declaration::DeclarationStep;
-use crate::declaration::read;
 use crate::value::put_negative;
 use crate::value::worth;
 use parse::body::FieldStep;
@@ -18,6 +15,9 @@ use parse::data_type::DataType;
 use parse::generics::ParameterAt;
 use parse::generics::ParameterStep;
 use parse::generics::parameter;
+use parse::item::ItemAt;
+use parse::item::ItemStep;
+use parse::item::item;
 use parse::utils::is_punct;
 use parse::utils::past;
 use report::put::put_byte;
@@ -43,9 +43,9 @@ ghost use Rattle.report.specs.Text.{decimal};
 ghost use Rattle.report.specs.Contract.{Put};
 ghost use Rattle.reading.specs.Declaration.{Parameter, Field, Fields, Value, Variant, Body, Declaration};
 ghost use Rattle.reading.specs.Reading.{every, namedField, tupleField, variant, parameter, generics, bodyOf, item};
-ghost use Rattle.parse.specs.Contract.{kindOf, InsideAt, TextOf, ValueOf, FieldsOf, VariantOf, ParameterOf};
+ghost use Rattle.parse.specs.Contract.{kindOf, InsideAt, TextOf, ValueOf, FieldsOf, VariantOf, ParameterOf, ItemOf};
 ghost use Rattle.describe.specs.Listing.{FIELD, DASH, line, numbered, kindText, number, parameterLine, namedLine, tupleLine, fieldLines, variantLine, variantLines, bodyLines, itemLines, listing, listed, itemAnswer, fitted, answer, whole, answerText, MOST};
-ghost use Rattle.describe.specs.Contract.{DeclarationOf, StructAt, ListedAs};
+ghost use Rattle.describe.specs.Contract.{StructAt, ListedAs};
 
 // The listing's length, or a refusal.
 pub enum Listed {
@@ -336,7 +336,7 @@ fn struct_lines(s: &[u8], c: Cursor, mark: u8, roles: &mut [u8], out: &mut [u8],
 }
 
 // The lines of a declaration's body.
-fn body_lines(s: &[u8], d: DeclarationAt, roles: &mut [u8], out: &mut [u8], at: usize) -> usize
+fn body_lines(s: &[u8], d: ItemAt, roles: &mut [u8], out: &mut [u8], at: usize) -> usize
     requires { ⌜ InList (now s) (d .body) ⌝ }
     requires { ⌜ length (now s) ≤ 65536 ⌝ }
     requires { ⌜ at ≤ 1000000000000000 ⌝ }
@@ -373,10 +373,10 @@ fn put_kind(s: &[u8], kind: DataType, name: Token, out: &mut [u8], at: usize) ->
 }
 
 // The item's line, after the line of names.
-fn put_item(s: &[u8], d: DeclarationAt, out: &mut [u8]) -> usize
-    requires { ⌜ ((x : Declaration) × DeclarationOf (now s) d x) ⌝ }
+fn put_item(s: &[u8], d: ItemAt, out: &mut [u8]) -> usize
+    requires { ⌜ ((x : Declaration) × ItemOf (now s) d x) ⌝ }
     requires { ⌜ length (now s) ≤ 65536 ⌝ }
-    ensures { λ r. ⌜ ((x : Declaration) → DeclarationOf (now (s .entry)) d x → Put (now (out .entry)) (now (out .exit)) 0 r (itemLines x)) ⌝ }
+    ensures { λ r. ⌜ ((x : Declaration) → ItemOf (now (s .entry)) d x → Put (now (out .entry)) (now (out .exit)) 0 r (itemLines x)) ⌝ }
     ensures { λ r. ⌜ r ≤ 70000 ⌝ }
 {
     let names = put_bytes(out, 0, b"part name number\n");
@@ -388,10 +388,10 @@ fn put_item(s: &[u8], d: DeclarationAt, out: &mut [u8]) -> usize
 }
 
 // The whole listing.
-fn put_listing(s: &[u8], d: DeclarationAt, roles: &mut [u8], out: &mut [u8]) -> usize
-    requires { ⌜ ((x : Declaration) × DeclarationOf (now s) d x) ⌝ }
+fn put_listing(s: &[u8], d: ItemAt, roles: &mut [u8], out: &mut [u8]) -> usize
+    requires { ⌜ ((x : Declaration) × ItemOf (now s) d x) ⌝ }
     requires { ⌜ length (now s) ≤ 65536 ⌝ }
-    ensures { λ r. ⌜ ((x : Declaration) → DeclarationOf (now (s .entry)) d x → Put (now (out .entry)) (now (out .exit)) 0 r (listing x)) ⌝ }
+    ensures { λ r. ⌜ ((x : Declaration) → ItemOf (now (s .entry)) d x → Put (now (out .entry)) (now (out .exit)) 0 r (listing x)) ⌝ }
 {
     let item = put_item(s, d, out);
     let c = d.generics;
@@ -400,10 +400,10 @@ fn put_listing(s: &[u8], d: DeclarationAt, roles: &mut [u8], out: &mut [u8]) -> 
 }
 
 // Measures the listing, and writes it where the output is long enough.
-fn fit_listing(s: &[u8], d: DeclarationAt, roles: &mut [u8], out: &mut [u8]) -> Listed
-    requires { ⌜ ((x : Declaration) × DeclarationOf (now s) d x) ⌝ }
+fn fit_listing(s: &[u8], d: ItemAt, roles: &mut [u8], out: &mut [u8]) -> Listed
+    requires { ⌜ ((x : Declaration) × ItemOf (now s) d x) ⌝ }
     requires { ⌜ length (now s) ≤ 65536 ⌝ }
-    ensures { λ r. ⌜ ((x : Declaration) → DeclarationOf (now (s .entry)) d x → ListedAs (now (out .entry)) (now (out .exit)) (fitted (length (now (out .entry))) (listed (listing x))) r) ⌝ }
+    ensures { λ r. ⌜ ((x : Declaration) → ItemOf (now (s .entry)) d x → ListedAs (now (out .entry)) (now (out .exit)) (fitted (length (now (out .entry))) (listed (listing x))) r) ⌝ }
 {
     let mut nowhere = [0u8; 1];
     let needed = put_listing(s, d, roles, &mut nowhere);
@@ -424,9 +424,9 @@ fn read_listing(s: &[u8], out: &mut [u8], roles: &mut [u8]) -> Listed
     ensures { λ r. ⌜ ListedAs (now (out .entry)) (now (out .exit)) (fitted (length (now (out .entry))) (itemAnswer (item 0 (at (now (s .entry)) 10 .here)))) r ⌝ }
 {
     let c = Cursor { at: 10, row: 0 };
-    match read(s, c, roles) {
-        DeclarationStep::Refused(r) => Listed::Refused(r),
-        DeclarationStep::At(d) => fit_listing(s, d, roles, out),
+    match item(s, c, roles) {
+        ItemStep::Refused(r) => Listed::Refused(r),
+        ItemStep::At(d) => fit_listing(s, d, roles, out),
     }
 }
 

@@ -1,11 +1,11 @@
 // A variant's value: where its text stands, and that text.
-use crate::declaration::DeclarationAt;
-use crate::declaration::DeclarationStep;
-use crate::declaration::read;
 use parse::body::ValueAt;
 use parse::body::VariantStep;
 use parse::body::variant;
 use parse::data_type::DataType;
+use parse::item::ItemAt;
+use parse::item::ItemStep;
+use parse::item::item;
 use parse::utils::past;
 use report::put::put_byte;
 use report::put::put_number;
@@ -100,7 +100,7 @@ fn find(s: &[u8], from: Cursor, roles: &mut [u8], position: usize) -> ValueAt
 }
 
 // The value of the variant at this position of a declaration.
-fn value(s: &[u8], d: DeclarationAt, roles: &mut [u8], position: usize) -> ValueAt
+fn value(s: &[u8], d: ItemAt, roles: &mut [u8], position: usize) -> ValueAt
     requires { ⌜ InList (now s) (d .body) ⌝ }
     ensures { λ r. ⌜ ((b : Body) → InsideAt (bodyOf (kindOf (d .kind))) (now (s .entry)) (d .body) b → ValueOf (now (s .entry)) r (bodyValue position b)) ⌝ }
 {
@@ -150,9 +150,9 @@ fn read_value(s: &[u8], position: usize, scratch: &mut [u8], roles: &mut [u8]) -
     ensures { λ r. ⌜ Placed (now (s .entry)) (now (scratch .entry)) (now (scratch .exit)) (itemAnswer position (item 0 (at (now (s .entry)) 10 .here))) r ⌝ }
 {
     let c = Cursor { at: 10, row: 0 };
-    match read(s, c, roles) {
-        DeclarationStep::Refused(r) => ValuePlace::Refused(r),
-        DeclarationStep::At(d) => {
+    match item(s, c, roles) {
+        ItemStep::Refused(r) => ValuePlace::Refused(r),
+        ItemStep::At(d) => {
             let v = value(s, d, roles, position);
             put_value(s, v, scratch)
         }

@@ -28,14 +28,6 @@ use Rattle.parse.proofs.Buffer.{sets-append}
 use Rattle.parse.proofs.Meeting.{after-assoc}
 use Rattle.reading.proofs.Conserved.{Conserved, conserved, item-conserving}
 
--- two values read one after the other, and what is made of them
-pub pair-as : {A B P C : Type 0} (row : ℕ) (t : Took A) (m : A → Reader B) (pair : A → B → P) (g : P → C)
-    → after row t (λ a. (m a >>= λ b. pure (g (pair a b)))) ≡ after row (after row t (λ a. (m a >>= λ b. pure (pair a b)))) (λ p. pure (g p))
-pair-as row t m pair g =
-    sym
-    (after-assoc row t (λ a. (m a >>= λ b. pure (pair a b))) (λ p. pure (g p))
-    ∙ ap (after row t) (fun-ext (λ a. fun-ext (λ r. fun-ext (λ us. after-assoc r (m a r us) (λ b. pure (pair a b)) (λ p. pure (g p)))))))
-
 -- ## The role buffer
 
 pub sets-all : (l vs : List ℕ) → length vs ≡ length l → sets l 0 vs ≡ vs
@@ -102,8 +94,8 @@ answered-refused s b0 {b1} r w e q =
     (record { answer = subst⁻¹ (ParsedAs s (parses.Refused r)) e (refl, refl); buffer = q ∙ sym (ap (buffer (length b0)) e) })
 
 parsed-as : (s : List ℕ) (i : ItemAt) (k : DataType) (d : Declaration) (rs : List ℕ) → i .kind ≡ k → ItemOf s i d → ParsedAs s (parsedBy k i) (declared d rs)
-parsed-as s i kinds.Struct d rs e o = (sym (o .kind) ∙ ap kindOf e, o)
-parsed-as s i kinds.Enum d rs e o = (sym (o .kind) ∙ ap kindOf e, o)
+parsed-as s i kinds.Struct d rs e o = (o .kind ∙ ap kindOf e, o)
+parsed-as s i kinds.Enum d rs e o = (o .kind ∙ ap kindOf e, o)
 
 module _ (s : List ℕ) (rows : ℕ) (e : list.check s ≡ list.passed rows) (b0 : List ℕ) (room : rows ≤ length b0) where
   pub read-refused : {b1 b2 : List ℕ} {sh : Declaration → Type 0} {p : Parse} (r : Refusal) → Meets s first b0 b1 sh (no (r .number) (r .place)) (item 0 (at s 10 .here))

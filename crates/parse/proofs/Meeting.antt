@@ -15,7 +15,7 @@ use Rattle.token_list.specs.declared.check.Cursor.{Cursor}
 use Rattle.token_list.specs.declared.stream.Token.{Token}
 use Rattle.reading.specs.Took.{Took, took, refuse, Reader, onward, after, _>>=_, placeOf, pure}
 use Rattle.reading.specs.Reading.{copied, whole, lone, isPunct, isIdent, isWord, textOf, Word, missing, found, Ending, kept}
-use Rattle.parse.specs.Contract.{Moved, Said, on, no, Meets, stands, refuses, refusal, any, stream, pastOf, Belonged, TextOf, wordShown, wordSaid}
+use Rattle.parse.specs.Contract.{Moved, Said, on, no, Meets, stands, refuses, refusal, any, stream, pastOf, Belonged, TextOf, InsideAt, wordShown, wordSaid}
 use Rattle.parse.specs.declared.utils.Word.{Word as WordAt}
 use Rattle.parse.specs.declared.utils.MaybeWord.{MaybeWord}
 use Rattle.parse.specs.declared.utils.MaybeWord.the-variants as words
@@ -324,3 +324,12 @@ group-not-end e = let z : _≡_ {A = ℕ} 0 1 = cc in omega arith
 -- of a refusal nothing is shown
 pub meets-none : {A : Type 0} {s : List ℕ} {c : Cursor} {b0 b1 : List ℕ} {sh sh2 : A → Type 0} {n p : ℕ} {t : Took A} → Meets s c b0 b1 sh (no n p) t → Meets s c b0 b1 sh2 (no n p) t
 meets-none refuses = refuses
+
+-- with the value, that it is read at c
+pub meets-inside : {A : Type 0} (m : Reader A) {s : List ℕ} {c : Cursor} {b0 b1 : List ℕ} {sh : A → Type 0} {x : Said} → InList s c
+    → Meets s c b0 b1 sh x (m (c .row) (stream s c)) → Meets s c b0 b1 (λ (a : A). sh a × InsideAt m s c a) x (m (c .row) (stream s c))
+meets-inside {A} m {s} {c} {b0} {b1} {sh} i w = go refl w
+  where
+    go : {x : Said} {t : Took A} → m (c .row) (stream s c) ≡ t → Meets s c b0 b1 sh x t → Meets s c b0 b1 (λ (a : A). sh a × InsideAt m s c a) x t
+    go e (stands {rs = rs} {us = us} mv h) = stands mv (h, record { inList = i; roles = rs; rest = us; gives = e })
+    go e refuses = refuses

@@ -379,27 +379,22 @@ bodyShown (counts.Refused r) v = ⊥
 
 -- ## The answers of item
 
--- attributes, visibility, the item's word and name
-abbrev pub itemHead : Reader reading.Head
-itemHead = reading.attributes >>= λ a. (reading.visibility >>= λ v. reading.dataType)
+-- what follows the item's word and name
+abbrev pub partsAfter : declaration.Kind → List ℕ → Reader declaration.Declaration
+partsAfter k n = do
+  p ← reading.generics
+  c ← reading.clause
+  b ← reading.bodyOf k
+  pure (record { kind = k; name = n; parameters = p; clause = c; body = b })
 
--- the where clause and the body
-pub record Tail : Type 0 where
-  pub clause : Trees
-  pub body : declaration.Body
-
-abbrev pub itemTail : declaration.Kind → Reader Tail
-itemTail k = reading.clause >>= λ c. (reading.bodyOf k >>= λ b. pure (record { clause = c; body = b }))
-
-abbrev pub tailShown : Counted → Tail → Type 0
-tailShown r t = bodyShown r (t .body)
-
--- what is told of a declaration
+-- what is told of a declaration: its kind, name and counts, and where its generics and its body are read
 pub record ItemOf (s : List ℕ) (i : ItemAt) (d : declaration.Declaration) : Type 0 where
-  pub kind : kindOf (i .kind) ≡ d .kind
+  pub kind : d .kind ≡ kindOf (i .kind)
   pub name : TextOf s (i .name) (d .name)
   pub parameters : i .parameters ≡ length (d .parameters)
   pub count : i .count ≡ bodyCount (d .body)
+  pub generics : InsideAt reading.generics s (i .generics) (d .parameters)
+  pub body : InsideAt (reading.bodyOf (kindOf (i .kind))) s (i .body) (d .body)
 
 abbrev pub itemSaid : ItemStep → Said
 itemSaid (itemSteps.At i) = on (i .next)

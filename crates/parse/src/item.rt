@@ -1,6 +1,7 @@
 // The item (virtue's parse/mod.rs).
 use crate::attributes;
-use crate::body;
+use crate::body::take_enum;
+use crate::body::take_struct;
 use crate::data_type;
 use crate::data_type::DataType;
 use crate::data_type::Headed;
@@ -16,22 +17,25 @@ use token_list::check::Refusal;
 use token_list::check::check;
 use token_list::stream::Token;
 ghost use mathlib.Core.Path.{_≡_};
-ghost use Prim.Native.Nat.{_-_, _≤_};
+ghost use mathlib.Core.List.{List};
+ghost use Prim.Native.Nat.{ℕ, _-_, _≤_};
 ghost use lib.ListN.{length, replicate};
 ghost use lib.Seq.{sets};
 ghost use Rattle.token_list.specs.Check as list;
 ghost use Rattle.token_list.specs.Contract.{InList};
-ghost use Rattle.reading.specs.Reading.{item};
+ghost use Rattle.reading.specs.Reading.{item, bodyOf};
 ghost use Rattle.reading.specs.Promise.{SingleAssignment};
-ghost use Rattle.parse.specs.Contract.{Meets, stream, headShown, headSaid, itemHead, tailShown, countSaid, itemTail, kindOf, itemShown, itemSaid, parsedOf, Answered, accepted};
+ghost use Rattle.parse.specs.Contract.{Meets, stream, TextOf, bodyShown, countSaid, partsAfter, kindOf, itemShown, itemSaid, parsedOf, Answered, accepted};
 
-// What was read: the kind, the name's token, how many parameters and fields or variants there are, and
-// where the item ended.
+// What was read: the kind, the name's token, how many parameters and fields or variants there are, the
+// cursors at which its generics and its body are read, and where it ended.
 pub struct ItemAt {
     pub kind: DataType,
     pub name: Token,
     pub parameters: usize,
     pub count: usize,
+    pub generics: Cursor,
+    pub body: Cursor,
     pub next: Cursor,
 }
 
@@ -47,57 +51,58 @@ pub enum Parse {
     Refused(Refusal),
 }
 
-// Attributes, visibility, the item's word and its name.
-pub fn head(s: &[u8], c: Cursor, roles: &mut [u8]) -> Headed
+pub fn body(s: &[u8], c: Cursor, roles: &mut [u8], kind: DataType) -> Counted
     requires { ⌜ InList (now s) c ⌝ }
-    ensures { λ r. ⌜ Meets (now (s .entry)) c (now (roles .entry)) (now (roles .exit)) (headShown (now (s .entry)) r) (headSaid r) (itemHead (c .row) (stream (now (s .entry)) c)) ⌝ }
+    ensures { λ r. ⌜ Meets (now (s .entry)) c (now (roles .entry)) (now (roles .exit)) (bodyShown r) (countSaid r) (bodyOf (kindOf kind) (c .row) (stream (now (s .entry)) c)) ⌝ }
 {
-    match attributes::try_take(s, c, roles) {
-        Step::Refused(r) => Headed::Refused(r),
-        Step::At(d) => {
-            let e = visibility::try_take(s, d, roles);
-            data_type::take(s, e, roles)
-        }
+    match kind {
+        DataType::Struct => take_struct(s, c, roles),
+        DataType::Enum => take_enum(s, c, roles),
     }
 }
 
-// The where clause and the body.
-pub fn tail(s: &[u8], c: Cursor, roles: &mut [u8], kind: DataType) -> Counted
+// The parts after the name.
+pub fn parts(s: &[u8], c: Cursor, roles: &mut [u8], kind: DataType, name: Token) -> ItemStep
     requires { ⌜ InList (now s) c ⌝ }
-    ensures { λ r. ⌜ Meets (now (s .entry)) c (now (roles .entry)) (now (roles .exit)) (tailShown r) (countSaid r) (itemTail (kindOf kind) (c .row) (stream (now (s .entry)) c)) ⌝ }
+    ensures { λ r. ⌜ ((n : List ℕ) → TextOf (now (s .entry)) name n → Meets (now (s .entry)) c (now (roles .entry)) (now (roles .exit)) (itemShown (now (s .entry)) r) (itemSaid r) (partsAfter (kindOf kind) n (c .row) (stream (now (s .entry)) c))) ⌝ }
 {
-    match generics::try_take_constraints(s, c, roles) {
-        Step::Refused(r) => Counted::Refused(r),
-        Step::At(d) => match kind {
-            DataType::Struct => body::take_struct(s, d, roles),
-            DataType::Enum => body::take_enum(s, d, roles),
+    match generics::try_take(s, c, roles) {
+        Counted::Refused(r) => ItemStep::Refused(r),
+        Counted::At(d, parameters) => match generics::try_take_constraints(s, d, roles) {
+            Step::Refused(r) => ItemStep::Refused(r),
+            Step::At(e) => match body(s, e, roles, kind) {
+                Counted::Refused(r) => ItemStep::Refused(r),
+                Counted::At(end, count) => ItemStep::At(ItemAt {
+                    kind,
+                    name,
+                    parameters,
+                    count,
+                    generics: c,
+                    body: e,
+                    next: end,
+                }),
+            },
         },
     }
 }
 
-// One item from c on; it says where it ended.
+// One item from c on; it says where its parts stand and where it ended.
 pub fn item(s: &[u8], c: Cursor, roles: &mut [u8]) -> ItemStep
     requires { ⌜ InList (now s) c ⌝ }
     ensures { λ r. ⌜ Meets (now (s .entry)) c (now (roles .entry)) (now (roles .exit)) (itemShown (now (s .entry)) r) (itemSaid r) (item (c .row) (stream (now (s .entry)) c)) ⌝ }
 {
-    match head(s, c, roles) {
-        Headed::Refused(r) => ItemStep::Refused(r),
-        Headed::At(h) => {
-            let kind = h.kind;
-            let name = h.name;
-            let d = h.next;
-            match generics::try_take(s, d, roles) {
-                Counted::Refused(r) => ItemStep::Refused(r),
-                Counted::At(e, parameters) => match tail(s, e, roles, kind) {
-                    Counted::Refused(r) => ItemStep::Refused(r),
-                    Counted::At(next, count) => ItemStep::At(ItemAt {
-                        kind,
-                        name,
-                        parameters,
-                        count,
-                        next,
-                    }),
-                },
+    match attributes::try_take(s, c, roles) {
+        Step::Refused(r) => ItemStep::Refused(r),
+        Step::At(d) => {
+            let e = visibility::try_take(s, d, roles);
+            match data_type::take(s, e, roles) {
+                Headed::Refused(r) => ItemStep::Refused(r),
+                Headed::At(h) => {
+                    let kind = h.kind;
+                    let name = h.name;
+                    let next = h.next;
+                    parts(s, next, roles, kind, name)
+                }
             }
         }
     }

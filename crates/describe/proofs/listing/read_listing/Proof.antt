@@ -1,4 +1,4 @@
-use Rattle.describe.specs.Contract.{declarationShown, declarationSaid}
+use Rattle.parse.specs.Contract.{itemShown, itemSaid}
 use lib.ListN.{length}
 use mathlib.Core.Path.{sym, ap}
 use Rattle.parse.proofs.Meeting as meeting
@@ -8,8 +8,8 @@ use borrow.Author.Needs.{needs}
 use Rattle.describe.proofs.listing.read_listing.Statement.{statement}
 use Rattle.describe.proofs.listing.read_listing.Tie as tie
 
-read-requires : tie.Need-read-requires
-read-requires c κs = search needs
+item-requires : tie.Need-item-requires
+item-requires c κs = search needs
 
 enum-known-r : tie.Need-enum-known-r
 enum-known-r c = search needs
@@ -18,13 +18,13 @@ enum-known-d : tie.Need-enum-known-d
 enum-known-d c = search needs
 
 fit-listing-requires : tie.Need-fit-listing-requires
-fit-listing-requires c κs = let m = meets-tells (meeting.say (declarationShown ((c .before .before .before .before .before .before .before .before .before .before .before .before .args) .s .now)) declarationSaid ((c .before .before .before .d) .given .1) ((c .before .before .before .before .before .before .before .read) .ensures)) in ((m .0, m .4), (c .before .before .before .before .before .before .before .before .before .before .before .before .pre) .1)
+fit-listing-requires c κs = let m = meets-tells (meeting.say (itemShown ((c .before .before .before .before .before .before .before .before .before .before .before .before .args) .s .now)) itemSaid ((c .before .before .before .d) .given .1) ((c .before .before .before .before .before .before .before .item) .ensures)) in ((m .0, m .4), (c .before .before .before .before .before .before .before .before .before .before .before .before .pre) .1)
 
 same-length : tie.Need-same-length
 same-length c = search needs
 
 returns : tie.Need-returns
-returns c = let e = meets-refusal (meeting.say (declarationShown ((c .before .before .before .before .before .before .before .before .before .before .args) .s .now)) declarationSaid ((c .before .r) .given .1) ((c .before .before .before .before .before .read) .ensures)) in listed-refused (sym (ap (λ t. fitted (length ((c .before .before .before .before .before .before .before .before .before .before .args) .out .now)) (itemAnswer t)) e)) (sym (ap (λ t. output ((c .before .before .before .before .before .before .before .before .before .before .args) .out .now) (fitted (length ((c .before .before .before .before .before .before .before .before .before .before .args) .out .now)) (itemAnswer t))) e))
+returns c = let e = meets-refusal (meeting.say (itemShown ((c .before .before .before .before .before .before .before .before .before .before .args) .s .now)) itemSaid ((c .before .r) .given .1) ((c .before .before .before .before .before .item) .ensures)) in listed-refused (sym (ap (λ t. fitted (length ((c .before .before .before .before .before .before .before .before .before .before .args) .out .now)) (itemAnswer t)) e)) (sym (ap (λ t. output ((c .before .before .before .before .before .before .before .before .before .before .args) .out .now) (fitted (length ((c .before .before .before .before .before .before .before .before .before .before .args) .out .now)) (itemAnswer t))) e))
 
 same-length-2 : tie.Need-same-length-2
 same-length-2 c = search needs
@@ -33,13 +33,13 @@ same-length-3 : tie.Need-same-length-3
 same-length-3 c = search needs
 
 returns-2 : tie.Need-returns-2
-returns-2 c = let m = meets-tells (meeting.say (declarationShown ((c .before .before .before .before .before .before .before .before .before .before .before .before .before .before .before .before .before .args) .s .now)) declarationSaid ((c .before .before .before .before .before .before .before .before .d) .given .1) ((c .before .before .before .before .before .before .before .before .before .before .before .before .read) .ensures)) in listed-as (ap (λ t. fitted (length ((c .before .before .before .before .before .before .before .before .before .before .before .before .before .before .before .before .before .args) .out .now)) (itemAnswer t)) (m .3)) ((c .before .before .before .before .fit-listing) .ensures (m .0) (m .4))
+returns-2 c = let m = meets-tells (meeting.say (itemShown ((c .before .before .before .before .before .before .before .before .before .before .before .before .before .before .before .before .before .args) .s .now)) itemSaid ((c .before .before .before .before .before .before .before .before .d) .given .1) ((c .before .before .before .before .before .before .before .before .before .before .before .before .item) .ensures)) in listed-as (ap (λ t. fitted (length ((c .before .before .before .before .before .before .before .before .before .before .before .before .before .before .before .before .before .args) .out .now)) (itemAnswer t)) (m .3)) ((c .before .before .before .before .fit-listing) .ensures (m .0) (m .4))
 
 pub read-listing-spec : {M : Type 1} → statement M
 read-listing-spec =
     tie.close
     (tie.spec
-    read-requires
+    item-requires
     enum-known-r
     enum-known-d
     fit-listing-requires

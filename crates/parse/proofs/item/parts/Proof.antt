@@ -1,11 +1,10 @@
 use mathlib.Core.Path.{refl}
-use Rattle.describe.proofs.Inside.{meets-inside}
 use Rattle.parse.proofs.Meeting as meeting
 use Rattle.parse.specs.Contract as contract
 use Rattle.reading.specs.Reading as reading
 use borrow.Author.Needs.{needs}
-use Rattle.describe.proofs.declaration.parts.Statement.{statement}
-use Rattle.describe.proofs.declaration.parts.Tie as tie
+use Rattle.parse.proofs.item.parts.Statement.{statement}
+use Rattle.parse.proofs.item.parts.Tie as tie
 
 try-take-requires : tie.Need-try-take-requires
 try-take-requires c κs = search needs
@@ -56,7 +55,7 @@ same-length-4 : tie.Need-same-length-4
 same-length-4 c = search needs
 
 returns-4 : tie.Need-returns-4
-returns-4 c = λ n t. meeting.meets-then _ (meets-inside reading.generics (c .before .before .before .before .before .before .before .before .before .before .before .before .before .before .before .before .before .before .before .before .before .before .before .pre) (meeting.say contract.countShown contract.countSaid ((c .before .before .before .before .before .before .before .before .before .before .before .before .before .before .before .d) .given .1) ((c .before .before .before .before .before .before .before .before .before .before .before .before .before .before .before .before .before .before .before .try-take) .ensures))) (λ p i. meeting.meets-then _ (meeting.say (λ x. contract.any) contract.stepSaid ((c .before .before .before .before .before .before .before .before .e) .given .1) ((c .before .before .before .before .before .before .before .before .before .before .before .before .try-take-constraints) .ensures)) (λ x _. meeting.meets-map _ _ (λ b k. record { kind = refl; name = t; count = k .0; parameters = i .1; body = k .1 }) (meets-inside (reading.bodyOf (contract.kindOf ((c .before .before .before .before .before .before .before .before .before .before .before .before .before .before .before .before .before .before .before .before .before .before .before .args) .kind))) (meeting.landed (meeting.say (λ x. contract.any) contract.stepSaid ((c .before .before .before .before .before .before .before .before .e) .given .1) ((c .before .before .before .before .before .before .before .before .before .before .before .before .try-take-constraints) .ensures))) (meeting.say contract.bodyShown contract.countSaid ((c .before .end) .given .1) ((c .before .before .before .before .before .body) .ensures)))))
+returns-4 c = λ n t. meeting.meets-then _ (meeting.meets-inside reading.generics (c .before .before .before .before .before .before .before .before .before .before .before .before .before .before .before .before .before .before .before .before .before .before .before .pre) (meeting.say contract.countShown contract.countSaid ((c .before .before .before .before .before .before .before .before .before .before .before .before .before .before .before .d) .given .1) ((c .before .before .before .before .before .before .before .before .before .before .before .before .before .before .before .before .before .before .before .try-take) .ensures))) (λ p i. meeting.meets-then _ (meeting.say (λ x. contract.any) contract.stepSaid ((c .before .before .before .before .before .before .before .before .e) .given .1) ((c .before .before .before .before .before .before .before .before .before .before .before .before .try-take-constraints) .ensures)) (λ x _. meeting.meets-map _ _ (λ b k. record { kind = refl; name = t; parameters = i .0; count = k .0; generics = i .1; body = k .1 }) (meeting.meets-inside (reading.bodyOf (contract.kindOf ((c .before .before .before .before .before .before .before .before .before .before .before .before .before .before .before .before .before .before .before .before .before .before .before .args) .kind))) (meeting.landed (meeting.say (λ x. contract.any) contract.stepSaid ((c .before .before .before .before .before .before .before .before .e) .given .1) ((c .before .before .before .before .before .before .before .before .before .before .before .before .try-take-constraints) .ensures))) (meeting.say contract.bodyShown contract.countSaid ((c .before .end) .given .1) ((c .before .before .before .before .before .body) .ensures)))))
 
 pub parts-spec : {M : Type 1} → statement M
 parts-spec =

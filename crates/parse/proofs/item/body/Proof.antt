@@ -1,10 +1,10 @@
 use mathlib.Core.Path.{ap}
 use Rattle.parse.proofs.Meeting.{meets-as}
 use Rattle.parse.specs.Contract as contract
 use Rattle.reading.specs.Reading as reading
 use borrow.Author.Needs.{needs}
-use Rattle.describe.proofs.declaration.body.Statement.{statement}
-use Rattle.describe.proofs.declaration.body.Tie as tie
+use Rattle.parse.proofs.item.body.Statement.{statement}
+use Rattle.parse.proofs.item.body.Tie as tie
 
 enum-told : tie.Need-enum-told
 enum-told c = search needs
