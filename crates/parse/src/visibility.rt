@@ -84,13 +84,15 @@ pub fn try_take(s: &[u8], c: Cursor, roles: &mut [u8]) -> Cursor
     requires { ⌜ InList (now s) c ⌝ }
     ensures { λ r. ⌜ Meets (now (s .entry)) c (now (roles .entry)) (now (roles .exit)) any (on r) (visibility (c .row) (stream (now (s .entry)) c)) ⌝ }
 {
+    // Two calls keep `take` out of line, and the short way short.
     let l = look(s, c);
-    if l.kind != b'o' {
-        if l.mark != b'p' {
-            return c;
-        }
+    if l.kind == b'o' {
+        return take(s, c, roles);
     }
-    take(s, c, roles)
+    if l.mark == b'p' {
+        return take(s, c, roles);
+    }
+    c
 }
 
 // The same, where a group or a text that starts with `p` stands in most cases.

@@ -10,21 +10,40 @@ use Rattle.parse.proofs.visibility.try_take.Tie as tie
 look-requires : tie.Need-look-requires
 look-requires c κs = search needs
 
-returns : tie.Need-returns
-returns c =
-    let d = c .before .before .before .before .before .before .before in
-    let a = d .args in
-    let l = c .before .before .before .before .look .ensures in
-    meets-same visibility (a .s .now) (a .c) (d .pre) _ _ _ _ refl (no-visibility (a .c .row) (stream (a .s .now) (a .c)) (λ e. c .before .before .if1 .taken (l .kind ∙ e)) (λ e. c .if2 .taken (l .mark ∙ e))) tt
-
 take-requires : tie.Need-take-requires
 take-requires c κs = search needs
 
 same-length : tie.Need-same-length
 same-length c = search needs
 
+returns : tie.Need-returns
+returns c = search needs
+
+take-requires-2 : tie.Need-take-requires-2
+take-requires-2 c κs = search needs
+
+same-length-2 : tie.Need-same-length-2
+same-length-2 c = search needs
+
 returns-2 : tie.Need-returns-2
 returns-2 c = search needs
 
+returns-3 : tie.Need-returns-3
+returns-3 c =
+    let d = c .before .before .before .before .before .before .before in
+    let a = d .args in
+    let l = c .before .before .before .before .look .ensures in
+    meets-same visibility (a .s .now) (a .c) (d .pre) _ _ _ _ refl (no-visibility (a .c .row) (stream (a .s .now) (a .c)) (λ e. c .before .before .if1 .left (l .kind ∙ e)) (λ e. c .if2 .left (l .mark ∙ e))) tt
+
 pub try-take-spec : {M : Type 1} → statement M
-try-take-spec = tie.close (tie.spec look-requires returns take-requires same-length returns-2)
+try-take-spec =
+    tie.close
+    (tie.spec
+    look-requires
+    take-requires
+    same-length
+    returns
+    take-requires-2
+    same-length-2
+    returns-2
+    returns-3)
