@@ -8,13 +8,16 @@ use native.Mathlib.Numerals.{add-one}
 use native.Mathlib.Omega.{arith}
 use borrow.Author.Tests.{ltb-true, eq-eqb, ne-eqb}
 use lib.Dec.{ltb, eqb}
-use lib.ListN.{length, getD, take, drop, replicate, length-append, drop-of-length-le}
+use lib.ListN.{length, getD, take, drop, replicate, length-append, length-replicate, drop-of-length-le}
 use lib.Seq.{take-at}
 use Rattle.token_list.specs.Text.{all}
 use Rattle.token_list.specs.Check as list
-use Rattle.token_list.specs.Stream.{size, at}
+use Rattle.token_list.specs.Stream.{Trees, size, at}
 use Rattle.token_list.specs.declared.check.Refusal.{Refusal}
 use Rattle.token_list.proofs.Texts.{drop-next}
+use Rattle.token_list.proofs.Passed.{passed-list}
+use Rattle.token_list.proofs.Bounds.{bounds}
+use Rattle.reading.proofs.Conserved.{Conserved, conserved, item-conserving}
 use Rattle.reading.specs.Role.{left-over}
 use Rattle.reading.specs.Took.{Took, took, refuse}
 use Rattle.reading.specs.Declaration.{Declaration}
@@ -76,21 +79,37 @@ module _ (s : List ℕ) (n : ℕ) (d : Declaration) (rs : List ℕ) where
   never : {m p : ℕ} → refused m p ≡ declared d rs → ⊥
   never e = let z : _≡_ {A = ℕ} 0 1 = cc in omega arith
 
-  by-item : (t : Took Declaration) → item 0 (at s 10 .here) ≡ t → itemAnswer t ≡ declared d rs → Named rs
-  by-item (took f qs us) i e = let q : qs ++ replicate (size us) left-over ≡ rs = cc in subst Named q (obeys-roles everything {ts = at s 10 .here} (obeys-sound i))
-  by-item (refuse m p) i e = absurd (never e)
+  -- what holds of the roles of every item holds of the answer's
+  module _ (P : List ℕ → Type 0)
+      (of-item : (k : ℕ) → list.check s ≡ list.Answer.passed k → (f : Declaration) (qs : List ℕ) (us : Trees) → item 0 (at s 10 .here) ≡ took f qs us
+      → P (qs ++ replicate (size us) left-over)) where
+    by-item : (k : ℕ) → list.check s ≡ list.Answer.passed k → (t : Took Declaration) → item 0 (at s 10 .here) ≡ t → itemAnswer t ≡ declared d rs → P rs
+    by-item k c (took f qs us) i e = let q : qs ++ replicate (size us) left-over ≡ rs = cc in subst P q (of-item k c f qs us i)
+    by-item k c (refuse m p) i e = absurd (never e)
 
-  by-room : (b : Bool) → cond b (refused 8 list.END) (itemAnswer (item 0 (at s 10 .here))) ≡ declared d rs → Named rs
-  by-room true e = absurd (never e)
-  by-room false e = by-item (item 0 (at s 10 .here)) refl e
+    by-room : (k : ℕ) → list.check s ≡ list.Answer.passed k → (b : Bool) → cond b (refused 8 list.END) (itemAnswer (item 0 (at s 10 .here))) ≡ declared d rs → P rs
+    by-room k c true e = absurd (never e)
+    by-room k c false e = by-item k c (item 0 (at s 10 .here)) refl e
 
-  by-check : (a : list.Answer) → checkedAnswer s n a ≡ declared d rs → Named rs
-  by-check (list.Answer.refused m p) e = absurd (never e)
-  by-check (list.Answer.passed k) e = by-room (ltb n k) e
+    by-check : (a : list.Answer) → list.check s ≡ a → checkedAnswer s n a ≡ declared d rs → P rs
+    by-check (list.Answer.refused m p) c e = absurd (never e)
+    by-check (list.Answer.passed k) c e = by-room k c (ltb n k) e
+
+    by-answer : answer s n ≡ declared d rs → P rs
+    unfolding answer
+    by-answer e = by-check (list.check s) refl e
 
   named : answer s n ≡ declared d rs → Named rs
-  unfolding answer
-  named e = by-check (list.check s) e
+  named = by-answer Named (λ k c f qs us i. obeys-roles everything {ts = at s 10 .here} (obeys-sound i))
+
+  -- one for each row
+  pub few-roles : answer s n ≡ declared d rs → length rs ≤ 4096
+  few-roles =
+      by-answer (λ (qs : List ℕ). length qs ≤ 4096)
+      (λ k c f qs us i.
+      let taken = conserved (subst (Conserved (at s 10 .here)) i (item-conserving 0 (at s 10 .here))) in
+      omega
+      (arith, length-append qs (replicate (size us) left-over), length-replicate {A = ℕ} (size us) left-over, taken .rows, passed-list s k c .size, bounds s c .rows))
 
 module _ (s b0 : List ℕ) {b1 : List ℕ} where
   pub rows-read : {p : Parse} → Answered s p b0 b1 → accepted p ≡ true → (n : ℕ) → n ≡ assigned b1 → readAs (Rows n) b1 (answer s (length b0))

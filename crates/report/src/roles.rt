@@ -72,7 +72,6 @@ fn put_lines(out: &mut [u8], at: usize, roles: &[u8]) -> usize
 
 // Reads the list and writes the report at the start of out; answers its length.
 pub fn report_roles(list: &[u8], roles: &mut [u8], out: &mut [u8]) -> usize
-    requires { ⌜ length (now roles) ≤ 4096 ⌝ }
     ensures { λ r. ⌜ Put (now (out .entry)) (now (out .exit)) 0 r (rolesText (answer (now (list .entry)) (length (now (roles .entry))))) ⌝ }
     ensures { λ _. ⌜ now (roles .exit) ≡ buffer (length (now (roles .entry))) (answer (now (list .entry)) (length (now (roles .entry)))) ⌝ }
     ensures { λ r. ⌜ r ≤ 65536 ⌝ }

@@ -4,7 +4,7 @@ use lib.ListN.{length}
 use lib.Seq.{length-take-le}
 use Rattle.reading.specs.Answer.{answer}
 use Rattle.report.specs.Roles.{rolesText}
-use Rattle.report.proofs.Lines.{found, not-found}
+use Rattle.report.proofs.Lines.{found, not-found, few-roles}
 use Rattle.report.proofs.Texts.{joined}
 use borrow.Author.Needs.{needs}
 use Rattle.report.proofs.roles.report_roles.Statement.{statement}
@@ -36,9 +36,10 @@ slice-aggregate-put-lines c = sym (length-take-le ((c .before .before .before .b
 
 put-lines-requires : tie.Need-put-lines-requires
 put-lines-requires c κs =
-    let f = found ((c .before .before .before .before .before .before .before .before .n) .given .0 .0) (answer ((c .before .before .before .before .before .before .before .before .before .before .before .before .before .before .before .before .before .args) .list .now) (length ((c .before .before .before .before .before .before .before .before .before .before .before .before .before .before .before .before .before .args) .roles .now))) ((c .before .before .before .before .before .before .before .before .n) .given .1) ((c .before .before .before .before .before .before .before .before .before .before .before .before .read-roles) .ensures .0) in
-    let count = length-take-le ((c .before .before .before .before .before .before .before .before .n) .given .0 .0) ((c .before .before .before .before .before .before .before .before .before .before .before .before .read-roles) .last .1 .0) (f .within) in
-    (omega (arith, (c .before .before .before .before .put-bytes) .ensures .next), omega (arith, f .within, count, (c .before .before .before .before .before .before .before .before .before .before .before .before .read-roles) .kept .1 .0, (c .before .before .before .before .before .before .before .before .before .before .before .before .before .before .before .before .before .pre)))
+    let a = (c .before .before .before .before .before .before .before .before .before .before .before .before .before .before .before .before .before .args) in
+    let k = (c .before .before .before .before .before .before .before .before .before .before .before .before .read-roles) in
+    let f = found ((c .before .before .before .before .before .before .before .before .n) .given .0 .0) (answer (a .list .now) (length (a .roles .now))) ((c .before .before .before .before .before .before .before .before .n) .given .1) (k .ensures .0) in
+    (omega (arith, (c .before .before .before .before .put-bytes) .ensures .next), few-roles (a .list .now) (length (a .roles .now)) (f .declaration) _ (f .same))
 
 same-length : tie.Need-same-length
 same-length c = search needs
@@ -59,10 +60,12 @@ same-length-4 c = search needs
 
 returns-2 : tie.Need-returns-2
 returns-2 c =
-    let f = found ((c .before .before .before .before .before .before .before .before .before .before .before .n) .given .0 .0) (answer ((c .before .before .before .before .before .before .before .before .before .before .before .before .before .before .before .before .before .before .before .before .args) .list .now) (length ((c .before .before .before .before .before .before .before .before .before .before .before .before .before .before .before .before .before .before .before .before .args) .roles .now))) ((c .before .before .before .before .before .before .before .before .before .before .before .n) .given .1) ((c .before .before .before .before .before .before .before .before .before .before .before .before .before .before .before .read-roles) .ensures .0) in
-    let count = length-take-le ((c .before .before .before .before .before .before .before .before .before .before .before .n) .given .0 .0) ((c .before .before .before .before .before .before .before .before .before .before .before .before .before .before .before .read-roles) .last .1 .0) (f .within) in (
+    let a = (c .before .before .before .before .before .before .before .before .before .before .before .before .before .before .before .before .before .before .before .before .args) in
+    let k = (c .before .before .before .before .before .before .before .before .before .before .before .before .before .before .before .read-roles) in
+    let f = found ((c .before .before .before .before .before .before .before .before .before .before .before .n) .given .0 .0) (answer (a .list .now) (length (a .roles .now))) ((c .before .before .before .before .before .before .before .before .before .before .before .n) .given .1) (k .ensures .0) in
+    let count = few-roles (a .list .now) (length (a .roles .now)) (f .declaration) _ (f .same) in (
       rw (f .same) (joined ((c .before .before .before .before .before .before .before .put-bytes) .ensures) ((c .before .before .put-lines) .ensures .0)),
-      ((c .before .before .before .before .before .before .before .before .before .before .before .before .before .before .before .read-roles) .ensures .1, omega (arith, (c .before .before .put-lines) .ensures .1, (c .before .before .before .before .before .before .before .put-bytes) .ensures .next, f .within, count, (c .before .before .before .before .before .before .before .before .before .before .before .before .before .before .before .read-roles) .kept .1 .0, (c .before .before .before .before .before .before .before .before .before .before .before .before .before .before .before .before .before .before .before .before .pre))),
+      (k .ensures .1, omega (arith, (c .before .before .put-lines) .ensures .1, (c .before .before .before .before .before .before .before .put-bytes) .ensures .next, count)),
     )
 
 pub report-roles-spec : {M : Type 1} → statement M
