@@ -32,7 +32,7 @@ pub fn attribute(s: &[u8], c: Cursor, roles: &mut [u8]) -> Marked
     marked_attribute(s, c, roles)
 }
 
-// The same, where a `#` stands in most cases.
+// The same by the tokens themselves, where a look has found a `#`.
 pub fn marked_attribute(s: &[u8], c: Cursor, roles: &mut [u8]) -> Marked
     requires { ⌜ InList (now s) c ⌝ }
     ensures { λ r. ⌜ AttributeRead (now (s .entry)) c (now (roles .entry)) (now (roles .exit)) r ⌝ }

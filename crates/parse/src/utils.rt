@@ -286,7 +286,7 @@ pub fn consume_punct_if(s: &[u8], c: Cursor, roles: &mut [u8], punct: u8, role: 
     take_punct(s, c, roles, punct, role)
 }
 
-// The same, where the punctuation stands in most cases.
+// The same by the token itself, where a look has found it.
 pub fn take_punct(s: &[u8], c: Cursor, roles: &mut [u8], punct: u8, role: u8) -> MaybePunct
     requires { ⌜ InList (now s) c ⌝ }
     ensures { λ r. ⌜ Meets (now (s .entry)) c (now (roles .entry)) (now (roles .exit)) (λ (v : Bool). r .taken ≡ v) (on (r .next)) (punctIf punct role (c .row) (stream (now (s .entry)) c)) ⌝ }

@@ -95,7 +95,7 @@ pub fn try_take(s: &[u8], c: Cursor, roles: &mut [u8]) -> Cursor
     c
 }
 
-// The same, where a group or a text that starts with `p` stands in most cases.
+// The same by the tokens themselves, where a look has found a group or a text that starts with `p`.
 pub fn take(s: &[u8], c: Cursor, roles: &mut [u8]) -> Cursor
     requires { ⌜ InList (now s) c ⌝ }
     ensures { λ r. ⌜ Meets (now (s .entry)) c (now (roles .entry)) (now (roles .exit)) any (on r) (visibility (c .row) (stream (now (s .entry)) c)) ⌝ }

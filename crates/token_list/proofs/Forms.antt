@@ -10,9 +10,9 @@ use lib.ListN.{length, getD, drop}
 use lib.Seq.{slice, slice-empty, length-slice}
 use Rattle.token_list.specs.Text.{LF, all, member, name, nameStart, namePart, digit, literal, literalStart, printable, single, punctuation, opening, closing}
 use Rattle.token_list.specs.Row.{Lines, line, lines, front, Form, plain, opens, closed, wrong, form, formOf, first}
-use Rattle.token_list.specs.Contract.{only, shape, markForm, oneByte, formed, inText, TextEnd, TokenLine, Shaped, ShapedUnlessWrong}
+use Rattle.token_list.specs.Contract.{shape, markForm, oneByte, formed, inText, TextEnd, TokenLine, Shaped, ShapedUnlessWrong}
 use Rattle.token_list.specs.declared.row.Line.{Line}
-use Rattle.token_list.proofs.Texts.{chosen, passed-over, single-only, first-only, slice-next, slice-none, and-last, and-fails, and-both, and-parts, or-holds}
+use Rattle.token_list.proofs.Texts.{chosen, passed-over, only, single-only, first-only, slice-next, slice-none, and-last, and-fails, and-both, and-parts, or-holds}
 use Rattle.token_list.proofs.Lines.{lines-byte, lines-end, line-from}
 
 pub ident-form : (k : ℕ) (t : List ℕ) → k ≡ 105 → formOf k t ≡ cond (name t) plain wrong

@@ -11,7 +11,6 @@ use lib.ListN.{length, getD, take, drop, length-take, drop-of-length-le}
 use lib.Seq.{slice, slice-cons, drop-cons, take-suc, drop-append-le, length-take-le}
 use Rattle.token_list.specs.Text.{all, member, same, rawName, plainName, neverRaw, single, literal, literalStart, printable}
 use Rattle.token_list.specs.Row.{first}
-use Rattle.token_list.specs.Contract.{only}
 
 -- a part that ends where it starts, or before, is empty
 pub slice-none : (s : List ℕ) (i e : ℕ) → e ≤ i → slice i e s ≡ []
@@ -141,6 +140,12 @@ module _ (b : ℕ) (s : List ℕ) where
   member-none i h = ap (member b) (drop-of-length-le s {i = i} h)
 
 -- ## A text of one byte
+
+-- the byte of a text that has just one, else 0
+abbrev pub only : List ℕ → ℕ
+only [] = 0
+only (b ∷ []) = b
+only (b ∷ c ∷ bs) = 0
 
 pub single-only : (p : ℕ → Bool) (t : List ℕ) → p 0 ≡ false → single p t ≡ p (only t)
 single-only p [] e = sym e

@@ -43,12 +43,6 @@ pub record LineEnd (s : List ℕ) (from e : ℕ) : Type 0 where
   pub none : length s ≤ e → lines (drop from s) ≡ tail (drop from s)
   pub lf : e < length s → getD s e 0 ≡ 10
 
--- the byte of a text that has just one, else 0
-abbrev pub only : List ℕ → ℕ
-only [] = 0
-only (b ∷ []) = b
-only (b ∷ c ∷ bs) = 0
-
 abbrev pub shape : Shape → Form
 shape Plain = plain
 shape (Opens d) = opens d

@@ -31,7 +31,7 @@ pub struct Line {
 }
 
 // Where the first LF at or after `from` stands; past the end where there is none.
-pub fn line_end(s: &[u8], from: usize) -> usize
+fn line_end(s: &[u8], from: usize) -> usize
     ensures { λ r. ⌜ LineEnd (now (s .entry)) from r ⌝ }
 {
     let mut i = from;
@@ -117,7 +117,7 @@ fn is_raw_name(s: &[u8], start: usize, end: usize) -> bool
     !is_never_raw(s, third, end)
 }
 
-pub fn is_name(s: &[u8], start: usize, end: usize) -> bool
+fn is_name(s: &[u8], start: usize, end: usize) -> bool
     requires { ⌜ end ≤ length (now s) ⌝ }
     ensures { λ r. ⌜ r ≡ name (slice start end (now (s .entry))) ⌝ }
 {
@@ -172,7 +172,7 @@ fn text_shape(s: &[u8], kind: u8, start: usize, end: usize) -> Shape
     Shape::Wrong
 }
 
-// The form of a row of this kind, neither `i` nor `l`, whose text is the one byte b (0: no such text).
+// The form of a row of this kind, neither `i` nor `l`, whose text is the one byte b.
 fn mark_shape(kind: u8, b: u8) -> Shape
     ensures { λ r. ⌜ shape r ≡ markForm kind b ⌝ }
 {
