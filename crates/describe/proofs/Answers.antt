@@ -99,7 +99,7 @@ module _ (s : List ℕ) (k n : ℕ) where
 
 -- ## A listing
 
-pub put-listing : {k l m o : List ℕ} {i j r : ℕ} (x : declaration.Declaration) → Put k l 0 i (listing.itemLines x) → Put l m i j (listing.numbered listing.parameterLine 0 (x .parameters))
+pub put-listing : {k l m o : List ℕ} {i j r : ℕ} (x : declaration.Declaration) → Put k l 0 i (listing.itemLines x) → Put l m i j (listing.numbered listing.parameterLine 0 (declaration.parametersOf (x .generics)))
     → Put m o j r (listing.bodyLines (x .body)) → Put k o 0 r (listing.listing x)
 unfolding listing.listing
 put-listing x p q t = joined p (joined q t)

@@ -11,7 +11,7 @@ use Rattle.token_list.specs.Row.{Row}
 use Rattle.token_list.specs.Stream.{Trees, end, leaf, group, size}
 use Rattle.token_list.proofs.Bounds.{texts}
 use Rattle.reading.specs.Role as role
-use Rattle.reading.specs.Declaration.{Kind, struct, enum, Parameter, lifetime, type, Field, Fields, unit, named, tuple, Value, absent, literal, negative, Variant, Body, fields, variants, Declaration}
+use Rattle.reading.specs.Declaration.{Kind, struct, enum, Parameter, lifetime, type, Field, Fields, unit, named, tuple, Value, absent, literal, negative, Variant, Body, fields, variants, Declaration, parametersOf}
 use Rattle.reading.specs.Took.{Took, took, refuse, Reader, onward, after, _>>=_, pure}
 use Rattle.reading.specs.Reading as r
 use Rattle.reading.specs.Reading.{Maybe, done, one, Word, missing, found, rounds, every, more}
@@ -62,7 +62,7 @@ bodyCost (fields f) = fieldsCost f
 bodyCost (variants vs) = total variantCost vs
 
 abbrev pub itemCost : Declaration → ℕ
-itemCost d = nameCost (d .name) + total parameterCost (d .parameters) + bodyCost (d .body)
+itemCost d = nameCost (d .name) + total parameterCost (parametersOf (d .generics)) + bodyCost (d .body)
 
 -- ## Readers
 
@@ -207,11 +207,11 @@ parameter-covering angle row (leaf q us) =
     (choice (r.isWord r.CONST q) (from-covered role.parameter-name row q us (omega arith) (bind constantAfter-covering comma-covering))
     (choice (r.isIdent q) (from-covered role.parameter-name row q us (omega arith) (bind (typeAfter-covering (q .text)) comma-covering)) refuses)))
 
-generics-covering : Covering (total parameterCost) 0 r.generics
+generics-covering : Covering (λ g. total parameterCost (parametersOf g)) 0 r.generics
 generics-covering row end = nothing-taken (omega arith)
 generics-covering row (group d ts us) = nothing-taken (omega arith)
 generics-covering row (leaf q us) =
-    choice (r.isPunct 60 q) (from-covered role.angle row q us (omega arith) (every-covering (parameter-covering row))) (nothing-taken (omega arith))
+    choice (r.isPunct 60 q) (from-covered role.angle row q us (omega arith) (bind (every-covering (parameter-covering row)) (λ ps. returned _))) (nothing-taken (omega arith))
 
 -- ## Fields
 

@@ -16,7 +16,7 @@ use Rattle.token_list.proofs.Bounds as bounds
 use Rattle.report.specs.Text.{decimal}
 use Rattle.report.specs.Contract.{Put}
 use Rattle.report.proofs.Texts.{decimal-within}
-use Rattle.reading.specs.Declaration.{Kind, struct, enum, Fields, unit, named, tuple, Value, absent, literal, negative, Body, fields, variants, Declaration}
+use Rattle.reading.specs.Declaration.{Kind, struct, enum, Fields, unit, named, tuple, Value, absent, literal, negative, Body, fields, variants, Declaration, parametersOf}
 use Rattle.reading.specs.Took.{Took, took, refuse}
 use Rattle.reading.specs.Reading.{item}
 use Rattle.reading.proofs.Conserved.{Conserved, ownNumber, refusal-number, item-conserving}
@@ -92,7 +92,7 @@ unfolding listing
 listing-length d h =
     let b = body-length (d .body) (omega arith) in
     simp (length-append, line-length)
-    (omega (arith, kind-length (d .kind), four-digits (bodyCount (d .body)) (b .1), numbered-length parameters-cover 0 (d .parameters) (omega arith), b .0))
+    (omega (arith, kind-length (d .kind), four-digits (bodyCount (d .body)) (b .1), numbered-length parameters-cover 0 (parametersOf (d .generics)) (omega arith), b .0))
 
 -- ## The law
 

@@ -118,22 +118,30 @@ body-end declaration.enum i e = enum-end i e
 
 -- ## Generics
 
-module _ {s : List ℕ} {c : Cursor} {ps : List declaration.Parameter} (i : InsideAt reading.generics s c ps) where
-  pub generics-angle : (t : Token) (d : Cursor) → LeafAt s (c .at) t → d ≡ pastOf c t → reading.isPunct 60 (rowOf s t) ≡ true → InsideAt (reading.every (reading.parameter (c .row))) s d ps
-  generics-angle t d l e p = go (reading.every (reading.parameter (c .row)) (c .row + 1) (at s (t .next) .here)) refl (sym (chosen _ _ _ p) ∙ ap (reading.generics (c .row)) (sym (l .here)) ∙ i .gives)
+module _ {s : List ℕ} {c : Cursor} {v : declaration.Generics} (i : InsideAt reading.generics s c v) where
+  pub generics-angle : (t : Token) (d : Cursor) → LeafAt s (c .at) t → d ≡ pastOf c t → reading.isPunct 60 (rowOf s t) ≡ true
+      → InsideAt (reading.every (reading.parameter (c .row))) s d (declaration.parametersOf v)
+  generics-angle t d l e p =
+      go (reading.every (reading.parameter (c .row)) (c .row + 1) (at s (t .next) .here)) refl (sym (chosen _ _ _ p) ∙ ap (reading.generics (c .row)) (sym (l .here)) ∙ i .gives)
     where
-      go : (x : Took (List declaration.Parameter)) → reading.every (reading.parameter (c .row)) (c .row + 1) (at s (t .next) .here) ≡ x → onward (8 ∷ []) x ≡ took ps (i .roles) (i .rest)
-          → InsideAt (reading.every (reading.parameter (c .row))) s d ps
+      go : (x : Took (List declaration.Parameter)) → reading.every (reading.parameter (c .row)) (c .row + 1) (at s (t .next) .here) ≡ x
+          → onward (8 ∷ []) (after (c .row + 1) x (λ ps. pure (declaration.angled ps))) ≡ took v (i .roles) (i .rest)
+          → InsideAt (reading.every (reading.parameter (c .row))) s d (declaration.parametersOf v)
       go (took ys qs ws) g h =
-          subst⁻¹ (λ (x : Cursor). InsideAt (reading.every (reading.parameter (c .row))) s x ps) e
-          (record { inList = past-in s c t (i .inList) (l .token); roles = qs; rest = ws; gives = g ∙ ap (λ (zs : List declaration.Parameter). took zs qs ws) (took-value h) })
+          subst⁻¹ (λ (x : Cursor). InsideAt (reading.every (reading.parameter (c .row))) s x (declaration.parametersOf v)) e
+          (record {
+            inList = past-in s c t (i .inList) (l .token);
+            roles = qs;
+            rest = ws;
+            gives = g ∙ ap (λ (zs : List declaration.Parameter). took zs qs ws) (ap declaration.parametersOf (took-value h));
+          })
       go (refuse n p) g h = took-not-refuse h
 
-  pub generics-other : (t : Token) → LeafAt s (c .at) t → reading.isPunct 60 (rowOf s t) ≡ false → ps ≡ []
+  pub generics-other : (t : Token) → LeafAt s (c .at) t → reading.isPunct 60 (rowOf s t) ≡ false → v ≡ declaration.without
   generics-other t l p = sym (took-value (sym (passed-over _ _ _ p) ∙ ap (reading.generics (c .row)) (sym (l .here)) ∙ i .gives))
 
-  pub generics-group : (t : Token) → GroupAt s (c .at) t → ps ≡ []
+  pub generics-group : (t : Token) → GroupAt s (c .at) t → v ≡ declaration.without
   generics-group t g = sym (took-value (ap (reading.generics (c .row)) (sym (g .here)) ∙ i .gives))
 
-  pub generics-end : stream s c ≡ end → ps ≡ []
+  pub generics-end : stream s c ≡ end → v ≡ declaration.without
   generics-end e = sym (took-value (ap (reading.generics (c .row)) (sym e) ∙ i .gives))

@@ -9,7 +9,7 @@ use lib.Seq.{sets}
 use Rattle.token_list.specs.Check as list
 use Rattle.token_list.specs.Stream.{Trees, at}
 use Rattle.report.specs.Text.{decimal, refusalText}
-use Rattle.reading.specs.Declaration.{Kind, struct, enum, Parameter, lifetime, constant, type, Field, Fields, unit, named, tuple, Value, absent, literal, negative, Variant, Body, fields, variants, Declaration}
+use Rattle.reading.specs.Declaration.{Kind, struct, enum, Parameter, lifetime, constant, type, parametersOf, Field, Fields, unit, named, tuple, Value, absent, literal, negative, Variant, Body, fields, variants, Declaration}
 use Rattle.reading.specs.Took.{Took, took, refuse}
 use Rattle.reading.specs.Reading.{item}
 use Rattle.parse.specs.Contract.{bodyCount}
@@ -94,7 +94,7 @@ abbrev pub itemLines : Declaration → List ℕ
 itemLines d = NAMES ++ line (kindText (d .kind)) (d .name) (decimal (bodyCount (d .body)))
 
 unfoldable pub listing : Declaration → List ℕ
-listing d = itemLines d ++ (numbered parameterLine 0 (d .parameters) ++ bodyLines (d .body))
+listing d = itemLines d ++ (numbered parameterLine 0 (parametersOf (d .generics)) ++ bodyLines (d .body))
 
 pub data Answer : Type 0 where
   -- the listing

@@ -41,7 +41,7 @@ ghost use Rattle.token_list.specs.Stream.{Trees, at};
 ghost use Rattle.token_list.specs.Contract.{InList};
 ghost use Rattle.report.specs.Text.{decimal};
 ghost use Rattle.report.specs.Contract.{Put};
-ghost use Rattle.reading.specs.Declaration.{Parameter, Field, Fields, Value, Variant, Body, Declaration};
+ghost use Rattle.reading.specs.Declaration.{Parameter, Generics, parametersOf, Field, Fields, Value, Variant, Body, Declaration};
 ghost use Rattle.reading.specs.Reading.{every, namedField, tupleField, variant, parameter, generics, bodyOf, item};
 ghost use Rattle.parse.specs.Contract.{kindOf, InsideAt, TextOf, ValueOf, FieldsOf, VariantOf, ParameterOf, ItemOf};
 ghost use Rattle.describe.specs.Listing.{FIELD, DASH, line, numbered, kindText, number, parameterLine, namedLine, tupleLine, fieldLines, variantLine, variantLines, bodyLines, itemLines, listing, listed, itemAnswer, fitted, answer, whole, answerText, MOST};
@@ -304,7 +304,7 @@ fn generics_lines(s: &[u8], c: Cursor, roles: &mut [u8], out: &mut [u8], at: usi
     requires { ⌜ InList (now s) c ⌝ }
     requires { ⌜ length (now s) ≤ 65536 ⌝ }
     requires { ⌜ at ≤ 1000000000000000 ⌝ }
-    ensures { λ r. ⌜ ((ps : List Parameter) → InsideAt generics (now (s .entry)) c ps → Put (now (out .entry)) (now (out .exit)) at r (numbered parameterLine 0 ps)) ⌝ }
+    ensures { λ r. ⌜ ((g : Generics) → InsideAt generics (now (s .entry)) c g → Put (now (out .entry)) (now (out .exit)) at r (numbered parameterLine 0 (parametersOf g))) ⌝ }
     ensures { λ r. ⌜ r ≤ at + 4300000000 ⌝ }
 {
     let row = c.row;

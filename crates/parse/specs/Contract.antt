@@ -262,6 +262,10 @@ abbrev pub countShown : {A : Type 0} → Counted → List A → Type 0
 countShown (counts.At d n) v = n ≡ length v
 countShown (counts.Refused r) v = ⊥
 
+-- how many parameters stand in the generics
+abbrev pub genericsShown : Counted → declaration.Generics → Type 0
+genericsShown r g = countShown r (declaration.parametersOf g)
+
 -- ## The answers of body
 
 -- what stands before a field
@@ -382,18 +386,18 @@ bodyShown (counts.Refused r) v = ⊥
 -- what follows the item's word and name
 abbrev pub partsAfter : declaration.Kind → List ℕ → Reader declaration.Declaration
 partsAfter k n = do
-  p ← reading.generics
+  g ← reading.generics
   c ← reading.clause
   b ← reading.bodyOf k
-  pure (record { kind = k; name = n; parameters = p; clause = c; body = b })
+  pure (record { kind = k; name = n; generics = g; clause = c; body = b })
 
 -- what is told of a declaration: its kind, name and counts, and where its generics and its body are read
 pub record ItemOf (s : List ℕ) (i : ItemAt) (d : declaration.Declaration) : Type 0 where
   pub kind : d .kind ≡ kindOf (i .kind)
   pub name : TextOf s (i .name) (d .name)
-  pub parameters : i .parameters ≡ length (d .parameters)
+  pub parameters : i .parameters ≡ length (declaration.parametersOf (d .generics))
   pub count : i .count ≡ bodyCount (d .body)
-  pub generics : InsideAt reading.generics s (i .generics) (d .parameters)
+  pub generics : InsideAt reading.generics s (i .generics) (d .generics)
   pub body : InsideAt (reading.bodyOf (kindOf (i .kind))) s (i .body) (d .body)
 
 abbrev pub itemSaid : ItemStep → Said

@@ -19,7 +19,7 @@ ghost use Rattle.token_list.specs.Contract.{InList};
 ghost use Rattle.reading.specs.Role.{bound};
 ghost use Rattle.reading.specs.Declaration.{Parameter};
 ghost use Rattle.reading.specs.Reading.{run, parameterStops, parameterName, marked-run, typeAfter, comma, parameter, every, generics, clause};
-ghost use Rattle.parse.specs.Contract.{Meets, any, stream, TextOf, stepSaid, namedShown, namedSaid, ParameterOf, TypeNamed, parameterShown, parameterSaid, namedParameter, afterQuote, afterConst, afterName, countShown, countSaid};
+ghost use Rattle.parse.specs.Contract.{Meets, any, stream, TextOf, stepSaid, namedShown, namedSaid, ParameterOf, TypeNamed, parameterShown, parameterSaid, namedParameter, afterQuote, afterConst, afterName, countShown, countSaid, genericsShown};
 
 // Where a parameter's name stands, and the cursor after the parameter.
 pub struct ParameterAt {
@@ -239,7 +239,7 @@ pub fn parameters(s: &[u8], from: Cursor, roles: &mut [u8], angle: usize) -> Cou
 // virtue's Generics::try_take
 pub fn try_take(s: &[u8], c: Cursor, roles: &mut [u8]) -> Counted
     requires { ⌜ InList (now s) c ⌝ }
-    ensures { λ r. ⌜ Meets (now (s .entry)) c (now (roles .entry)) (now (roles .exit)) (countShown r) (countSaid r) (generics (c .row) (stream (now (s .entry)) c)) ⌝ }
+    ensures { λ r. ⌜ Meets (now (s .entry)) c (now (roles .entry)) (now (roles .exit)) (genericsShown r) (countSaid r) (generics (c .row) (stream (now (s .entry)) c)) ⌝ }
 {
     let row = c.row;
     match peek(s, c) {

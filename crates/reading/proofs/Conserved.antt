@@ -141,7 +141,7 @@ pub generics-conserving : Conserving r.generics
 generics-conserving row end = nothing-taken
 generics-conserving row (group d ts us) = nothing-taken
 generics-conserving row (leaf q us) =
-    choice (r.isPunct 60 q) (from-conserved role.angle row q us (every-conserving (r.parameter row) (parameter-round row))) nothing-taken
+    choice (r.isPunct 60 q) (from-conserved role.angle row q us (bind (every-conserving (r.parameter row) (parameter-round row)) (λ ps. pure-conserving _))) nothing-taken
 
 pub clause-conserving : Conserving r.clause
 clause-conserving row end = nothing-taken

@@ -14,7 +14,7 @@ use Rattle.reading.specs.Role as role
 use Rattle.reading.specs.Token.{isIdent, isLiteral, isPunct, isWord, starts, isGroup, isEnd, negatable, CONST, WHERE, parameterStops, fieldStops, clauseStops}
 use Rattle.reading.specs.Grammar as g
 use Rattle.reading.specs.Grammar.{everything}
-use Rattle.reading.specs.Declaration.{Kind, struct, enum, Parameter, Field, Fields, Value, absent, Variant, Body, Declaration}
+use Rattle.reading.specs.Declaration.{Kind, struct, enum, Parameter, Field, Fields, Value, absent, Variant, Body, Declaration, without, angled}
 use Rattle.reading.specs.Took.{Took, took, Reader, onward, after, _>>=_, pure}
 use Rattle.reading.specs.Reading as r
 use Rattle.reading.specs.Reading.{Maybe, done, one, every, more}
@@ -151,13 +151,13 @@ parameters-complete angle (g.Parameters.next h m x y k) =
     every-next (r.parameter angle) (c.parameter-round angle) (record { from = parameter-complete angle h m }) (parameters-complete angle k)
 
 pub generics-complete : {ts us : Trees} {rs : List ℕ} → g.Generics everything ts us rs → Takes Any r.generics ts us rs
-generics-complete (g.Generics.none {ts = ts} e) = record { from = λ row. taken-as [] [] ts tt (none ts e row) }
+generics-complete (g.Generics.none {ts = ts} e) = record { from = λ row. taken-as without [] ts tt (none ts e row) }
   where
-    none : (ts : Trees) → starts (isPunct 60) ts ≡ false → (row : ℕ) → r.generics row ts ≡ took [] [] ts
+    none : (ts : Trees) → starts (isPunct 60) ts ≡ false → (row : ℕ) → r.generics row ts ≡ took without [] ts
     none end e row = refl
     none (group d ts us) e row = refl
     none (leaf q us) e row = passed-over (isPunct 60 q) _ _ e
-generics-complete (g.Generics.generics {q = q} e h) = record { from = λ row. same-as (chosen (isPunct 60 q) _ _ e) (from-complete role.angle row (parameters-complete row h)) }
+generics-complete (g.Generics.generics {q = q} e h) = record { from = λ row. same-as (chosen (isPunct 60 q) _ _ e) (from-complete role.angle row (and-pure angled (parameters-complete row h) (λ x y. tt))) }
 
 pub clause-complete : {ts us : Trees} {rs : List ℕ} → g.Clause everything ts us rs → Takes Any r.clause ts us rs
 clause-complete (g.Clause.none {ts = ts} e) = record { from = λ row. taken-as end [] ts tt (none ts e row) }
@@ -306,7 +306,7 @@ enumBody-complete (g.EnumBody.variants {us = us} u h) = record { from = λ row. 
 -- what is read after the word and the name
 abbrev itemRest : r.Head → Reader Declaration
 itemRest h =
-    r.generics >>= λ p. r.clause >>= λ c. r.bodyOf (h .kind) >>= λ b. pure (record { kind = h .kind; name = h .name; parameters = p; clause = c; body = b })
+    r.generics >>= λ p. r.clause >>= λ c. r.bodyOf (h .kind) >>= λ b. pure (record { kind = h .kind; name = h .name; generics = p; clause = c; body = b })
 
 item-then : {ts₀ ts₁ ts₂ ts₃ ts₄ ts₅ ts₆ : Trees} {ks bs cs ds es fs : List ℕ} (k : Kind) → g.Attributes everything ts₀ ts₁ ks
     → g.Visibility everything ts₁ ts₂ bs
@@ -319,7 +319,7 @@ item-then {ts₃ = ts₃} {ts₅ = ts₅} {ts₆ = ts₆} {ds = ds} {es = es} {f
     rest h q =
         and-then (generics-complete d)
         (λ p y. and-then (clause-complete e)
-        (λ c y. and-pure (λ b. record { kind = h .kind; name = h .name; parameters = p; clause = c; body = b }) (subst (λ (l : Kind). Takes Any (r.bodyOf l) ts₅ ts₆ fs) (sym q) f) (λ x y. tt)))
+        (λ c y. and-pure (λ b. record { kind = h .kind; name = h .name; generics = p; clause = c; body = b }) (subst (λ (l : Kind). Takes Any (r.bodyOf l) ts₅ ts₆ fs) (sym q) f) (λ x y. tt)))
 
 pub item-complete : {tuple : Bool} {ts us : Trees} {rs : List ℕ} → g.Item everything tuple ts us rs → Takes Any r.item ts us rs
 item-complete (g.Item.struct a b c d e f) = item-then Kind.struct a b c d e (structBody-complete f)

@@ -145,7 +145,9 @@ pub generics-sound : (row : ℕ) (ts : Trees) → Meets (λ x rs us. g.Generics 
 generics-sound row end = met [] end (g.Generics.none refl)
 generics-sound row (group d ts us) = met [] (group d ts us) (g.Generics.none refl)
 generics-sound row (leaf q us) =
-    choice (isPunct 60 q) (λ e. onward-met (role.angle ∷ []) (parameters-sound row (row + 1) us) (λ x rs vs h. g.Generics.generics e h)) (λ e. met [] (leaf q us) (g.Generics.none e))
+    choice (isPunct 60 q)
+    (λ e. onward-met (role.angle ∷ []) (after-met (row + 1) (parameters-sound row (row + 1) us) (λ x rs vs h row. met [] vs (rw append-nil h))) (λ x rs vs h. g.Generics.generics e h))
+    (λ e. met [] (leaf q us) (g.Generics.none e))
 
 pub clause-sound : (row : ℕ) (ts : Trees) → Meets (λ x rs us. g.Clause everything ts us rs) (r.clause row ts)
 clause-sound row end = met [] end (g.Clause.none refl)

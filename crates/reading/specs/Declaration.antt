@@ -1,5 +1,5 @@
 -- What a declaration says, as plain data without places. Names are texts; runs are the tokens that they hold.
-use mathlib.Core.List.{List}
+use mathlib.Core.List.{List, []}
 use Prim.Native.Nat.{ℕ}
 use Rattle.token_list.specs.Stream.{Trees}
 
@@ -16,6 +16,15 @@ pub data Parameter : Type 0 where
   constant : List ℕ → Trees → Parameter
   -- name, bounds and default
   type : List ℕ → Trees → Trees → Parameter
+
+-- Generics of the Reference, and virtue's Option<Generics>: none stand there, or parameters between `<` and `>`
+pub data Generics : Type 0 where
+  without : Generics
+  angled : List Parameter → Generics
+
+abbrev pub parametersOf : Generics → List Parameter
+parametersOf without = []
+parametersOf (angled ps) = ps
 
 -- StructField: name and type. TupleField: type.
 pub record Field : Type 0 where
@@ -47,6 +56,6 @@ pub data Body : Type 0 where
 pub record Declaration : Type 0 where
   pub kind : Kind
   pub name : List ℕ
-  pub parameters : List Parameter
+  pub generics : Generics
   pub clause : Trees
   pub body : Body

@@ -11,7 +11,7 @@ use Rattle.token_list.specs.Check.{END}
 use Rattle.token_list.specs.Stream.{Trees, end, leaf, group, size}
 use Rattle.reading.specs.Role as role
 pub use Rattle.reading.specs.Token.{isIdent, isLiteral, isPunct, isWord, whole, copied, lone, PUB, STRUCT, ENUM, CONST, WHERE, scopeWord, scoped, worthFrom, worth, negatable, Stops, parameterStops, fieldStops, clauseStops}
-use Rattle.reading.specs.Declaration.{Kind, struct, enum, Parameter, lifetime, constant, type, Field, Fields, unit, named, tuple, Value, absent, literal, negative, Variant, Body, fields, variants, Declaration}
+use Rattle.reading.specs.Declaration.{Kind, struct, enum, Parameter, lifetime, constant, type, Generics, without, angled, Field, Fields, unit, named, tuple, Value, absent, literal, negative, Variant, Body, fields, variants, Declaration}
 use Rattle.reading.specs.Took.{Took, took, refuse, Reader, onward, after, _>>=_, pure, placeOf, wrong}
 
 -- ## Words and punctuation (parse/utils.rs)
@@ -226,10 +226,14 @@ rounds (suc n) m row ts = after row (m row ts) (more (rounds n m))
 abbrev pub every : {A : Type 0} → Reader (Maybe A) → Reader (List A)
 every m row ts = rounds (suc (size ts)) m row ts
 
-abbrev pub generics : Reader (List Parameter)
-generics row end = took [] [] end
-generics row (group d ts us) = took [] [] (group d ts us)
-generics row (leaf r us) = cond (isPunct 60 r) (from role.angle row us (every (parameter row))) (took [] [] (leaf r us))
+-- after the `<` in the row `angle`
+abbrev pub genericsAfter : ℕ → Reader Generics
+genericsAfter angle = every (parameter angle) >>= λ ps. pure (angled ps)
+
+abbrev pub generics : Reader Generics
+generics row end = took without [] end
+generics row (group d ts us) = took without [] (group d ts us)
+generics row (leaf r us) = cond (isPunct 60 r) (from role.angle row us (genericsAfter row)) (took without [] (leaf r us))
 
 -- ## The where clause (GenericConstraints; WhereClause)
 
@@ -361,7 +365,7 @@ item = do
   a ← attributes
   v ← visibility
   h ← dataType
-  p ← generics
+  g ← generics
   c ← clause
   b ← bodyOf (h .kind)
-  pure (record { kind = h .kind; name = h .name; parameters = p; clause = c; body = b })
+  pure (record { kind = h .kind; name = h .name; generics = g; clause = c; body = b })

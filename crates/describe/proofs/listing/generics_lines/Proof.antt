@@ -1,3 +1,4 @@
+use Rattle.reading.specs.Declaration.{Generics, parametersOf}
 use native.Mathlib.Omega.{arith}
 use mathlib.Core.Path.{sym, _∙_, ap}
 use Rattle.parse.proofs.Meeting as meeting
@@ -26,7 +27,7 @@ is-punct-requires : tie.Need-is-punct-requires
 is-punct-requires c κs = search needs
 
 returns : tie.Need-returns
-returns c = (λ ps k. put-as (ap (numbered parameterLine 0) (generics-other k _ (meeting.peeked _ _ ((c .before .before .before .before .before .peek) .ensures) ((c .before .before .before .t) .given .1)) (meeting.punct-of _ _ _ _ ((meeting.peeked _ _ ((c .before .before .before .before .before .peek) .ensures) ((c .before .before .before .t) .given .1)) .token) ∙ sym ((c .before .is-punct) .ensures) ∙ not-true _ ((c .if1) .taken)))) (nothing _ _), omega arith)
+returns c = (λ ps k. put-as (ap (λ (g : Generics). numbered parameterLine 0 (parametersOf g)) (generics-other k _ (meeting.peeked _ _ ((c .before .before .before .before .before .peek) .ensures) ((c .before .before .before .t) .given .1)) (meeting.punct-of _ _ _ _ ((meeting.peeked _ _ ((c .before .before .before .before .before .peek) .ensures) ((c .before .before .before .t) .given .1)) .token) ∙ sym ((c .before .is-punct) .ensures) ∙ not-true _ ((c .if1) .taken)))) (nothing _ _), omega arith)
 
 past-requires : tie.Need-past-requires
 past-requires c κs = ((c .before .before .before .before .before .before .before .before .before .pre) .0, (meeting.peeked _ _ ((c .before .before .before .before .before .peek) .ensures) ((c .before .before .before .t) .given .1)) .token)
@@ -35,10 +36,10 @@ parameter-lines-requires : tie.Need-parameter-lines-requires
 parameter-lines-requires c κs = (meeting.past-in-of _ _ _ _ ((c .before .before .past) .ensures) ((c .before .before .before .before .before .before .before .before .before .before .before .before .pre) .0) ((meeting.peeked _ _ ((c .before .before .before .before .before .before .before .before .peek) .ensures) ((c .before .before .before .before .before .before .t) .given .1)) .token), ((c .before .before .before .before .before .before .before .before .before .before .before .before .pre) .1 .0, (c .before .before .before .before .before .before .before .before .before .before .before .before .pre) .1 .1))
 
 returns-2 : tie.Need-returns-2
-returns-2 c = (λ ps k. put-as (ap (numbered parameterLine 0) (generics-end k (meeting.peeked _ _ ((c .before .before .peek) .ensures) ((c .enum-told) .given .1)))) (nothing _ _), omega arith)
+returns-2 c = (λ ps k. put-as (ap (λ (g : Generics). numbered parameterLine 0 (parametersOf g)) (generics-end k (meeting.peeked _ _ ((c .before .before .peek) .ensures) ((c .enum-told) .given .1)))) (nothing _ _), omega arith)
 
 returns-3 : tie.Need-returns-3
-returns-3 c = (λ ps k. put-as (ap (numbered parameterLine 0) (generics-group k _ (meeting.peeked _ _ ((c .before .before .peek) .ensures) ((c .enum-told2) .given .1)))) (nothing _ _), omega arith)
+returns-3 c = (λ ps k. put-as (ap (λ (g : Generics). numbered parameterLine 0 (parametersOf g)) (generics-group k _ (meeting.peeked _ _ ((c .before .before .peek) .ensures) ((c .enum-told2) .given .1)))) (nothing _ _), omega arith)
 
 same-length : tie.Need-same-length
 same-length c = search needs
@@ -47,7 +48,7 @@ same-length-2 : tie.Need-same-length-2
 same-length-2 c = search needs
 
 returns-4 : tie.Need-returns-4
-returns-4 c = (λ ps k. (c .before .before .before .before .parameter-lines) .ensures .0 ps (generics-angle k _ _ (meeting.peeked _ _ ((c .before .before .before .before .before .before .before .before .before .before .before .before .before .peek) .ensures) ((c .before .before .before .before .before .before .before .before .before .before .before .t) .given .1)) ((c .before .before .before .before .before .before .before .past) .ensures) (meeting.punct-of _ _ _ _ ((meeting.peeked _ _ ((c .before .before .before .before .before .before .before .before .before .before .before .before .before .peek) .ensures) ((c .before .before .before .before .before .before .before .before .before .before .before .t) .given .1)) .token) ∙ sym ((c .before .before .before .before .before .before .before .before .before .is-punct) .ensures) ∙ not-false _ ((c .before .before .before .before .before .before .before .before .if1) .left))), (c .before .before .before .before .parameter-lines) .ensures .1)
+returns-4 c = (λ ps k. (c .before .before .before .before .parameter-lines) .ensures .0 (parametersOf ps) (generics-angle k _ _ (meeting.peeked _ _ ((c .before .before .before .before .before .before .before .before .before .before .before .before .before .peek) .ensures) ((c .before .before .before .before .before .before .before .before .before .before .before .t) .given .1)) ((c .before .before .before .before .before .before .before .past) .ensures) (meeting.punct-of _ _ _ _ ((meeting.peeked _ _ ((c .before .before .before .before .before .before .before .before .before .before .before .before .before .peek) .ensures) ((c .before .before .before .before .before .before .before .before .before .before .before .t) .given .1)) .token) ∙ sym ((c .before .before .before .before .before .before .before .before .before .is-punct) .ensures) ∙ not-false _ ((c .before .before .before .before .before .before .before .before .if1) .left))), (c .before .before .before .before .parameter-lines) .ensures .1)
 
 pub generics-lines-spec : {M : Type 1} → statement M
 generics-lines-spec =

@@ -20,7 +20,7 @@ same-length-2 : tie.Need-same-length-2
 same-length-2 c = search needs
 
 returns : tie.Need-returns
-returns c = λ x k. put-listing x ((c .before .before .before .before .before .before .before .before .before .before .before .before .before .before .before .before .before .put-item) .ensures .0 x k) ((c .before .before .before .before .before .before .before .before .before .before .before .generics-lines) .ensures .0 (x .parameters) (k .generics)) ((c .before .before .before .before .body-lines) .ensures .0 (x .body) (k .body))
+returns c = λ x k. put-listing x ((c .before .before .before .before .before .before .before .before .before .before .before .before .before .before .before .before .before .put-item) .ensures .0 x k) ((c .before .before .before .before .before .before .before .before .before .before .before .generics-lines) .ensures .0 (x .generics) (k .generics)) ((c .before .before .before .before .body-lines) .ensures .0 (x .body) (k .body))
 
 pub put-listing-spec : {M : Type 1} → statement M
 put-listing-spec =

@@ -1,5 +1,6 @@
 use Rattle.parse.proofs.Meeting as meeting
 use Rattle.parse.specs.Contract as contract
+use Rattle.reading.specs.Declaration.{angled}
 use Rattle.reading.specs.Reading as reading
 use Rattle.token_list.proofs.Texts.{chosen, passed-over, and-last, and-fails}
 use Rattle.token_list.specs.Contract.{InList}
@@ -45,7 +46,7 @@ same-length : tie.Need-same-length
 same-length c = search needs
 
 returns-4 : tie.Need-returns-4
-returns-4 c = meeting.meets-from reading.generics _ _ (c .before .before .before .before .before .before .before .before .before .before .before .before .before .before .before .before .pre) _ _ (meeting.peeked _ _ ((c .before .before .before .before .before .before .before .before .before .before .before .before .before .peek) .ensures) ((c .before .before .before .before .before .before .before .before .before .before .before .t) .given .1)) _ _ _ _ ((c .before .before .before .before .before .before .take-token) .ensures .0) ((c .before .before .before .before .before .before .take-token) .ensures .1) _ _ (reading.every (reading.parameter ((c .before .before .before .before .before .before .before .before .before .before .before .before .before .before .before .before .args) .c .row))) (chosen _ _ _ (meeting.punct-of _ _ _ _ ((meeting.peeked _ _ ((c .before .before .before .before .before .before .before .before .before .before .before .before .before .peek) .ensures) ((c .before .before .before .before .before .before .before .before .before .before .before .t) .given .1)) .token) ∙ sym ((c .before .before .before .before .before .before .before .before .before .is-punct) .ensures) ∙ not-false _ ((c .before .before .before .before .before .before .before .before .if1) .left))) ((c .before .before .parameters) .ensures)
+returns-4 c = meeting.meets-from reading.generics _ _ (c .before .before .before .before .before .before .before .before .before .before .before .before .before .before .before .before .pre) _ _ (meeting.peeked _ _ ((c .before .before .before .before .before .before .before .before .before .before .before .before .before .peek) .ensures) ((c .before .before .before .before .before .before .before .before .before .before .before .t) .given .1)) _ _ _ _ ((c .before .before .before .before .before .before .take-token) .ensures .0) ((c .before .before .before .before .before .before .take-token) .ensures .1) _ _ (reading.genericsAfter ((c .before .before .before .before .before .before .before .before .before .before .before .before .before .before .before .before .args) .c .row)) (chosen _ _ _ (meeting.punct-of _ _ _ _ ((meeting.peeked _ _ ((c .before .before .before .before .before .before .before .before .before .before .before .before .before .peek) .ensures) ((c .before .before .before .before .before .before .before .before .before .before .before .t) .given .1)) .token) ∙ sym ((c .before .before .before .before .before .before .before .before .before .is-punct) .ensures) ∙ not-false _ ((c .before .before .before .before .before .before .before .before .if1) .left))) (meeting.meets-map _ angled (λ ps h. h) ((c .before .before .parameters) .ensures))
 
 pub try-take-spec : {M : Type 1} → statement M
 try-take-spec =
