@@ -22,7 +22,7 @@ pub enum Marked {
 }
 
 // One `#` with its group, or an idle one.
-pub fn attribute(s: &[u8], c: Cursor, roles: &mut [u8]) -> Marked
+fn attribute(s: &[u8], c: Cursor, roles: &mut [u8]) -> Marked
     requires { ⌜ InList (now s) c ⌝ }
     ensures { λ r. ⌜ AttributeRead (now (s .entry)) c (now (roles .entry)) (now (roles .exit)) r ⌝ }
 {
@@ -33,7 +33,7 @@ pub fn attribute(s: &[u8], c: Cursor, roles: &mut [u8]) -> Marked
 }
 
 // The same by the tokens themselves, where a look has found a `#`.
-pub fn marked_attribute(s: &[u8], c: Cursor, roles: &mut [u8]) -> Marked
+fn marked_attribute(s: &[u8], c: Cursor, roles: &mut [u8]) -> Marked
     requires { ⌜ InList (now s) c ⌝ }
     ensures { λ r. ⌜ AttributeRead (now (s .entry)) c (now (roles .entry)) (now (roles .exit)) r ⌝ }
 {

@@ -91,7 +91,7 @@ pub enum VariantStep {
 }
 
 // Attributes and visibility, which stand before a field.
-pub fn field_start(s: &[u8], c: Cursor, roles: &mut [u8]) -> Step
+fn field_start(s: &[u8], c: Cursor, roles: &mut [u8]) -> Step
     requires { ⌜ InList (now s) c ⌝ }
     ensures { λ r. ⌜ Meets (now (s .entry)) c (now (roles .entry)) (now (roles .exit)) any (stepSaid r) (fieldPrefix (c .row) (stream (now (s .entry)) c)) ⌝ }
 {
@@ -102,7 +102,7 @@ pub fn field_start(s: &[u8], c: Cursor, roles: &mut [u8]) -> Step
 }
 
 // A type's run and the `,` that may follow.
-pub fn field_type(s: &[u8], c: Cursor, roles: &mut [u8]) -> Step
+fn field_type(s: &[u8], c: Cursor, roles: &mut [u8]) -> Step
     requires { ⌜ InList (now s) c ⌝ }
     ensures { λ r. ⌜ Meets (now (s .entry)) c (now (roles .entry)) (now (roles .exit)) any (stepSaid r) (fieldType (c .row) (stream (now (s .entry)) c)) ⌝ }
 {
@@ -127,7 +127,7 @@ pub fn field_type(s: &[u8], c: Cursor, roles: &mut [u8]) -> Step
 }
 
 // `:` and a type.
-pub fn field_after(s: &[u8], c: Cursor, roles: &mut [u8]) -> Step
+fn field_after(s: &[u8], c: Cursor, roles: &mut [u8]) -> Step
     requires { ⌜ InList (now s) c ⌝ }
     ensures { λ r. ⌜ ((n : List ℕ) → Meets (now (s .entry)) c (now (roles .entry)) (now (roles .exit)) (FieldNamed n) (stepSaid r) (fieldAfter n (c .row) (stream (now (s .entry)) c))) ⌝ }
 {
@@ -184,7 +184,7 @@ pub fn tuple_field(s: &[u8], c: Cursor, roles: &mut [u8]) -> TypeStep
     tuple_type(s, c, roles)
 }
 
-pub fn tuple_type(s: &[u8], c: Cursor, roles: &mut [u8]) -> TypeStep
+fn tuple_type(s: &[u8], c: Cursor, roles: &mut [u8]) -> TypeStep
     requires { ⌜ InList (now s) c ⌝ }
     ensures { λ r. ⌜ Meets (now (s .entry)) c (now (roles .entry)) (now (roles .exit)) (typeShown r) (typeSaid r) (tupleType (c .row) (stream (now (s .entry)) c)) ⌝ }
 {
@@ -198,7 +198,7 @@ pub fn tuple_type(s: &[u8], c: Cursor, roles: &mut [u8]) -> TypeStep
 }
 
 // virtue's UnnamedField::parse_with_name
-pub fn parse_with_name(s: &[u8], from: Cursor, roles: &mut [u8]) -> Counted
+fn parse_with_name(s: &[u8], from: Cursor, roles: &mut [u8]) -> Counted
     requires { ⌜ InList (now s) from ⌝ }
     ensures { λ r. ⌜ Meets (now (s .entry)) from (now (roles .entry)) (now (roles .exit)) (countShown r) (countSaid r) (every namedField (from .row) (stream (now (s .entry)) from)) ⌝ }
 {
@@ -221,7 +221,7 @@ pub fn parse_with_name(s: &[u8], from: Cursor, roles: &mut [u8]) -> Counted
 }
 
 // virtue's UnnamedField::parse
-pub fn parse(s: &[u8], from: Cursor, roles: &mut [u8]) -> Counted
+fn parse(s: &[u8], from: Cursor, roles: &mut [u8]) -> Counted
     requires { ⌜ InList (now s) from ⌝ }
     ensures { λ r. ⌜ Meets (now (s .entry)) from (now (roles .entry)) (now (roles .exit)) (countShown r) (countSaid r) (every tupleField (from .row) (stream (now (s .entry)) from)) ⌝ }
 {
@@ -244,7 +244,7 @@ pub fn parse(s: &[u8], from: Cursor, roles: &mut [u8]) -> Counted
 }
 
 // The closing row of a group whose inside was read up to c.
-pub fn close_group(s: &[u8], c: Cursor, roles: &mut [u8]) -> Cursor
+fn close_group(s: &[u8], c: Cursor, roles: &mut [u8]) -> Cursor
     requires { ⌜ InList (now s) c ⌝ }
     requires { ⌜ follows (at (now s) (c .at) .outer) ≡ true ⌝ }
     ensures { λ r. ⌜ Skipped (now (s .entry)) c r ⌝ }
@@ -256,7 +256,7 @@ pub fn close_group(s: &[u8], c: Cursor, roles: &mut [u8]) -> Cursor
 }
 
 // The group of named fields that opens at c, with its delimiters.
-pub fn named_group(s: &[u8], c: Cursor, t: Token, roles: &mut [u8]) -> Counted
+fn named_group(s: &[u8], c: Cursor, t: Token, roles: &mut [u8]) -> Counted
     requires { ⌜ InList (now s) c ⌝ }
     requires { ⌜ GroupAt (now s) (c .at) t ⌝ }
     ensures { λ r. ⌜ Meets (now (s .entry)) c (now (roles .entry)) (now (roles .exit)) (countShown r) (countSaid r) (Inside (every namedField) (now (s .entry)) c t) ⌝ }
@@ -272,7 +272,7 @@ pub fn named_group(s: &[u8], c: Cursor, t: Token, roles: &mut [u8]) -> Counted
 }
 
 // The group of fields without names that opens at c, with its delimiters.
-pub fn tuple_group(s: &[u8], c: Cursor, t: Token, roles: &mut [u8]) -> Counted
+fn tuple_group(s: &[u8], c: Cursor, t: Token, roles: &mut [u8]) -> Counted
     requires { ⌜ InList (now s) c ⌝ }
     requires { ⌜ GroupAt (now s) (c .at) t ⌝ }
     ensures { λ r. ⌜ Meets (now (s .entry)) c (now (roles .entry)) (now (roles .exit)) (countShown r) (countSaid r) (Inside (every tupleField) (now (s .entry)) c t) ⌝ }
@@ -288,7 +288,7 @@ pub fn tuple_group(s: &[u8], c: Cursor, t: Token, roles: &mut [u8]) -> Counted
 }
 
 // The group of variants that opens at c, with its delimiters.
-pub fn variants_group(s: &[u8], c: Cursor, t: Token, roles: &mut [u8]) -> Counted
+fn variants_group(s: &[u8], c: Cursor, t: Token, roles: &mut [u8]) -> Counted
     requires { ⌜ InList (now s) c ⌝ }
     requires { ⌜ GroupAt (now s) (c .at) t ⌝ }
     ensures { λ r. ⌜ Meets (now (s .entry)) c (now (roles .entry)) (now (roles .exit)) (countShown r) (countSaid r) (Inside (every variant) (now (s .entry)) c t) ⌝ }
@@ -304,7 +304,7 @@ pub fn variants_group(s: &[u8], c: Cursor, t: Token, roles: &mut [u8]) -> Counte
 }
 
 // A variant's group, where one stands.
-pub fn variant_fields(s: &[u8], c: Cursor, roles: &mut [u8]) -> FieldsStep
+fn variant_fields(s: &[u8], c: Cursor, roles: &mut [u8]) -> FieldsStep
     requires { ⌜ InList (now s) c ⌝ }
     ensures { λ r. ⌜ Meets (now (s .entry)) c (now (roles .entry)) (now (roles .exit)) (fieldsShown (now (s .entry)) r) (fieldsSaid r) (variantFields (c .row) (stream (now (s .entry)) c)) ⌝ }
 {
@@ -336,7 +336,7 @@ pub fn variant_fields(s: &[u8], c: Cursor, roles: &mut [u8]) -> FieldsStep
 }
 
 // Whether the text is digits alone, worth at most the largest i64.
-pub fn is_negatable(s: &[u8], start: usize, end: usize) -> bool
+fn is_negatable(s: &[u8], start: usize, end: usize) -> bool
     requires { ⌜ end ≤ length (now s) ⌝ }
     ensures { λ r. ⌜ r ≡ negatable (slice start end (now (s .entry))) ⌝ }
 {
@@ -361,7 +361,7 @@ pub fn is_negatable(s: &[u8], start: usize, end: usize) -> bool
 }
 
 // The literal after a `-`.
-pub fn negative_value(s: &[u8], c: Cursor, roles: &mut [u8]) -> ValueStep
+fn negative_value(s: &[u8], c: Cursor, roles: &mut [u8]) -> ValueStep
     requires { ⌜ InList (now s) c ⌝ }
     ensures { λ r. ⌜ Meets (now (s .entry)) c (now (roles .entry)) (now (roles .exit)) (valueShown (now (s .entry)) r) (valueSaid r) (negativeValue (c .row) (stream (now (s .entry)) c)) ⌝ }
 {
@@ -397,7 +397,7 @@ pub fn negative_value(s: &[u8], c: Cursor, roles: &mut [u8]) -> ValueStep
 }
 
 // What follows a variant's `=`.
-pub fn discriminant(s: &[u8], c: Cursor, roles: &mut [u8]) -> ValueStep
+fn discriminant(s: &[u8], c: Cursor, roles: &mut [u8]) -> ValueStep
     requires { ⌜ InList (now s) c ⌝ }
     ensures { λ r. ⌜ Meets (now (s .entry)) c (now (roles .entry)) (now (roles .exit)) (valueShown (now (s .entry)) r) (valueSaid r) (discriminant (c .row) (stream (now (s .entry)) c)) ⌝ }
 {
@@ -429,7 +429,7 @@ pub fn discriminant(s: &[u8], c: Cursor, roles: &mut [u8]) -> ValueStep
 }
 
 // A variant's value, where one stands; else a `,` or the end must follow.
-pub fn value_if(s: &[u8], c: Cursor, roles: &mut [u8]) -> ValueStep
+fn value_if(s: &[u8], c: Cursor, roles: &mut [u8]) -> ValueStep
     requires { ⌜ InList (now s) c ⌝ }
     ensures { λ r. ⌜ Meets (now (s .entry)) c (now (roles .entry)) (now (roles .exit)) (valueShown (now (s .entry)) r) (valueSaid r) (valueIf (c .row) (stream (now (s .entry)) c)) ⌝ }
 {
@@ -462,7 +462,7 @@ pub enum NameStep {
 }
 
 // A variant's attributes and name.
-pub fn variant_name(s: &[u8], c: Cursor, roles: &mut [u8]) -> NameStep
+fn variant_name(s: &[u8], c: Cursor, roles: &mut [u8]) -> NameStep
     requires { ⌜ InList (now s) c ⌝ }
     ensures { λ r. ⌜ Meets (now (s .entry)) c (now (roles .entry)) (now (roles .exit)) (nameShown (now (s .entry)) r) (nameSaid r) (variantName (c .row) (stream (now (s .entry)) c)) ⌝ }
 {
@@ -480,7 +480,7 @@ pub fn variant_name(s: &[u8], c: Cursor, roles: &mut [u8]) -> NameStep
 }
 
 // A variant's value and the `,` that may follow.
-pub fn variant_value(s: &[u8], c: Cursor, roles: &mut [u8]) -> ValueStep
+fn variant_value(s: &[u8], c: Cursor, roles: &mut [u8]) -> ValueStep
     requires { ⌜ InList (now s) c ⌝ }
     ensures { λ r. ⌜ Meets (now (s .entry)) c (now (roles .entry)) (now (roles .exit)) (valueShown (now (s .entry)) r) (valueSaid r) (variantValue (c .row) (stream (now (s .entry)) c)) ⌝ }
 {
@@ -494,7 +494,7 @@ pub fn variant_value(s: &[u8], c: Cursor, roles: &mut [u8]) -> ValueStep
     }
 }
 
-pub fn variant_here(s: &[u8], c: Cursor, roles: &mut [u8]) -> VariantStep
+fn variant_here(s: &[u8], c: Cursor, roles: &mut [u8]) -> VariantStep
     requires { ⌜ InList (now s) c ⌝ }
     ensures { λ r. ⌜ Meets (now (s .entry)) c (now (roles .entry)) (now (roles .exit)) (variantShown (now (s .entry)) r) (variantSaid r) (variantHere (c .row) (stream (now (s .entry)) c)) ⌝ }
 {
@@ -527,7 +527,7 @@ pub fn variant(s: &[u8], c: Cursor, roles: &mut [u8]) -> VariantStep
     variant_here(s, c, roles)
 }
 
-pub fn variants(s: &[u8], from: Cursor, roles: &mut [u8]) -> Counted
+fn variants(s: &[u8], from: Cursor, roles: &mut [u8]) -> Counted
     requires { ⌜ InList (now s) from ⌝ }
     ensures { λ r. ⌜ Meets (now (s .entry)) from (now (roles .entry)) (now (roles .exit)) (countShown r) (countSaid r) (every variant (from .row) (stream (now (s .entry)) from)) ⌝ }
 {

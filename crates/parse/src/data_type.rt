@@ -33,7 +33,7 @@ pub enum Worded {
 }
 
 // `struct` or `enum`.
-pub fn item_word(s: &[u8], c: Cursor, roles: &mut [u8]) -> Worded
+fn item_word(s: &[u8], c: Cursor, roles: &mut [u8]) -> Worded
     requires { ⌜ InList (now s) c ⌝ }
     ensures { λ r. ⌜ Meets (now (s .entry)) c (now (roles .entry)) (now (roles .exit)) (wordedShown r) (wordedSaid r) (itemWord (c .row) (stream (now (s .entry)) c)) ⌝ }
 {

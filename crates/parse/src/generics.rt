@@ -47,7 +47,7 @@ pub enum Counted {
 }
 
 // The ident that must stand at c: else `number` there, or at `or` where nothing stands.
-pub fn parameter_name(s: &[u8], c: Cursor, roles: &mut [u8], number: u8, or: usize) -> Named
+fn parameter_name(s: &[u8], c: Cursor, roles: &mut [u8], number: u8, or: usize) -> Named
     requires { ⌜ InList (now s) c ⌝ }
     ensures { λ r. ⌜ Meets (now (s .entry)) c (now (roles .entry)) (now (roles .exit)) (namedShown (now (s .entry)) r) (namedSaid r) (parameterName number or (c .row) (stream (now (s .entry)) c)) ⌝ }
 {
@@ -66,7 +66,7 @@ pub fn parameter_name(s: &[u8], c: Cursor, roles: &mut [u8], number: u8, or: usi
 }
 
 // A bound's, a default's or a const type's run.
-pub fn parameter_run(s: &[u8], c: Cursor, roles: &mut [u8]) -> Step
+fn parameter_run(s: &[u8], c: Cursor, roles: &mut [u8]) -> Step
     requires { ⌜ InList (now s) c ⌝ }
     ensures { λ r. ⌜ Meets (now (s .entry)) c (now (roles .entry)) (now (roles .exit)) any (stepSaid r) (run parameterStops bound (c .row) (stream (now (s .entry)) c)) ⌝ }
 {
@@ -87,7 +87,7 @@ pub fn parameter_run(s: &[u8], c: Cursor, roles: &mut [u8]) -> Step
 }
 
 // `punct` and its run, where it stands.
-pub fn marked_run(s: &[u8], c: Cursor, roles: &mut [u8], punct: u8) -> Step
+fn marked_run(s: &[u8], c: Cursor, roles: &mut [u8], punct: u8) -> Step
     requires { ⌜ InList (now s) c ⌝ }
     ensures { λ r. ⌜ Meets (now (s .entry)) c (now (roles .entry)) (now (roles .exit)) any (stepSaid r) (marked-run punct (c .row) (stream (now (s .entry)) c)) ⌝ }
 {
@@ -100,7 +100,7 @@ pub fn marked_run(s: &[u8], c: Cursor, roles: &mut [u8], punct: u8) -> Step
 }
 
 // A parameter is finished by the `,` that may follow.
-pub fn finished(s: &[u8], c: Cursor, roles: &mut [u8], lifetime: bool, name: Token) -> ParameterStep
+fn finished(s: &[u8], c: Cursor, roles: &mut [u8], lifetime: bool, name: Token) -> ParameterStep
     requires { ⌜ InList (now s) c ⌝ }
     ensures { λ r. ⌜ ((a : Parameter) → ParameterOf (now (s .entry)) lifetime name a → Meets (now (s .entry)) c (now (roles .entry)) (now (roles .exit)) (parameterShown (now (s .entry)) r) (parameterSaid r) (comma a (c .row) (stream (now (s .entry)) c))) ⌝ }
 {
@@ -114,7 +114,7 @@ pub fn finished(s: &[u8], c: Cursor, roles: &mut [u8], lifetime: bool, name: Tok
 }
 
 // A parameter's name, `:` and a run that may follow, and the `,` after it.
-pub fn named_parameter(
+fn named_parameter(
     s: &[u8],
     c: Cursor,
     roles: &mut [u8],
@@ -135,7 +135,7 @@ pub fn named_parameter(
 }
 
 // virtue's Lifetime::take, after the `'` in the row `quote`.
-pub fn lifetime(s: &[u8], c: Cursor, roles: &mut [u8], quote: usize) -> ParameterStep
+fn lifetime(s: &[u8], c: Cursor, roles: &mut [u8], quote: usize) -> ParameterStep
     requires { ⌜ InList (now s) c ⌝ }
     ensures { λ r. ⌜ Meets (now (s .entry)) c (now (roles .entry)) (now (roles .exit)) (parameterShown (now (s .entry)) r) (parameterSaid r) (afterQuote quote (c .row) (stream (now (s .entry)) c)) ⌝ }
 {
@@ -143,7 +143,7 @@ pub fn lifetime(s: &[u8], c: Cursor, roles: &mut [u8], quote: usize) -> Paramete
 }
 
 // virtue's ConstGeneric::take, after `const`.
-pub fn const_generic(s: &[u8], c: Cursor, roles: &mut [u8]) -> ParameterStep
+fn const_generic(s: &[u8], c: Cursor, roles: &mut [u8]) -> ParameterStep
     requires { ⌜ InList (now s) c ⌝ }
     ensures { λ r. ⌜ Meets (now (s .entry)) c (now (roles .entry)) (now (roles .exit)) (parameterShown (now (s .entry)) r) (parameterSaid r) (afterConst (c .row) (stream (now (s .entry)) c)) ⌝ }
 {
@@ -151,7 +151,7 @@ pub fn const_generic(s: &[u8], c: Cursor, roles: &mut [u8]) -> ParameterStep
 }
 
 // `:` and bounds, or `=` and a default.
-pub fn type_runs(s: &[u8], c: Cursor, roles: &mut [u8]) -> Step
+fn type_runs(s: &[u8], c: Cursor, roles: &mut [u8]) -> Step
     requires { ⌜ InList (now s) c ⌝ }
     ensures { λ r. ⌜ ((n : List ℕ) → Meets (now (s .entry)) c (now (roles .entry)) (now (roles .exit)) (TypeNamed n) (stepSaid r) (typeAfter n (c .row) (stream (now (s .entry)) c))) ⌝ }
 {
@@ -164,7 +164,7 @@ pub fn type_runs(s: &[u8], c: Cursor, roles: &mut [u8]) -> Step
 }
 
 // virtue's SimpleGeneric::take, after its name.
-pub fn simple_generic(s: &[u8], c: Cursor, roles: &mut [u8], name: Token) -> ParameterStep
+fn simple_generic(s: &[u8], c: Cursor, roles: &mut [u8], name: Token) -> ParameterStep
     requires { ⌜ InList (now s) c ⌝ }
     ensures { λ r. ⌜ ((n : List ℕ) → TextOf (now (s .entry)) name n → Meets (now (s .entry)) c (now (roles .entry)) (now (roles .exit)) (parameterShown (now (s .entry)) r) (parameterSaid r) (afterName n (c .row) (stream (now (s .entry)) c))) ⌝ }
 {
@@ -214,7 +214,7 @@ pub fn parameter(s: &[u8], c: Cursor, roles: &mut [u8], angle: usize) -> Paramet
 }
 
 // The parameters after the `<` in the row `angle`, with the closing `>`.
-pub fn parameters(s: &[u8], from: Cursor, roles: &mut [u8], angle: usize) -> Counted
+fn parameters(s: &[u8], from: Cursor, roles: &mut [u8], angle: usize) -> Counted
     requires { ⌜ InList (now s) from ⌝ }
     ensures { λ r. ⌜ Meets (now (s .entry)) from (now (roles .entry)) (now (roles .exit)) (countShown r) (countSaid r) (every (parameter angle) (from .row) (stream (now (s .entry)) from)) ⌝ }
 {

@@ -51,7 +51,7 @@ pub enum Parse {
     Refused(Refusal),
 }
 
-pub fn body(s: &[u8], c: Cursor, roles: &mut [u8], kind: DataType) -> Counted
+fn body(s: &[u8], c: Cursor, roles: &mut [u8], kind: DataType) -> Counted
     requires { ⌜ InList (now s) c ⌝ }
     ensures { λ r. ⌜ Meets (now (s .entry)) c (now (roles .entry)) (now (roles .exit)) (bodyShown r) (countSaid r) (bodyOf (kindOf kind) (c .row) (stream (now (s .entry)) c)) ⌝ }
 {
@@ -62,7 +62,7 @@ pub fn body(s: &[u8], c: Cursor, roles: &mut [u8], kind: DataType) -> Counted
 }
 
 // The parts after the name.
-pub fn parts(s: &[u8], c: Cursor, roles: &mut [u8], kind: DataType, name: Token) -> ItemStep
+fn parts(s: &[u8], c: Cursor, roles: &mut [u8], kind: DataType, name: Token) -> ItemStep
     requires { ⌜ InList (now s) c ⌝ }
     ensures { λ r. ⌜ ((n : List ℕ) → TextOf (now (s .entry)) name n → Meets (now (s .entry)) c (now (roles .entry)) (now (roles .exit)) (itemShown (now (s .entry)) r) (itemSaid r) (partsAfter (kindOf kind) n (c .row) (stream (now (s .entry)) c))) ⌝ }
 {
@@ -109,7 +109,7 @@ pub fn item(s: &[u8], c: Cursor, roles: &mut [u8]) -> ItemStep
 }
 
 // The answer of an item, by its kind.
-pub fn parsed(i: ItemAt) -> Parse
+fn parsed(i: ItemAt) -> Parse
     ensures { λ r. ⌜ r ≡ parsedOf i ⌝ }
 {
     let kind = i.kind;

@@ -155,7 +155,7 @@ pub fn take_group(s: &[u8], c: Cursor, t: Token, roles: &mut [u8], role: u8) -> 
 }
 
 // The place of what stands at c, or the end mark.
-pub fn place(s: &[u8], c: Cursor) -> usize
+fn place(s: &[u8], c: Cursor) -> usize
     requires { ⌜ InList (now s) c ⌝ }
     ensures { λ r. ⌜ r ≡ placeOf (c .row) (stream (now (s .entry)) c) ⌝ }
 {
@@ -287,7 +287,7 @@ pub fn consume_punct_if(s: &[u8], c: Cursor, roles: &mut [u8], punct: u8, role: 
 }
 
 // The same by the token itself, where a look has found it.
-pub fn take_punct(s: &[u8], c: Cursor, roles: &mut [u8], punct: u8, role: u8) -> MaybePunct
+fn take_punct(s: &[u8], c: Cursor, roles: &mut [u8], punct: u8, role: u8) -> MaybePunct
     requires { ⌜ InList (now s) c ⌝ }
     ensures { λ r. ⌜ Meets (now (s .entry)) c (now (roles .entry)) (now (roles .exit)) (λ (v : Bool). r .taken ≡ v) (on (r .next)) (punctIf punct role (c .row) (stream (now (s .entry)) c)) ⌝ }
 {
@@ -314,7 +314,7 @@ pub fn take_punct(s: &[u8], c: Cursor, roles: &mut [u8], punct: u8, role: u8) ->
 }
 
 // A `>` directly after a `-` of the same run.
-pub fn check_if_arrow(minus: bool, b: u8) -> bool
+fn check_if_arrow(minus: bool, b: u8) -> bool
     ensures { λ r. ⌜ r ≡ (minus && eqb b 62) ⌝ }
 {
     if minus {
@@ -324,7 +324,7 @@ pub fn check_if_arrow(minus: bool, b: u8) -> bool
 }
 
 // What a `,` is to a run at this depth.
-pub fn judge_comma(stops: Stops, depth: usize) -> Verdict
+fn judge_comma(stops: Stops, depth: usize) -> Verdict
     ensures { λ r. ⌜ verdictOf r ≡ cond (eqb depth 0 && stops .comma) (ends atComma) (belongs depth false) ⌝ }
 {
     if depth == 0 {
@@ -336,7 +336,7 @@ pub fn judge_comma(stops: Stops, depth: usize) -> Verdict
 }
 
 // What a punctuation is to a run at this depth; `minus`: a `-` stands right before it.
-pub fn judge_punct(stops: Stops, depth: usize, minus: bool, b: u8) -> Verdict
+fn judge_punct(stops: Stops, depth: usize, minus: bool, b: u8) -> Verdict
     requires { ⌜ depth + 1 < 2 ^ 64 ⌝ }
     ensures { λ r. ⌜ verdictOf r ≡ judgePunct (stopsOf stops) depth minus b ⌝ }
 {
@@ -364,7 +364,7 @@ pub fn judge_punct(stops: Stops, depth: usize, minus: bool, b: u8) -> Verdict
     Verdict::Belongs(depth, minus)
 }
 
-pub fn judge_group(stops: Stops, depth: usize, d: u8) -> Verdict
+fn judge_group(stops: Stops, depth: usize, d: u8) -> Verdict
     ensures { λ r. ⌜ verdictOf r ≡ judgeGroup (stopsOf stops) depth d ⌝ }
 {
     if depth == 0 {
@@ -381,7 +381,7 @@ pub fn judge_group(stops: Stops, depth: usize, d: u8) -> Verdict
 }
 
 // What a token that is no group is to a run.
-pub fn judge(stops: Stops, depth: usize, minus: bool, t: Token) -> Verdict
+fn judge(stops: Stops, depth: usize, minus: bool, t: Token) -> Verdict
     requires { ⌜ depth + 1 < 2 ^ 64 ⌝ }
     ensures { λ r. ⌜ verdictOf r ≡ cond (eqb (t .kind) 112) (judgePunct (stopsOf stops) depth minus (t .mark)) (belongs depth false) ⌝ }
 {
@@ -393,7 +393,7 @@ pub fn judge(stops: Stops, depth: usize, minus: bool, t: Token) -> Verdict
 }
 
 // One token of a run.
-pub fn turn(
+fn turn(
     s: &[u8],
     c: Cursor,
     roles: &mut [u8],

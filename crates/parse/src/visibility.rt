@@ -18,7 +18,7 @@ ghost use Rattle.reading.specs.Reading.{scopeWord, scoped, scopeAfter, anyScope
 ghost use Rattle.parse.specs.Contract.{Meets, on, any, stream};
 
 // crate, self, super or in
-pub fn is_scope_word(s: &[u8], t: Token) -> bool
+fn is_scope_word(s: &[u8], t: Token) -> bool
     requires { ⌜ t .end ≤ length (now s) ⌝ }
     ensures { λ r. ⌜ r ≡ scopeWord (rowOf (now (s .entry)) t) ⌝ }
 {
@@ -35,7 +35,7 @@ pub fn is_scope_word(s: &[u8], t: Token) -> bool
 }
 
 // Whether the stream at c begins with a word of a scope.
-pub fn is_scoped(s: &[u8], c: Cursor) -> bool
+fn is_scoped(s: &[u8], c: Cursor) -> bool
     requires { ⌜ InList (now s) c ⌝ }
     ensures { λ r. ⌜ r ≡ scoped (stream (now (s .entry)) c) ⌝ }
 {
@@ -47,7 +47,7 @@ pub fn is_scoped(s: &[u8], c: Cursor) -> bool
 }
 
 // The scope that may follow a plain `pub`.
-pub fn scope_after(s: &[u8], c: Cursor, roles: &mut [u8]) -> Cursor
+fn scope_after(s: &[u8], c: Cursor, roles: &mut [u8]) -> Cursor
     requires { ⌜ InList (now s) c ⌝ }
     ensures { λ r. ⌜ Meets (now (s .entry)) c (now (roles .entry)) (now (roles .exit)) any (on r) (scopeAfter (c .row) (stream (now (s .entry)) c)) ⌝ }
 {
@@ -68,7 +68,7 @@ pub fn scope_after(s: &[u8], c: Cursor, roles: &mut [u8]) -> Cursor
 }
 
 // The group that may follow a wrapped `pub`.
-pub fn any_scope(s: &[u8], c: Cursor, roles: &mut [u8]) -> Cursor
+fn any_scope(s: &[u8], c: Cursor, roles: &mut [u8]) -> Cursor
     requires { ⌜ InList (now s) c ⌝ }
     ensures { λ r. ⌜ Meets (now (s .entry)) c (now (roles .entry)) (now (roles .exit)) any (on r) (anyScope (c .row) (stream (now (s .entry)) c)) ⌝ }
 {
@@ -96,7 +96,7 @@ pub fn try_take(s: &[u8], c: Cursor, roles: &mut [u8]) -> Cursor
 }
 
 // The same by the tokens themselves, where a look has found a group or a text that starts with `p`.
-pub fn take(s: &[u8], c: Cursor, roles: &mut [u8]) -> Cursor
+fn take(s: &[u8], c: Cursor, roles: &mut [u8]) -> Cursor
     requires { ⌜ InList (now s) c ⌝ }
     ensures { λ r. ⌜ Meets (now (s .entry)) c (now (roles .entry)) (now (roles .exit)) any (on r) (visibility (c .row) (stream (now (s .entry)) c)) ⌝ }
 {

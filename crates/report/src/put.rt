@@ -48,7 +48,7 @@ pub fn put_number(out: &mut [u8], at: usize, n: usize) -> usize
 }
 
 // A place: its row, or `-` for the end mark.
-pub fn put_place(out: &mut [u8], at: usize, place: usize) -> usize
+fn put_place(out: &mut [u8], at: usize, place: usize) -> usize
     requires { ⌜ at + 20 < 2 ^ 64 ⌝ }
     ensures { λ r. ⌜ Put (now (out .entry)) (now (out .exit)) at r (placeText place) ⌝ }
     ensures { λ r. ⌜ r ≤ at + 20 ⌝ }

@@ -7,7 +7,7 @@ ghost use Rattle.token_list.specs.Text.{all, member, same, between, digi
 ghost use Rattle.token_list.specs.Contract.{inText, TextEnd};
 
 // Whether lo <= b <= hi.
-pub fn between(lo: u8, hi: u8, b: u8) -> bool
+fn between(lo: u8, hi: u8, b: u8) -> bool
     ensures { λ r. ⌜ r ≡ between lo hi b ⌝ }
 {
     if b < lo {
@@ -52,7 +52,7 @@ pub fn is_punctuation(b: u8) -> bool
 }
 
 // Whether b may stand in a name, or else in a literal.
-pub fn in_text(names: bool, b: u8) -> bool
+fn in_text(names: bool, b: u8) -> bool
     ensures { λ r. ⌜ r ≡ inText names b ⌝ }
 {
     if names {
