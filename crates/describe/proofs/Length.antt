@@ -16,11 +16,10 @@ use Rattle.token_list.proofs.Bounds as bounds
 use Rattle.report.specs.Text.{decimal}
 use Rattle.report.specs.Contract.{Put}
 use Rattle.report.proofs.Texts.{decimal-within}
-use Rattle.reading.specs.Declaration.{Kind, struct, enum, Fields, unit, named, tuple, Value, absent, literal, negative, Body, fields, variants, Declaration, parametersOf}
+use Rattle.reading.specs.Declaration.{Kind, struct, enum, Fields, unit, named, tuple, Value, absent, literal, negative, Body, fields, variants, Declaration, parametersOf, bodyCount}
 use Rattle.reading.specs.Took.{Took, took, refuse}
 use Rattle.reading.specs.Reading.{item}
 use Rattle.reading.proofs.Conserved.{Conserved, ownNumber, refusal-number, item-conserving}
-use Rattle.parse.specs.Contract.{bodyCount}
 use Rattle.describe.specs.Listing.{line, numbered, parameterLine, namedLine, tupleLine, fieldLines, number, variantLines, bodyLines, kindText, listing, Answer, listed, refused, itemAnswer, checkedAnswer, whole, fitted, answer, answerText, MOST, Fits}
 use Rattle.describe.specs.Contract.{ListedAs}
 use Rattle.describe.specs.declared.listing.Listed.the-variants as listeds

@@ -367,18 +367,8 @@ variantShown s (variantSteps.One p) v = (a : declaration.Variant) × (v ≡ read
 variantShown s (variantSteps.Done d) v = v ≡ reading.done
 variantShown s (variantSteps.Refused r) v = ⊥
 
--- how many fields or variants a body has
-abbrev pub fieldsCount : declaration.Fields → ℕ
-fieldsCount declaration.unit = 0
-fieldsCount (declaration.named fs) = length fs
-fieldsCount (declaration.tuple ts) = length ts
-
-abbrev pub bodyCount : declaration.Body → ℕ
-bodyCount (declaration.fields f) = fieldsCount f
-bodyCount (declaration.variants vs) = length vs
-
 abbrev pub bodyShown : Counted → declaration.Body → Type 0
-bodyShown (counts.At d n) v = n ≡ bodyCount v
+bodyShown (counts.At d n) v = n ≡ declaration.bodyCount v
 bodyShown (counts.Refused r) v = ⊥
 
 -- ## The answers of item
@@ -396,7 +386,7 @@ pub record ItemOf (s : List ℕ) (i : ItemAt) (d : declaration.Declaration) : Ty
   pub kind : d .kind ≡ kindOf (i .kind)
   pub name : TextOf s (i .name) (d .name)
   pub parameters : i .parameters ≡ length (declaration.parametersOf (d .generics))
-  pub count : i .count ≡ bodyCount (d .body)
+  pub count : i .count ≡ declaration.bodyCount (d .body)
   pub generics : InsideAt reading.generics s (i .generics) (d .generics)
   pub body : InsideAt (reading.bodyOf (kindOf (i .kind))) s (i .body) (d .body)
 

@@ -1,6 +1,7 @@
 -- What a declaration says, as plain data without places. Names are texts; runs are the tokens that they hold.
 use mathlib.Core.List.{List, []}
 use Prim.Native.Nat.{ℕ}
+use lib.ListN.{length}
 use Rattle.token_list.specs.Stream.{Trees}
 
 -- `struct` or `enum`
@@ -51,6 +52,16 @@ pub record Variant : Type 0 where
 pub data Body : Type 0 where
   fields : Fields → Body
   variants : List Variant → Body
+
+-- how many fields or variants a body has
+abbrev pub fieldsCount : Fields → ℕ
+fieldsCount unit = 0
+fieldsCount (named fs) = length fs
+fieldsCount (tuple ts) = length ts
+
+abbrev pub bodyCount : Body → ℕ
+bodyCount (fields f) = fieldsCount f
+bodyCount (variants vs) = length vs
 
 -- Struct or Enumeration
 pub record Declaration : Type 0 where
