@@ -42,14 +42,6 @@ meets-tells (stands {a = a} {rs = rs} {us = us} m h) = (a, rs, us, refl, h)
 pub meets-refusal : {A : Type 0} {s : List ℕ} {c : Cursor} {b0 b1 : List ℕ} {sh : A → Type 0} {n p : ℕ} {t : Took A} → Meets s c b0 b1 sh (no n p) t → t ≡ refuse n p
 meets-refusal refuses = refl
 
--- ## The first row of a list that passes the check
-
-pub start-in : {s : List ℕ} {n : ℕ} → list.check s ≡ list.Answer.passed n → InList s (record { at = 10; row = 0 })
-start-in {s} {n} e =
-    let p = passed-list s n e in
-    let l : length (take 10 s) ≡ 10 = ap length (p .names) in
-    record { counted = omega arith; within = omega (arith, l, length-take 10 s); whole = p .whole }
-
 -- ## A value
 
 module _ {s : List ℕ} {v : ValueAt} (w : declaration.Value) (k : ValueOf s v w) where

@@ -9,7 +9,7 @@ use lib.ListN.{length, getD, take, drop}
 use lib.Seq.{slice}
 use borrow.Author.Tests.{leb-true, le-leb, lt-leb, eq-eqb, ne-eqb}
 use Rattle.token_list.specs.Text.{all, digit}
-use Rattle.token_list.proofs.Texts.{chosen, passed-over, slice-next, slice-none}
+use Rattle.token_list.proofs.Texts.{and-parts, chosen, passed-over, slice-next, slice-none}
 use Rattle.report.specs.Text.{decimal}
 use Rattle.report.specs.Contract.{Put}
 use Rattle.report.proofs.Texts.{decimal-within}
@@ -19,10 +19,6 @@ use Rattle.describe.specs.Value.{negativeText, valueAt}
 use Rattle.describe.specs.Contract.{part}
 
 -- ## Digits
-
-both-true : (a b : Bool) → (a && b) ≡ true → (a ≡ true) × (b ≡ true)
-both-true true b e = (refl, e)
-both-true false b e = absurd (false≢true e)
 
 worth-grows : (n : ℕ) (bs : List ℕ) → n ≤ worthFrom n bs
 worth-grows n [] = omega arith
@@ -36,13 +32,13 @@ pub record Counting (w n : ℕ) (t : List ℕ) : Type 0 where
 
 pub counting : (t : List ℕ) → negatable t ≡ true → Counting (worth t) 0 t
 unfolding negatable
-counting t e = let b = both-true _ _ e in record { digits = b .0; same = refl; few = leb-true _ _ (b .1) }
+counting t e = let b = and-parts _ _ e in record { digits = b .0; same = refl; few = leb-true _ _ (b .1) }
 
 pub counting-first : {w n b : ℕ} {bs : List ℕ} → Counting w n (b ∷ bs) → (48 ≤ b) × (b ≤ 57) × (n * 10 + (b - 48) ≤ 9223372036854775807) × Counting w (n * 10 + (b - 48)) bs
 counting-first {w} {n} {b} {bs} k =
-    let d = both-true _ _ (k .digits) in (
-      leb-true _ _ (both-true (leb 48 b) (leb b 57) (d .0) .0),
-      leb-true _ _ (both-true (leb 48 b) (leb b 57) (d .0) .1),
+    let d = and-parts _ _ (k .digits) in (
+      leb-true _ _ (and-parts (leb 48 b) (leb b 57) (d .0) .0),
+      leb-true _ _ (and-parts (leb 48 b) (leb b 57) (d .0) .1),
       omega (arith, k .same, k .few, worth-grows (n * 10 + (b - 48)) bs),
       record { digits = d .1; same = k .same; few = k .few },
     )

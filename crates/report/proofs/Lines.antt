@@ -14,7 +14,7 @@ use Rattle.token_list.specs.Text.{all}
 use Rattle.token_list.specs.Check as list
 use Rattle.token_list.specs.Stream.{Trees, size, at}
 use Rattle.token_list.specs.declared.check.Refusal.{Refusal}
-use Rattle.token_list.proofs.Texts.{drop-next}
+use Rattle.token_list.proofs.Texts.{and-parts, drop-next}
 use Rattle.token_list.proofs.Passed.{passed-list}
 use Rattle.token_list.proofs.Bounds.{bounds}
 use Rattle.reading.proofs.Conserved.{Conserved, conserved, item-conserving}
@@ -57,10 +57,6 @@ module _ (s : List ℕ) where
 abbrev Named : List ℕ → Type 0
 Named rs = all (λ r. ltb r 19) rs ≡ true
 
-both : (a b : Bool) → (a && b) ≡ true → (a ≡ true) × (b ≡ true)
-both true b e = (refl, e)
-both false b e = absurd (true≢false (sym e))
-
 none : (n : ℕ) → assigned (replicate n 255) ≡ 0
 none zero = refl
 none (suc n) = refl
@@ -69,7 +65,7 @@ none (suc n) = refl
 assigned-all : (rs : List ℕ) (n : ℕ) → Named rs → assigned (rs ++ replicate n 255) ≡ length rs
 assigned-all [] n h = none n
 assigned-all (r ∷ rs) n h =
-    let b = both (ltb r 19) (all (λ q. ltb q 19) rs) h in
+    let b = and-parts (ltb r 19) (all (λ q. ltb q 19) rs) h in
     let e : eqb r 255 ≡ false = ne-eqb r 255 (λ q. omega (arith, ltb-true r 19 (b .0))) in
     rw e (ap suc (assigned-all rs n (b .1)))
 

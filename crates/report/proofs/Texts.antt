@@ -9,16 +9,11 @@ use lib.ListN.{length, take, set, length-append}
 use lib.Seq.{sets, length-sets, sets-eq, take-at}
 use lib.Dec.{ltb}
 use borrow.Author.Tests.{lt-ltb, le-ltb}
+use Rattle.parse.proofs.Buffer.{sets-append}
 use Rattle.report.specs.Text.{digits, decimal}
 use Rattle.report.specs.Contract.{Put}
 
 -- ## Texts one after the other
-
-sets-append : (l : List ℕ) (i : ℕ) (s t : List ℕ) → sets l i (s ++ t) ≡ sets (sets l i s) (i + length s) t
-sets-append l i [] t = ap (λ (k : ℕ). sets l k t) (sym (add-zero i))
-sets-append l i (b ∷ s) t =
-    sets-append (set l i b) (suc i) s t
-    ∙ ap (λ (k : ℕ). sets (sets (set l i b) (suc i) s) k t) (suc-add i (length s) ∙ sym (add-suc i (length s)))
 
 pub nothing : (l : List ℕ) (i : ℕ) → Put l l i i []
 nothing l i = record { next = omega arith; bytes = refl }

@@ -10,6 +10,7 @@ use lib.ListN.{length, getD, drop}
 use lib.Seq.{slice, slice-empty, length-slice}
 use Rattle.token_list.specs.Text.{LF, all, member, name, nameStart, namePart, digit, literal, literalStart, printable, single, punctuation, opening, closing}
 use Rattle.token_list.specs.Row.{Lines, line, lines, front, Form, plain, opens, closed, wrong, form, formOf, first}
+use Rattle.token_list.specs.Check.{isRow}
 use Rattle.token_list.specs.Contract.{shape, markForm, oneByte, formed, inText, TextEnd, TokenLine, Shaped, ShapedUnlessWrong}
 use Rattle.token_list.specs.declared.row.Line.{Line}
 use Rattle.token_list.proofs.Texts.{chosen, passed-over, only, single-only, first-only, slice-next, slice-none, and-last, and-fails, and-both, and-parts, or-holds}
@@ -57,13 +58,8 @@ member-passes p b (x ∷ xs) a m = go (eqb b x) refl (p x) refl a m (member-pass
 pub literal-shown : (b : ℕ) → literalStart b ≡ true → printable b ≡ true
 literal-shown b e = go (digit b) refl e
   where
-    both : (x y : Bool) → (x && y) ≡ true → (x ≡ true) × (y ≡ true)
-    both true true q = (refl, refl)
-    both true false q = absurd (false≢true q)
-    both false y q = absurd (false≢true q)
-
     go : (x : Bool) → digit b ≡ x → (x || member b (34 ∷ 39 ∷ 98 ∷ 99 ∷ 114 ∷ [])) ≡ true → printable b ≡ true
-    go true d q = let h = both _ _ d in and-both _ _ (le-leb 32 b (omega (arith, leb-true 48 b (h .0)))) (le-leb b 126 (omega (arith, leb-true b 57 (h .1))))
+    go true d q = let h = and-parts (leb 48 b) (leb b 57) d in and-both _ _ (le-leb 32 b (omega (arith, leb-true 48 b (h .0)))) (le-leb b 126 (omega (arith, leb-true b 57 (h .1))))
     go false d q = member-passes printable b (34 ∷ 39 ∷ 98 ∷ 99 ∷ 114 ∷ []) refl q
 
 pub name-byte : (b : ℕ) → name (b ∷ []) ≡ nameStart b
@@ -119,6 +115,10 @@ name-fits k b t e n f =
 
 pub literal-fits : (k b : ℕ) (t : List ℕ) → k ≡ 108 → literalStart b ≡ true → all printable (b ∷ t) ≡ true → formOf k (b ∷ t) ≡ plain
 literal-fits k b t e n f = literal-form k (b ∷ t) e ∙ chosen _ _ _ (and-both _ _ n f)
+
+-- a row's form is not wrong
+pub no-wrong : {f : Form} → f ≡ wrong → isRow f ≡ true → ⊥
+no-wrong e r = false≢true (sym (ap isRow e) ∙ r)
 
 -- no kind is an LF
 pub lf-kind : (k : ℕ) (t : List ℕ) → k ≡ LF → formOf k t ≡ wrong

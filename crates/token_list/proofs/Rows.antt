@@ -9,13 +9,13 @@ use lib.Dec.{leb}
 use lib.ListN.{length, getD, drop, length-drop, length-append, drop-of-length-le}
 use lib.Seq.{slice, length-slice, getD-drop, getD-append-seam, drop-drop, drop-append-add}
 use Rattle.token_list.specs.Text.{LF}
-use Rattle.token_list.specs.Row.{Row, Form, wrong, lines, rows, formOf, written}
+use Rattle.token_list.specs.Row.{Row, lines, rows, formOf, written}
 use Rattle.token_list.specs.Check.{isRow, right, allRight}
 use Rattle.token_list.specs.Stream.{rowsAt, allClosed}
 use Rattle.token_list.specs.Contract.{LineEnd, RowEnd, Whole}
 use Rattle.token_list.proofs.Texts.{and-parts}
 use Rattle.token_list.proofs.Lines.{Scanned, scan-start, scan-more, scan-found}
-use Rattle.token_list.proofs.Forms.{lf-kind, zero-kind, lf-text, no-text}
+use Rattle.token_list.proofs.Forms.{no-wrong, lf-kind, zero-kind, lf-text, no-text}
 
 pub rows-none : (s : List ℕ) (i : ℕ) → length s ≤ i → rowsAt s i ≡ []
 rows-none s i h = ap (λ (t : List ℕ). rows (lines t)) (drop-of-length-le s {i = i} h)
@@ -43,7 +43,7 @@ first-row s i w h = go (rowsAt s i) refl
         f = and-parts _ _ (and-parts (right r) _ (sym (ap allRight e) ∙ w .right) .0) .0
 
         texts : (t : List ℕ) → r .text ≡ t → FirstRow s i
-        texts [] q = absurd (false≢true (sym (ap isRow (ap (formOf (r .kind)) q ∙ no-text (r .kind))) ∙ f))
+        texts [] q = absurd (no-wrong (ap (formOf (r .kind)) q ∙ no-text (r .kind)) f)
         texts (m ∷ t) q =
             record {
               row = r;
@@ -55,9 +55,6 @@ first-row s i w h = go (rowsAt s i) refl
               bytes = w .written ∙ ap written e ∙ ap (λ (x : List ℕ). r .kind ∷ 32 ∷ x ++ LF ∷ written rs) q;
               right = sym (ap (λ (x : List ℕ). isRow (formOf (r .kind) x)) q) ∙ f;
             }
-
-no-wrong : {f : Form} → f ≡ wrong → isRow f ≡ true → ⊥
-no-wrong e r = false≢true (sym (ap isRow e) ∙ r)
 
 module _ (s : List ℕ) (i : ℕ) (f : FirstRow s i) where
   byte-at : (n : ℕ) → getD s (i + n) 0 ≡ getD (f .row .kind ∷ 32 ∷ f .mark ∷ f .text ++ LF ∷ written (f .rest)) n 0

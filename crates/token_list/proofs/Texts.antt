@@ -181,17 +181,8 @@ literal-parts s i e h k =
     ap literal n ∙ ap (λ (t : List ℕ). literalStart (getD s i 0) && all printable t) (sym n)
 
 -- a list shorter than the name is not the name
-same-short-of : (s n : List ℕ) → length s < length n → same s n ≡ false
-same-short-of s [] h = absurd (omega arith)
-same-short-of [] (b ∷ n) h = refl
-same-short-of (x ∷ s) (b ∷ n) h = go (eqb x b) (same-short-of s n (omega arith))
-  where
-    go : (t : Bool) → same s n ≡ false → (t && same s n) ≡ false
-    go true e = e
-    go false e = refl
-
 pub same-longer : (s n : List ℕ) (k : ℕ) → length s < length n → same (take k s) n ≡ false
-same-longer s n k h = same-short-of (take k s) n (omega (arith, length-take k s))
+same-longer s n k h = same-length (take k s) n (λ e. absurd (omega (arith, length-take k s, e)))
 
 pub same-fits : (s n : List ℕ) (k : ℕ) → same (take k s) n ≡ true → length n ≤ length s
 same-fits s n k e = go (leb (length n) (length s)) refl

@@ -1,8 +1,9 @@
+use Rattle.parse.proofs.Items.{first-in}
 use Rattle.token_list.specs.Contract.{checked}
 use lib.ListN.{length}
 use mathlib.Core.Path.{sym, _∙_, ap}
 use Rattle.token_list.proofs.Bounds.{bounds}
-use Rattle.describe.proofs.Answers.{start-in, listed-as, listed-refused, listing-checked, listing-read}
+use Rattle.describe.proofs.Answers.{listed-as, listed-refused, listing-checked, listing-read}
 use Rattle.describe.specs.Listing.{output}
 use borrow.Author.Needs.{needs}
 use Rattle.describe.proofs.listing.write_listing.Statement.{statement}
@@ -21,7 +22,7 @@ slice-aggregate-read-listing : tie.Need-slice-aggregate-read-listing
 slice-aggregate-read-listing c = search needs
 
 read-listing-requires : tie.Need-read-listing-requires
-read-listing-requires c κs = (start-in (sym ((c .before .before .before .before .check) .ensures) ∙ ap checked ((c .before .before .enum-told) .given .1)), bounds ((c .before .before .before .before .before .before .before .args) .list .now) (sym ((c .before .before .before .before .check) .ensures) ∙ ap checked ((c .before .before .enum-told) .given .1)) .bytes)
+read-listing-requires c κs = (first-in _ _ (sym ((c .before .before .before .before .check) .ensures) ∙ ap checked ((c .before .before .enum-told) .given .1)), bounds ((c .before .before .before .before .before .before .before .args) .list .now) (sym ((c .before .before .before .before .check) .ensures) ∙ ap checked ((c .before .before .enum-told) .given .1)) .bytes)
 
 returns : tie.Need-returns
 returns c = let e = listing-checked ((c .before .before .before .before .before .before .args) .list .now) (length ((c .before .before .before .before .before .before .args) .out .now)) (sym ((c .before .before .before .check) .ensures) ∙ ap checked ((c .before .r) .given .1)) in listed-refused (sym e) (sym (ap (output ((c .before .before .before .before .before .before .args) .out .now)) e))

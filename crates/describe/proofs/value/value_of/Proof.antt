@@ -1,8 +1,9 @@
+use Rattle.parse.proofs.Items.{first-in}
 use lib.ListN.{length}
 use native.Mathlib.Omega.{arith}
 use mathlib.Core.Path.{ap, sym, _∙_}
 use Rattle.token_list.specs.Contract.{checked}
-use Rattle.describe.proofs.Answers.{start-in, placed-as, placed-refused, value-checked, value-short, value-read}
+use Rattle.describe.proofs.Answers.{placed-as, placed-refused, value-checked, value-short, value-read}
 use Rattle.describe.specs.Value.{scratch}
 use borrow.Author.Needs.{needs}
 use Rattle.describe.proofs.value.value_of.Statement.{statement}
@@ -24,7 +25,7 @@ slice-aggregate-read-value : tie.Need-slice-aggregate-read-value
 slice-aggregate-read-value c = search needs
 
 read-value-requires : tie.Need-read-value-requires
-read-value-requires c κs = (start-in (sym ((c .before .before .before .before .before .check) .ensures) ∙ ap checked ((c .before .before .before .enum-told) .given .1)), omega arith)
+read-value-requires c κs = (first-in _ _ (sym ((c .before .before .before .before .before .check) .ensures) ∙ ap checked ((c .before .before .before .enum-told) .given .1)), omega arith)
 
 returns-2 : tie.Need-returns-2
 returns-2 c = let e = value-checked ((c .before .before .before .before .before .before .args) .list .now) ((c .before .before .before .before .before .before .args) .position) (length ((c .before .before .before .before .before .before .args) .scratch .now)) (sym ((c .before .before .before .check) .ensures) ∙ ap checked ((c .before .r) .given .1)) in placed-refused (sym e) (sym (ap (scratch ((c .before .before .before .before .before .before .args) .scratch .now)) e))

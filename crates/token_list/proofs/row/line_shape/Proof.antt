@@ -1,18 +1,12 @@
-use mathlib.Core.Path.{_≡_, refl, sym, _∙_, ap}
-use mathlib.Core.Bool.{true, false≢true}
+use mathlib.Core.Path.{refl, sym, _∙_, ap}
 use native.Mathlib.Omega.{arith}
-use Rattle.token_list.specs.Row.{Form, wrong}
 use Rattle.token_list.specs.Check.{isRow}
 use Rattle.token_list.specs.Contract.{shape}
 use Rattle.token_list.specs.declared.row.Shape.{Shape}
-use Rattle.token_list.proofs.Forms.{one-byte-parts, quick-byte}
+use Rattle.token_list.proofs.Forms.{no-wrong, one-byte-parts, quick-byte}
 use borrow.Author.Needs.{needs}
 use Rattle.token_list.proofs.row.line_shape.Statement.{statement}
 use Rattle.token_list.proofs.row.line_shape.Tie as tie
-
--- a row's form is not wrong
-told : (f : Form) → isRow f ≡ true → f ≡ wrong → ⊥
-told f r e = false≢true (sym (ap isRow e) ∙ r)
 
 one-byte-requires : tie.Need-one-byte-requires
 one-byte-requires c κs = search needs
@@ -72,13 +66,13 @@ whole-shape-requires : tie.Need-whole-shape-requires
 whole-shape-requires c κs = sym (c .before .before .before .before .one-byte .ensures) ∙ c .before .before .before .if1 .left
 
 returns-2 : tie.Need-returns-2
-returns-2 c = c .before .before .quick-token .ensures (told _ (ap (λ (x : Shape). isRow (shape x)) (c .enum-told .given .1)))
+returns-2 c = c .before .before .quick-token .ensures (λ e. no-wrong e (ap (λ (x : Shape). isRow (shape x)) (c .enum-told .given .1)))
 
 returns-3 : tie.Need-returns-3
-returns-3 c = c .before .before .quick-token .ensures (told _ (ap (λ (x : Shape). isRow (shape x)) (c .enum-told2 .given .1)))
+returns-3 c = c .before .before .quick-token .ensures (λ e. no-wrong e (ap (λ (x : Shape). isRow (shape x)) (c .enum-told2 .given .1)))
 
 returns-4 : tie.Need-returns-4
-returns-4 c = c .before .before .quick-token .ensures (told _ (ap (λ (x : Shape). isRow (shape x)) (c .enum-told3 .given .1)))
+returns-4 c = c .before .before .quick-token .ensures (λ e. no-wrong e (ap (λ (x : Shape). isRow (shape x)) (c .enum-told3 .given .1)))
 
 returns-5 : tie.Need-returns-5
 returns-5 c = search needs
