@@ -1,25 +1,23 @@
 -- Laws on fields, groups and values.
 use mathlib.Core.Path.{_≡_, refl, ap, _∙_, sym, subst, subst⁻¹}
-use mathlib.Core.Bool.{Bool, true, false, cond, _&&_}
-use mathlib.Core.List.{List, [], _∷_, _++_, append-assoc, append-nil}
+use mathlib.Core.Bool.{Bool, true, false, _&&_}
+use mathlib.Core.List.{List, [], _∷_, _++_, append-nil}
 use Prim.Native.Nat.{ℕ, suc, _+_, _-_, _*_, _≤_, _<_}
-use native.Mathlib.Nat.{suc-add}
-use native.Mathlib.Numerals.{add-one}
 use native.Mathlib.Omega.{arith}
 use borrow.Author.Tests.{le-leb, lt-leb}
-use lib.Dec.{leb, eqb}
+use lib.Dec.{leb}
 use lib.ListN.{length, getD, set, length-append}
 use lib.Seq.{sets, slice}
 use Rattle.token_list.specs.Text.{all, digit}
-use Rattle.token_list.specs.Stream.{Trees, end, size, head, others, follows, at}
+use Rattle.token_list.specs.Stream.{Trees, size, head, others, follows, at}
 use Rattle.token_list.specs.Contract.{InList, TokenAt, GroupAt, Skipped}
 use Rattle.token_list.specs.declared.check.Cursor.{Cursor}
 use Rattle.token_list.specs.declared.stream.Token.{Token}
 use Rattle.token_list.proofs.Texts.{and-both, and-fails, and-last, slice-next, slice-none}
 use Rattle.reading.specs.Took.{Took, took, refuse, Reader, onward, after, pure, _>>=_}
-use Rattle.reading.specs.Reading.{Maybe, one, comma, punctIf, closing, worth, worthFrom}
+use Rattle.reading.specs.Reading.{one, comma, punctIf, closing, worthFrom}
 use Rattle.reading.specs.Token.{negatable}
-use Rattle.parse.specs.Contract.{Moved, Said, on, no, Meets, stands, refuses, stream, pastOf, Inside, InsideAt, countShown, bodyShown}
+use Rattle.parse.specs.Contract.{Said, on, no, Meets, stands, refuses, stream, pastOf, Inside, InsideAt, countShown, bodyShown}
 use Rattle.reading.specs.Declaration.{Field, named, tuple, Variant, fields, variants}
 use Rattle.parse.specs.declared.generics.Counted.{Counted}
 use Rattle.parse.specs.declared.generics.Counted.the-variants as counts
@@ -122,7 +120,9 @@ module _ (s : List ℕ) (i e : ℕ) (fits : e ≤ length s) (h : i < e) (n : ℕ
   digit-high p q = parts ∙ and-fails _ _ (and-fails _ _ (and-last _ _ (le-leb _ _ p) ∙ lt-leb _ _ q))
 
   pub too-large : 922337203685477580 < n → Negatable n (slice i e s) ≡ false
-  too-large q = parts ∙ go (digit (getD s i 0) && all digit (slice (i + 1) e s)) (lt-leb (worthFrom (n * 10 + (getD s i 0 - 48)) (slice (i + 1) e s)) LIMIT (omega (arith, worth-grows (n * 10 + (getD s i 0 - 48)) (slice (i + 1) e s))))
+  too-large q = parts ∙ go (digit (getD s i 0) && all digit (slice (i + 1) e s))
+      (lt-leb (worthFrom (n * 10 + (getD s i 0 - 48)) (slice (i + 1) e s)) LIMIT
+      (omega (arith, worth-grows (n * 10 + (getD s i 0 - 48)) (slice (i + 1) e s))))
     where
       go : (b : Bool) {k : Bool} → k ≡ false → (b && k) ≡ false
       go true e = e

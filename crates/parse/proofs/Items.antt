@@ -1,31 +1,29 @@
 -- Laws on the item and on the whole answer.
-use mathlib.Core.Path.{_≡_, refl, ap, _∙_, sym, subst, subst⁻¹, fun-ext}
-use mathlib.Core.Bool.{Bool, true, false, cond}
-use mathlib.Core.List.{List, [], _∷_, _++_, append-nil, append-assoc}
+use mathlib.Core.Path.{_≡_, refl, ap, _∙_, sym, subst, subst⁻¹}
+use mathlib.Core.List.{List, _++_, append-nil}
 use Prim.Native.Nat.{ℕ, _+_, _-_, _≤_, _<_}
 use native.Mathlib.Omega.{arith}
 use borrow.Author.Tests.{lt-ltb, le-ltb}
-use lib.ListN.{length, take, drop, replicate, length-append, length-replicate, length-take, drop-of-length-le}
+use lib.ListN.{length, replicate, length-append, length-replicate, length-take, drop-of-length-le}
 use lib.Seq.{sets, sets-eq, length-sets}
 use Rattle.token_list.specs.Check as list
-use Rattle.token_list.specs.Stream.{Trees, size, at}
-use Rattle.token_list.specs.Contract.{InList, PassedList}
+use Rattle.token_list.specs.Stream.{size, at}
+use Rattle.token_list.specs.Contract.{InList}
 use Rattle.token_list.specs.declared.check.Cursor.{Cursor}
 use Rattle.token_list.specs.declared.check.Refusal.{Refusal}
 use Rattle.token_list.proofs.Texts.{chosen, passed-over}
 use Rattle.token_list.proofs.Passed.{passed-list}
 use Rattle.reading.specs.Declaration.{Declaration}
-use Rattle.reading.specs.Took.{Took, took, refuse, Reader, after, pure, _>>=_}
+use Rattle.reading.specs.Took.{Took}
 use Rattle.reading.specs.Reading.{item}
 use Rattle.reading.specs.Answer.{Answer, declared, refused, itemAnswer, answer, buffer, accepts}
-use Rattle.parse.specs.Contract.{Moved, Meets, stands, refuses, on, no, ItemOf, parsedOf, parsedBy, kindOf, ParsedAs, Answered, accepted}
+use Rattle.parse.specs.Contract.{Meets, stands, refuses, on, no, ItemOf, parsedOf, parsedBy, kindOf, ParsedAs, Answered, accepted}
 use Rattle.parse.specs.declared.data_type.DataType.{DataType}
 use Rattle.parse.specs.declared.data_type.DataType.the-variants as kinds
 use Rattle.parse.specs.declared.item.ItemAt.{ItemAt}
 use Rattle.parse.specs.declared.item.Parse.{Parse}
 use Rattle.parse.specs.declared.item.Parse.the-variants as parses
 use Rattle.parse.proofs.Buffer.{sets-append}
-use Rattle.parse.proofs.Meeting.{after-assoc}
 use Rattle.reading.proofs.Conserved.{Conserved, conserved, item-conserving}
 
 -- ## The role buffer
@@ -106,7 +104,8 @@ module _ (s : List ℕ) (rows : ℕ) (e : list.check s ≡ list.passed rows) (b0
       go refuses = refl
 
   pub read-accepted : {b1 b2 : List ℕ} {p : Parse} (i : ItemAt) → Meets s first b0 b1 (ItemOf s i) (on (i .next)) (item 0 (at s 10 .here))
-      → b2 ≡ sets (sets b1 (i .next .row) (replicate (rows - i .next .row) 0)) rows (replicate (length b1 - rows) 255) → p ≡ parsedOf i → Answered s p b0 b2
+      → b2 ≡ sets (sets b1 (i .next .row) (replicate (rows - i .next .row) 0)) rows
+      (replicate (length b1 - rows) 255) → p ≡ parsedOf i → Answered s p b0 b2
   read-accepted {b1} {b2} i m q w = subst⁻¹ (λ (p : Parse). Answered s p b0 b2) w (go refl m)
     where
       go : {t : Took Declaration} → item 0 (at s 10 .here) ≡ t → Meets s first b0 b1 (ItemOf s i) (on (i .next)) t → Answered s (parsedOf i) b0 b2
@@ -115,8 +114,10 @@ module _ (s : List ℕ) (rows : ℕ) (e : list.check s ≡ list.passed rows) (b0
           let c = conserved (subst (Conserved (at s 10 .here)) f (item-conserving 0 (at s 10 .here))) in
           let n : i .next .row ≡ length rs = omega (arith, mv .row) in
           record {
-            answer = subst⁻¹ (ParsedAs s (parsedOf i)) a (parsed-as s i (i .kind) d (rs ++ replicate (size us) 0) refl o);
-            buffer = q ∙ filled b0 b1 rs (i .next .row) rows (size us) (mv .roles) n (c .rows ∙ passed-list s rows e .size) room ∙ sym (ap (buffer (length b0)) a);
+            answer = subst⁻¹ (ParsedAs s (parsedOf i)) a
+                (parsed-as s i (i .kind) d (rs ++ replicate (size us) 0) refl o);
+            buffer = q ∙ filled b0 b1 rs (i .next .row) rows (size us) (mv .roles) n
+                (c .rows ∙ passed-list s rows e .size) room ∙ sym (ap (buffer (length b0)) a);
           }
 
 -- what the answer tells of acceptance

@@ -1,11 +1,11 @@
 -- Laws on what a punctuation is to a run, by the byte.
-use mathlib.Core.Path.{_≡_, refl, ap, _∙_, sym, subst⁻¹}
-use mathlib.Core.Bool.{Bool, true, false, cond, _&&_, _||_}
+use mathlib.Core.Path.{_≡_, ap, _∙_}
+use mathlib.Core.Bool.{Bool, true, false, cond, _&&_}
 use Prim.Native.Nat.{ℕ, _+_, _-_}
 use borrow.Author.Tests.{eq-eqb, ne-eqb}
 use lib.Dec.{eqb}
 use Rattle.token_list.proofs.Texts.{chosen, passed-over, and-fails}
-use Rattle.reading.specs.Reading.{Stops, Verdict, belongs, ends, unopened, atComma, atAngle, judgePunct}
+use Rattle.reading.specs.Reading.{Stops, belongs, ends, unopened, atComma, atAngle, judgePunct}
 
 module _ (st : Stops) (d : ℕ) (m : Bool) (b : ℕ) where
   pub arrow : (m && eqb b 62) ≡ true → judgePunct st d m b ≡ belongs d false

@@ -1,5 +1,5 @@
 -- What a look at the first row tells of a reading.
-use mathlib.Core.Path.{_≡_, refl, sym}
+use mathlib.Core.Path.{_≡_, refl}
 use mathlib.Core.Bool.{Bool, true, false, _&&_}
 use mathlib.Core.List.{List, [], _∷_}
 use Prim.Native.Nat.{ℕ}
@@ -11,7 +11,7 @@ use Rattle.token_list.specs.Stream.{Trees, end, leaf, group, firstKind, firstMa
 use Rattle.token_list.proofs.Texts.{passed-over, and-fails}
 use Rattle.reading.specs.Took.{took}
 use Rattle.reading.specs.Token.{starts}
-use Rattle.reading.specs.Reading.{isPunct, isWord, isIdent, PUB, punctIf, attributes, visibility, tupleField, tupleType, variant, variantHere}
+use Rattle.reading.specs.Reading.{isPunct, isIdent, PUB, punctIf, attributes, visibility, tupleField, tupleType, variant, variantHere}
 
 pub starts-punct : (b : ℕ) (ts : Trees) → (eqb (firstKind ts) 112 && eqb (firstMark ts) b) ≡ starts (isPunct b) ts
 starts-punct b end = refl

@@ -10,7 +10,7 @@ use Rattle.token_list.specs.Contract.{InList}
 use Rattle.token_list.specs.declared.check.Cursor.{Cursor}
 use Rattle.reading.specs.Took.{Took, took, refuse, Reader, onward, after, pure}
 use Rattle.reading.specs.Reading.{Maybe, done, one, more, every}
-use Rattle.parse.specs.Contract.{Moved, Said, on, no, Meets, stands, refuses, stream}
+use Rattle.parse.specs.Contract.{Moved, on, no, Meets, stands, refuses, stream}
 use Rattle.parse.proofs.Meeting.{moved-none, moved-on}
 use Rattle.reading.proofs.Rounds.{Round, another, Rounding, every-step}
 
@@ -40,7 +40,8 @@ gathered-one row a rs (took xs qs us) = ap (λ (ps : List ℕ). took (a ∷ xs) 
 gathered-one row a rs (refuse n p) = refl
 
 pub rounds-start : {A : Type 0} (s : List ℕ) (c : Cursor) (b : List ℕ) (t : Took (List A)) → InList s c → Rounded s c b c b 0 t t
-rounds-start s c b t i = record { got = []; taken = []; counted = refl; few = omega arith; moved = moved-none s c b i; same = sym (gathered-none t) }
+rounds-start s c b t i =
+    record { got = []; taken = []; counted = refl; few = omega arith; moved = moved-none s c b i; same = sym (gathered-none t) }
 
 progress : {A : Type 0} {ts us : Trees} {a : A} {rs : List ℕ} → Round ts (took (one a) rs us) → 0 < length rs
 progress (another rs us e l) = omega arith
@@ -64,10 +65,13 @@ module _ {A : Type 0} (m : Reader (Maybe A)) (rd : Rounding m) {s : List ℕ} {f
           taken = k .taken ++ rs;
           counted = omega (arith, k .counted, length-append (k .got) (a ∷ []));
           few = omega (arith, k .few, mv .forth, p);
-          moved = record { inList = n .inList; row = n .row; forth = n .forth; here = refl; outer = n .outer; roles = n .roles };
+          moved = record
+              { inList = n .inList; row = n .row; forth = n .forth; here = refl; outer = n .outer; roles = n .roles };
           same =
               k .same
-              ∙ ap (gathered (k .got) (k .taken)) (step e ∙ gathered-one (c .row + length rs) a rs (every m (c .row + length rs) us) ∙ (λ i. gathered (a ∷ []) rs (every m (sym (mv .row) i) (sym (mv .here) i))))
+              ∙ ap (gathered (k .got) (k .taken))
+              (step e ∙ gathered-one (c .row + length rs) a rs
+              (every m (c .row + length rs) us) ∙ (λ i. gathered (a ∷ []) rs (every m (sym (mv .row) i) (sym (mv .here) i))))
               ∙ gathered-append (k .got) (a ∷ []) (k .taken) rs (every m (d .row) (stream s d));
         },
         omega (arith, mv .forth, p),
@@ -98,4 +102,5 @@ module _ {A : Type 0} (m : Reader (Maybe A)) (rd : Rounding m) {s : List ℕ} {f
   rounds-refused {b2} {sh} {n} {p} {sh2} x = go refl x
     where
       go : {t : Took (Maybe A)} → m (c .row) (stream s c) ≡ t → Meets s c b1 b2 sh (no n p) t → Meets s from b0 b2 sh2 (no n p) was
-      go e refuses = subst⁻¹ (Meets s from b0 b2 sh2 (no n p)) (k .same ∙ ap (gathered (k .got) (k .taken)) (step e)) refuses
+      go e refuses = subst⁻¹ (Meets s from b0 b2 sh2 (no n p)) (k .same ∙ ap (gathered (k .got) (k .taken)) (step e))
+          refuses

@@ -1,13 +1,13 @@
 -- Laws on attributes, a `#` at a time.
 use mathlib.Core.Path.{_≡_, refl, ap, _∙_, sym}
-use mathlib.Core.Bool.{Bool, true, false}
+use mathlib.Core.Bool.{true, false}
 use mathlib.Core.List.{List, [], _∷_}
 use Prim.Native.Nat.{ℕ, _+_}
 use native.Mathlib.Omega.{arith}
 use borrow.Author.Tests.{eq-eqb, ne-eqb}
 use lib.ListN.{length, set, length-replicate}
 use Rattle.token_list.specs.Check.{END}
-use Rattle.token_list.specs.Stream.{Trees, end, leaf, group, head, at}
+use Rattle.token_list.specs.Stream.{Trees, end, head, at}
 use Rattle.token_list.specs.Contract.{InList, LeafAt, GroupAt, rowOf}
 use Rattle.token_list.specs.declared.check.Cursor.{Cursor}
 use Rattle.token_list.specs.declared.stream.Token.{Token}
@@ -44,7 +44,8 @@ module _ (s : List ℕ) (c : Cursor) (inList : InList s c) (t : Token) (l : Leaf
             roles = 3 ∷ [];
             moved = leaf-taken attributes s c inList (λ x. Unit) t l d b0 b1 3 p w;
             some = omega arith;
-            same = after-mark _ (n .here) ∙ chosen _ _ _ f ∙ sym (ap (onward (3 ∷ [])) ((λ i. attributes (below i) (n .here i)) ∙ chosen _ _ _ f));
+            same = after-mark _ (n .here) ∙ chosen _ _ _ f ∙ sym
+                (ap (onward (3 ∷ [])) ((λ i. attributes (below i) (n .here i)) ∙ chosen _ _ _ f));
           }
 
     module _ (q : Token) (k : InList s d) (g : GroupAt s (d .at) q) where
@@ -55,7 +56,8 @@ module _ (s : List ℕ) (c : Cursor) (inList : InList s c) (t : Token) (l : Leaf
       aft = head (at s (q .next) .outer)
 
       pub mark-wrong : (q .mark ≡ 91 → ⊥) → here ≡ refuse 12 (d .row)
-      mark-wrong f = after-mark _ (group-stream s d q k g) ∙ passed-over _ _ _ (ne-eqb _ _ f) ∙ ap (refuse 12) (sym below)
+      mark-wrong f = after-mark _ (group-stream s d q k g) ∙ passed-over _ _ _ (ne-eqb _ _ f) ∙ ap (refuse 12)
+          (sym below)
 
       pub mark-group : (b0 b1 b2 : List ℕ) (x : Cursor) → q .mark ≡ 91 → b1 ≡ set b0 (c .row) 1 → Moved s d x (copied 2 ins) aft b1 b2
           → Belonged s c x b0 b2 here (attributes (x .row) (stream s x))
@@ -65,7 +67,9 @@ module _ (s : List ℕ) (c : Cursor) (inList : InList s c) (t : Token) (l : Leaf
           let n = moved-on (leaf-taken attributes s c inList (λ x. Unit) t l d b0 b1 1 p w) m in
           record {
             roles = 1 ∷ copied 2 ins;
-            moved = record { inList = n .inList; row = n .row; forth = n .forth; here = refl; outer = n .outer; roles = n .roles };
+            moved = record
+                { inList = n .inList; row = n .row; forth = n .forth; here = refl; outer = n .outer; roles = n .roles };
             some = omega arith;
-            same = after-mark _ (group-stream s d q k g) ∙ chosen _ _ _ (eq-eqb _ _ f) ∙ (λ i. onward (1 ∷ copied 2 ins) (attributes (r i) (sym (m .here) i)));
+            same = after-mark _ (group-stream s d q k g) ∙ chosen _ _ _
+                (eq-eqb _ _ f) ∙ (λ i. onward (1 ∷ copied 2 ins) (attributes (r i) (sym (m .here) i)));
           }

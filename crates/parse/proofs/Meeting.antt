@@ -2,7 +2,7 @@
 use mathlib.Core.Path.{_≡_, refl, ap, _∙_, sym, subst, subst⁻¹}
 use mathlib.Core.Bool.{Bool, true, false, _&&_, false≢true}
 use mathlib.Core.List.{List, [], _∷_, _++_, append-assoc, append-nil}
-use Prim.Native.Nat.{ℕ, zero, suc, _+_, _-_, _≤_, _<_}
+use Prim.Native.Nat.{ℕ, _+_, _-_, _≤_, _<_}
 use native.Mathlib.Omega.{arith}
 use lib.Dec.{eqb}
 use lib.ListN.{length, set, replicate, length-append, length-replicate}
@@ -27,7 +27,8 @@ use Rattle.parse.proofs.Buffer.{sets-append}
 -- ## Moves
 
 pub moved-none : (s : List ℕ) (c : Cursor) (b : List ℕ) → InList s c → Moved s c c [] (stream s c) b b
-moved-none s c b i = record { inList = i; row = omega arith; forth = omega arith; here = refl; outer = refl; roles = refl }
+moved-none s c b i =
+    record { inList = i; row = omega arith; forth = omega arith; here = refl; outer = refl; roles = refl }
 
 pub moved-on : {s : List ℕ} {a b c : Cursor} {rs qs : List ℕ} {us vs : Trees} {b0 b1 b2 : List ℕ}
     → Moved s a b rs us b0 b1 → Moved s b c qs vs b1 b2 → Moved s a c (rs ++ qs) vs b0 b2
@@ -43,7 +44,8 @@ moved-on {s} {a} {b} {c} {rs} {qs} {us} {vs} {b0} {b1} {b2} m n =
 
 module _ (s : List ℕ) (c : Cursor) (t : Token) (i : InList s c) where
   pub past-fits : TokenAt s (c .at) t → (c .row < length s) × (c .at + 1 ≤ t .next)
-  past-fits k = (omega (arith, i .counted, i .within, k .start, k .text, k .next, k .within), omega (arith, k .start, k .text, k .next))
+  past-fits
+      k = (omega (arith, i .counted, i .within, k .start, k .text, k .next, k .within), omega (arith, k .start, k .text, k .next))
 
   pub past-in : TokenAt s (c .at) t → InList s (pastOf c t)
   past-in k =
@@ -69,7 +71,8 @@ module _ (s : List ℕ) (c : Cursor) (t : Token) (i : InList s c) where
 
   -- past a whole group, every row with the role r
   pub group-moved : (b : List ℕ) (r : ℕ) (d : Cursor) → GroupAt s (c .at) t → Skipped s (pastOf c t) d
-      → Moved s c d (copied r (at s (t .next) .here)) (head (at s (t .next) .outer)) b (sets b (c .row) (replicate (d .row - c .row) r))
+      → Moved s c d (copied r (at s (t .next) .here)) (head (at s (t .next) .outer)) b
+      (sets b (c .row) (replicate (d .row - c .row) r))
   group-moved b r d g k =
       let w = whole (at s (t .next) .here) in
       let n : d .row ≡ c .row + w = omega (arith, k .row) in
@@ -119,7 +122,9 @@ pub meets-then : {A B : Type 0} {s : List ℕ} {c d : Cursor} {b0 b1 b2 : List �
     (f : A → Reader B) → Meets s c b0 b1 sh (on d) t → ((a : A) → sh a → Meets s d b1 b2 sh2 x (f a (d .row) (stream s d)))
     → Meets s c b0 b2 sh2 x (after (c .row) t f)
 meets-then {s = s} {c} {d} {b0} {b1} {b2} {sh} {sh2} {x} f (stands {a = a} {rs = rs} {us = us} m h) k =
-    meets-onward m (subst (λ u. Meets s d b1 b2 sh2 x (f a (c .row + length rs) u)) (m .here) (subst (λ r. Meets s d b1 b2 sh2 x (f a r (stream s d))) (m .row) (k a h)))
+    meets-onward m
+    (subst (λ u. Meets s d b1 b2 sh2 x (f a (c .row + length rs) u)) (m .here)
+    (subst (λ r. Meets s d b1 b2 sh2 x (f a r (stream s d))) (m .row) (k a h)))
 
 -- a reader that refuses
 pub meets-no : {A B : Type 0} {s : List ℕ} {c : Cursor} {b0 b1 b2 : List ℕ} {sh : A → Type 0} {sh2 : B → Type 0} {n p : ℕ} {t : Took A}
@@ -174,11 +179,13 @@ module _ {A : Type 0} (m : Reader A) (s : List ℕ) (c : Cursor) (inList : InLis
 
     -- it takes the group and goes on
     pub meets-group-from : (b2 : List ℕ) (x : Said) (k : Reader A)
-        → m (c .row) (group (t .mark) (at s (t .next) .here) (head (at s (t .next) .outer))) ≡ onward rs (k (c .row + length rs) (head (at s (t .next) .outer)))
+        → m (c .row) (group (t .mark) (at s (t .next) .here) (head (at s (t .next) .outer))) ≡ onward rs
+        (k (c .row + length rs) (head (at s (t .next) .outer)))
         → Meets s d b1 b2 sh x (k (d .row) (stream s d)) → Meets s c b0 b2 sh x (m (c .row) (stream s c))
     meets-group-from b2 x k f n =
         meets-as
-        (ap (m (c .row)) (group-stream s c t inList g) ∙ f ∙ (λ i. onward rs (k (sym (moved .row) i) (sym (moved .here) i))))
+        (ap (m (c .row))
+        (group-stream s c t inList g) ∙ f ∙ (λ i. onward rs (k (sym (moved .row) i) (sym (moved .here) i))))
         (meets-onward moved n)
 
 -- past the closing row of a group, from before a token in it
@@ -237,7 +244,8 @@ pub going-ends : {A : Type 0} {s : List ℕ} {from c : Cursor} {b0 b1 b2 : List 
     → Going s from b0 c b1 t u → u ≡ took a [] (stream s c) → b2 ≡ b1 → sh a → Meets s from b0 b2 sh (on c) t
 going-ends {s = s} {from} {c} {b0} {b1} {t = t} {sh = sh} a k e q h =
     subst⁻¹ (λ b. Meets s from b0 b sh (on c) t) q
-    (meets-as (k .same ∙ ap (onward (k .taken)) e) (meets-onward (k .moved) (meets-stay s c b1 sh a (k .moved .inList) h)))
+    (meets-as (k .same ∙ ap (onward (k .taken)) e)
+    (meets-onward (k .moved) (meets-stay s c b1 sh a (k .moved .inList) h)))
 
 -- the last part of it meets what is left
 pub going-meets : {A : Type 0} {s : List ℕ} {from c : Cursor} {b0 b1 b2 : List ℕ} {t u : Took A} {sh : A → Type 0} {x : Said}
@@ -260,7 +268,8 @@ module _ {B : Type 0} (f : Word → Reader B) {s : List ℕ} {c : Cursor} {b0 b1
 
 -- a refusal at what stands at the cursor
 pub meets-wrong : {A : Type 0} {s : List ℕ} {c : Cursor} {b0 b1 : List ℕ} {sh : A → Type 0} (r : Refusal) (n : ℕ)
-    → (r .number ≡ n) × (r .place ≡ placeOf (c .row) (stream s c)) → Meets s c b0 b1 sh (refusal r) (refuse n (placeOf (c .row) (stream s c)))
+    → (r .number ≡ n) × (r .place ≡ placeOf (c .row) (stream s c)) → Meets s c b0 b1 sh (refusal r)
+    (refuse n (placeOf (c .row) (stream s c)))
 meets-wrong {s = s} {c} {b0} {b1} {sh} r n e = meets-say (λ i. no (sym (e .0) i) (sym (e .1) i)) refuses
 
 -- ## Readers in a row may be bracketed otherwise

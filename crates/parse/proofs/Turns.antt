@@ -1,8 +1,8 @@
 -- Laws on runs, a token at a time.
-use mathlib.Core.Path.{_≡_, refl, ap, _∙_, sym, subst, subst⁻¹}
+use mathlib.Core.Path.{_≡_, refl, ap, _∙_, sym, subst}
 use mathlib.Core.Bool.{Bool, true, false, cond, _&&_, _||_}
-use mathlib.Core.List.{List, [], _∷_, _++_}
-use Prim.Native.Nat.{ℕ, _+_, _-_, _≤_, _<_}
+use mathlib.Core.List.{List, [], _∷_}
+use Prim.Native.Nat.{ℕ, _+_, _-_, _≤_}
 use native.Mathlib.Omega.{arith}
 use lib.Dec.{eqb}
 use lib.ListN.{length, set, length-replicate}
@@ -29,11 +29,13 @@ depthOf unopened = 0
 deepened : (st : Stops) (depth : ℕ) (m : Bool) (r : Row) → depthOf (judge st depth m r) ≤ depth + 1
 unfolding depthOf
 deepened st depth m r =
-    go (eqb (r .kind) 112) (m && eqb (first (r .text)) 62) (eqb (first (r .text)) 60) (eqb (first (r .text)) 62) (eqb depth 0) (st .angle)
+    go (eqb (r .kind) 112) (m && eqb (first (r .text)) 62) (eqb (first (r .text)) 60) (eqb (first (r .text)) 62)
+    (eqb depth 0) (st .angle)
     (eqb (first (r .text)) 44 && (eqb depth 0 && st .comma))
   where
     go : (p a o c z x k : Bool)
-        → depthOf (cond p (cond a (belongs depth false) (cond o (belongs (depth + 1) false) (cond c (cond z (cond x (ends atAngle) unopened) (belongs (depth - 1) false)) (cond k (ends atComma) (belongs depth (eqb (first (r .text)) 45)))))) (belongs depth false)) ≤ depth + 1
+        → depthOf
+        (cond p (cond a (belongs depth false) (cond o (belongs (depth + 1) false) (cond c (cond z (cond x (ends atAngle) unopened) (belongs (depth - 1) false)) (cond k (ends atComma) (belongs depth (eqb (first (r .text)) 45)))))) (belongs depth false)) ≤ depth + 1
     go false a o c z x k = omega arith
     go true true o c z x k = omega arith
     go true false true c z x k = omega arith
@@ -66,7 +68,8 @@ module _ (st : Stops) (r : ℕ) (s : List ℕ) (c : Cursor) (inList : InList s c
 
   module _ (t : Token) (l : LeafAt s (c .at) t) where
     leaf-judged : (v : Verdict) → judge st depth m (rowOf s t) ≡ v
-        → here ≡ judged v (λ e n. onward (r ∷ []) (runFrom st r e n (c .row + 1) (at s (t .next) .here))) (leaf (rowOf s t) (at s (t .next) .here)) (c .row)
+        → here ≡ judged v (λ e n. onward (r ∷ []) (runFrom st r e n (c .row + 1) (at s (t .next) .here)))
+        (leaf (rowOf s t) (at s (t .next) .here)) (c .row)
     leaf-judged v q =
         ap (runFrom st r depth m (c .row)) (l .here)
         ∙ ap (λ (x : Verdict). judged x (λ e n. onward (r ∷ []) (runFrom st r e n (c .row + 1) (at s (t .next) .here))) (leaf (rowOf s t) (at s (t .next) .here)) (c .row)) q
@@ -95,7 +98,8 @@ module _ (st : Stops) (r : ℕ) (s : List ℕ) (c : Cursor) (inList : InList s c
     aft = head (at s (t .next) .outer)
 
     group-judged : (v : Verdict) → judgeGroup st depth (t .mark) ≡ v
-        → here ≡ judged v (λ e n. onward (copied r ins) (runFrom st r e n (c .row + whole ins) aft)) (group (t .mark) ins aft) (c .row)
+        → here ≡ judged v (λ e n. onward (copied r ins) (runFrom st r e n (c .row + whole ins) aft))
+        (group (t .mark) ins aft) (c .row)
     group-judged v q =
         ap (runFrom st r depth m (c .row)) (group-stream s c t inList g)
         ∙ ap (λ (x : Verdict). judged x (λ e n. onward (copied r ins) (runFrom st r e n (c .row + whole ins) aft)) (group (t .mark) ins aft) (c .row)) q
@@ -107,7 +111,8 @@ module _ (st : Stops) (r : ℕ) (s : List ℕ) (c : Cursor) (inList : InList s c
         let q : c .row + whole ins ≡ d .row = omega (arith, w, k .row) in
         record {
           roles = copied r ins;
-          moved = record { inList = k .inList; row = k .row; forth = k .forth; here = refl; outer = k .outer; roles = k .roles };
+          moved = record
+              { inList = k .inList; row = k .row; forth = k .forth; here = refl; outer = k .outer; roles = k .roles };
           some = omega (arith, w);
           same = group-judged (belongs e n) v ∙ (λ i. onward (copied r ins) (runFrom st r e n (q i) (sym (k .here) i)));
         }

@@ -52,7 +52,8 @@ walk-limited (line l ls) r gs h = go (walk-limited ls) (leb 4096 r) refl
     go : ((r : ℕ) (gs : List Open) → r ≤ 4096 → Limited (walk r gs ls)) → (b : Bool) → leb 4096 r ≡ b
         → Limited (cond b (refused 4 4096) (step r gs (form l) (λ hs. walk (r + 1) hs ls)))
     go ih true e = low refl
-    go ih false e = step-limited r gs (form l) (λ hs. walk (r + 1) hs ls) (λ hs. ih (r + 1) hs (omega (arith, leb-false 4096 r e)))
+    go ih false e = step-limited r gs (form l) (λ hs. walk (r + 1) hs ls)
+        (λ hs. ih (r + 1) hs (omega (arith, leb-false 4096 r e)))
 
 check-limited : (s : List ℕ) → Limited (check s)
 unfolding check
@@ -94,7 +95,8 @@ streams-texts (r ∷ rs) = kind (streams-texts rs) (eqb (r .kind) 111) (eqb (r .
     within e h ih = let same = ap total e in omega (arith, long)
 
     kind : total (streams rs) ≤ length (written rs) → (o c : Bool) → eqb (r .kind) 111 ≡ o → eqb (r .kind) 99 ≡ c → total (before r (streams rs)) ≤ length (written (r ∷ rs))
-    kind ih true c a b = within (before-open r (streams rs) (eqb-true _ _ a)) (omega (arith, around-parts (streams rs .outer))) ih
+    kind ih true c a b = within (before-open r (streams rs) (eqb-true _ _ a))
+        (omega (arith, around-parts (streams rs .outer))) ih
     kind ih false true a b = within (before-close r (streams rs) (eqb-true _ _ b)) (omega arith) ih
     kind ih false false a b = within (before-leaf r (streams rs) (eqb-false _ _ a) (eqb-false _ _ b)) (omega arith) ih
 

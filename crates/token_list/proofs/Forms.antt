@@ -9,7 +9,7 @@ use lib.Dec.{eqb, leb, ltb}
 use lib.ListN.{length, getD, drop}
 use lib.Seq.{slice, slice-empty, length-slice}
 use Rattle.token_list.specs.Text.{LF, all, member, name, nameStart, namePart, digit, literal, literalStart, printable, single, punctuation, opening, closing}
-use Rattle.token_list.specs.Row.{Lines, line, lines, front, Form, plain, opens, closed, wrong, form, formOf, first}
+use Rattle.token_list.specs.Row.{line, lines, front, Form, plain, opens, closed, wrong, form, formOf, first}
 use Rattle.token_list.specs.Check.{isRow}
 use Rattle.token_list.specs.Contract.{shape, markForm, oneByte, formed, inText, TextEnd, TokenLine, Shaped, ShapedUnlessWrong}
 use Rattle.token_list.specs.declared.row.Line.{Line}
@@ -89,7 +89,8 @@ module _ (s : List ℕ) (i e : ℕ) (fits : e ≤ length s) where
 
   pub form-parts : i + 1 < e
       → form (slice i e s)
-      ≡ cond (eqb (getD s (i + 1) 0) 32 && leb (length (slice (i + 2) e s)) 255) (formOf (getD s i 0) (slice (i + 2) e s)) wrong
+      ≡ cond (eqb (getD s (i + 1) 0) 32 && leb (length (slice (i + 2) e s)) 255)
+      (formOf (getD s i 0) (slice (i + 2) e s)) wrong
   form-parts h =
       let two : i + 1 + 1 ≡ i + 2 = omega arith in
       rw (slice-next s i e (omega arith) fits, slice-next s (i + 1) e h fits, two)
@@ -149,7 +150,8 @@ no-text k = chosen-wrong (eqb k 105) (eqb k 108) (eqb k 112) (eqb k 111) (eqb k 
 
 -- a text that is not of one byte is none of kind p, o or c
 pub mark-wrong : (k : ℕ) (t : List ℕ) → (k ≡ 105 → ⊥) → (k ≡ 108 → ⊥) → 0 ≡ only t → formOf k t ≡ wrong
-mark-wrong k t a b e = mark-form k t a b ∙ ap (markForm k) (sym e) ∙ chosen-wrong false false (eqb k 112) (eqb k 111) (eqb k 99)
+mark-wrong k t a b e =
+    mark-form k t a b ∙ ap (markForm k) (sym e) ∙ chosen-wrong false false (eqb k 112) (eqb k 111) (eqb k 99)
 
 pub one-byte-parts : (s : List ℕ) (i : ℕ) → oneByte s i ≡ true → (i + 3 < length s) × (getD s (i + 1) 0 ≡ 32) × (getD s (i + 3) 0 ≡ 10)
 one-byte-parts s i e =
@@ -177,7 +179,8 @@ module _ (s : List ℕ) (at : ℕ) (space : getD s (at + 1) 0 ≡ 32) where
 
 module _ (s : List ℕ) (at : ℕ) (r : Line) (space : getD s (at + 1) 0 ≡ 32) where
   quick-row : (e : ℕ) → at + 2 ≤ e → e < length s → (getD s at 0 ≡ LF → ⊥)
-      → lines (drop (at + 2) s) ≡ line (slice (at + 2) e s) (lines (drop (e + 1) s)) → e - (at + 2) ≤ 255 → r .next ≡ e + 1
+      → lines (drop (at + 2) s) ≡ line (slice (at + 2) e s) (lines (drop (e + 1) s)) → e -
+      (at + 2) ≤ 255 → r .next ≡ e + 1
       → shape (r .shape) ≡ formOf (getD s at 0) (slice (at + 2) e s) → Shaped s at r
   quick-row e h k p l few n f =
       let g = quick-line s at space e h k p l in
@@ -205,7 +208,8 @@ module _ (s : List ℕ) (at : ℕ) (r : Line) (space : getD s (at + 1) 0 ≡ 32)
           let l : lines (drop (at + 2) s) ≡ line (slice (at + 2) (at + 2) s) (lines (drop (at + 2 + 1) s)) =
           lines-end s (at + 2) (omega arith) b ∙ ap (λ (x : List ℕ). line x (lines (drop (at + 2 + 1) s))) (sym (slice-empty (at + 2) s)) in
           no-row (f ∙ lf-text (getD s at 0) _ [] b)
-          (quick-form s at space (at + 2) (omega arith) (omega arith) p l (omega arith) ∙ ap (formOf (getD s at 0)) (slice-empty (at + 2) s) ∙ no-text (getD s at 0))
+          (quick-form s at space (at + 2) (omega arith) (omega arith) p l (omega arith) ∙ ap (formOf (getD s at 0))
+          (slice-empty (at + 2) s) ∙ no-text (getD s at 0))
       mark false e p =
           let three : at + 2 + 1 ≡ at + 3 = omega arith in
           let l : lines (drop (at + 2) s) ≡ line (getD s (at + 2) 0 ∷ []) (lines (drop (at + 3 + 1) s)) =
@@ -216,7 +220,8 @@ module _ (s : List ℕ) (at : ℕ) (r : Line) (space : getD s (at + 1) 0 ≡ 32)
           (f ∙ ap (formOf (getD s at 0)) (sym text))
 
       kind : (b : Bool) → eqb (getD s at 0) LF ≡ b → Shaped s at r
-      kind true e = no-row (f ∙ lf-kind _ _ (eqb-true _ _ e)) (ap formed (lines-end s at (omega arith) (eqb-true _ _ e)))
+      kind true e = no-row (f ∙ lf-kind _ _ (eqb-true _ _ e))
+          (ap formed (lines-end s at (omega arith) (eqb-true _ _ e)))
       kind false e = mark (eqb (getD s (at + 2) 0) LF) refl (eqb-false _ _ e)
 
   -- a token that is found by its text's end

@@ -2,14 +2,13 @@
 use mathlib.Core.Path.{_≡_, refl, ap, _∙_, sym}
 use mathlib.Core.Bool.{Bool, true, false, false≢true}
 use mathlib.Core.List.{List, [], _∷_, _++_, append-assoc, append-nil}
-use Prim.Native.Nat.{ℕ, suc, _+_, _≤_, _<_}
+use Prim.Native.Nat.{ℕ, _+_, _≤_, _<_}
 use native.Mathlib.Omega.{arith}
 use borrow.Author.Tests.{eq-eqb, ne-eqb}
-use lib.Dec.{eqb}
 use lib.ListN.{length, getD, drop, drop-of-length-le}
 use lib.Seq.{slice, slice-empty, take-all}
 use Rattle.token_list.specs.Text.{LF, namePart, printable}
-use Rattle.token_list.specs.Row.{Lines, tail, line, lines, front, byte}
+use Rattle.token_list.specs.Row.{Lines, tail, line, lines, front}
 use Rattle.token_list.specs.Contract.{inText}
 use Rattle.token_list.proofs.Texts.{drop-next, slice-more, slice-next}
 
@@ -63,7 +62,8 @@ in-text-no-lf false b e q = false≢true (sym (ap printable q) ∙ e)
 
 -- a line whose first two bytes are no LF
 pub line-from : (s : List ℕ) (i e : ℕ) → i + 2 ≤ e → e ≤ length s → (getD s i 0 ≡ LF → ⊥) → (getD s (i + 1) 0 ≡ LF → ⊥)
-    → lines (drop (i + 2) s) ≡ line (slice (i + 2) e s) (lines (drop (e + 1) s)) → lines (drop i s) ≡ line (slice i e s) (lines (drop (e + 1) s))
+    → lines (drop (i + 2) s) ≡ line (slice (i + 2) e s) (lines (drop (e + 1) s)) → lines (drop i s) ≡ line (slice i e s)
+    (lines (drop (e + 1) s))
 line-from s i e h k p q l =
     let two : i + 1 + 1 ≡ i + 2 = omega arith in
     lines-byte s i (omega arith) p

@@ -1,19 +1,19 @@
 -- A list that passes the check is its line of names and the lines of its rows, balanced.
-use mathlib.Core.Path.{_≡_, refl, ap, _∙_, sym, subst}
-use mathlib.Core.Bool.{Bool, true, false, cond, _&&_, _||_, false≢true}
-use mathlib.Core.List.{List, [], _∷_, _++_, map}
-use Prim.Native.Nat.{ℕ, zero, suc, _+_, _-_, _≤_, _<_}
+use mathlib.Core.Path.{_≡_, refl, ap, _∙_, sym}
+use mathlib.Core.Bool.{Bool, true, false, cond, _&&_, false≢true}
+use mathlib.Core.List.{List, [], _∷_, _++_}
+use Prim.Native.Nat.{ℕ, suc, _+_}
 use native.Mathlib.Omega.{arith}
-use borrow.Author.Tests.{lt-ltb, eq-eqb, ne-eqb, eqb-true, eqb-false, leb-true, leb-false}
+use borrow.Author.Tests.{lt-ltb, eqb-true, eqb-false, leb-false}
 use lib.Dec.{eqb, leb, ltb}
 use lib.ListN.{length, take, drop}
 use Rattle.token_list.specs.Text.{LF, same, name, literal, single, punctuation, opening, closing, closer}
-use Rattle.token_list.specs.Row.{Row, Lines, tail, line, lines, front, byte, rows, rowOf, written, Form, plain, opens, closed, wrong, form, formOf, first}
-use Rattle.token_list.specs.Check.{Answer, passed, refused, Open, ended, close, step, walk, NAMES, check, isRow, right, allRight, closedBy, enclosing, none, nested}
-use Rattle.token_list.specs.Stream.{Trees, end, leaf, group, Streams, head, others, before, streams, size, follows, allClosed, rowsAt, at}
+use Rattle.token_list.specs.Row.{Row, Lines, tail, line, lines, front, byte, rows, written, Form, plain, opens, closed, wrong, form, formOf, first}
+use Rattle.token_list.specs.Check.{Answer, passed, refused, Open, close, step, walk, NAMES, check, isRow, right, allRight, closedBy, enclosing, nested}
+use Rattle.token_list.specs.Stream.{Trees, Streams, head, others, before, streams, size, follows, allClosed, rowsAt, at}
 use Rattle.token_list.specs.Contract.{PassedList}
 use Rattle.token_list.proofs.Texts.{chosen, passed-over, and-both, and-parts}
-use Rattle.token_list.proofs.Streams.{before-close, before-open, before-leaf, followed}
+use Rattle.token_list.proofs.Streams.{before-close, before-open, before-leaf}
 use Rattle.token_list.proofs.Walks as walks
 
 never : (p n m : ℕ) → refused p n ≡ passed m → ⊥
@@ -90,7 +90,8 @@ module _ (ls : Lines) (ih : (r : ℕ) (gs : List Open) (n : ℕ) → walk r gs l
   -- the row is right, and the rest was seen
   row-seen : isRow (formOf k t) ≡ true → (hs : List Open) → Seen ls (r + 1) hs n
       → cond (eqb k 111) (ltb (length (delimiters gs)) 32 && nested (first t ∷ delimiters gs) (rows ls))
-      (cond (eqb k 99) (closedBy (delimiters gs) (first t) && nested (enclosing (delimiters gs)) (rows ls)) (nested (delimiters gs) (rows ls)))
+      (cond (eqb k 99) (closedBy (delimiters gs) (first t) && nested (enclosing (delimiters gs)) (rows ls))
+      (nested (delimiters gs) (rows ls)))
       ≡ true
       → Seen theLine r gs n
   unfolding joined theLine
@@ -119,7 +120,10 @@ module _ (ls : Lines) (ih : (r : ℕ) (gs : List Open) (n : ℕ) → walk r gs l
           deep true d = absurd (never _ _ _ (sym (ap (λ (g : Form). step r gs g go) f ∙ chosen _ _ _ d) ∙ e))
           deep false d =
               let sn = ih (r + 1) (record { delimiter = first t; row = r } ∷ gs) n (sym (ap (λ (g : Form). step r gs g go) f ∙ passed-over _ _ _ d) ∙ e) in
-              row-seen (ap isRow f) _ sn (chosen _ _ _ o ∙ and-both _ _ (lt-ltb (length (delimiters gs)) 32 (omega (arith, leb-false 32 (length gs) d, delimiters-length gs))) (sn .nests))
+              row-seen (ap isRow f) _ sn
+              (chosen _ _ _ o ∙ and-both _ _
+              (lt-ltb (length (delimiters gs)) 32 (omega (arith, leb-false 32 (length gs) d, delimiters-length gs)))
+              (sn .nests))
 
   plain-seen : eqb k 111 ≡ false → eqb k 99 ≡ false → step r gs (formOf k t) go ≡ passed n → Seen theLine r gs n
   plain-seen o c e = pick (plain-form k t o c)
@@ -152,7 +156,8 @@ close-seen ls ih r n gs k s t space short o c e = pick (single closing t) refl
         under (h ∷ hs) g x = match (eqb (closer (h .delimiter)) (first t)) refl (sym (ap (λ (hs : List Open). close r (first t) hs (λ hs. walk (r + 1) hs ls)) g) ∙ x)
           where
             match : (b : Bool) → eqb (closer (h .delimiter)) (first t) ≡ b
-                → cond (eqb (closer (h .delimiter)) (first t)) (walk (r + 1) hs ls) (refused 5 r) ≡ passed n → Seen (line (k ∷ s ∷ t) ls) r gs n
+                → cond (eqb (closer (h .delimiter)) (first t)) (walk (r + 1) hs ls) (refused 5 r) ≡ passed n → Seen
+                (line (k ∷ s ∷ t) ls) r gs n
             match false m y = absurd (never _ _ _ (sym (passed-over _ _ _ m) ∙ y))
             match true m y =
                 let sn = ih (r + 1) hs n (sym (chosen _ _ _ m) ∙ y) in
@@ -236,7 +241,8 @@ balanced-row r rs ds ih e = kind (eqb (r .kind) 111) (eqb (r .kind) 99) refl ref
         let bl = ih (first (r .text) ∷ ds) (and-parts (ltb (length ds) 32) _ (sym (chosen _ _ _ a) ∙ nest-rest r rs ds e) .1) in
         record {
           outer = ap (λ (st : Streams). length (st .outer)) (before-open r (streams rs) (eqb-true _ _ a)) ∙ others-length (streams rs .outer) (length ds) (bl .outer);
-          whole = and-both _ _ (bl .whole) (chosen _ (follows (streams rs .outer)) true a ∙ follows-of (streams rs .outer) (length ds) (bl .outer));
+          whole = and-both _ _ (bl .whole)
+              (chosen _ (follows (streams rs .outer)) true a ∙ follows-of (streams rs .outer) (length ds) (bl .outer));
           right = forms bl;
         }
     kind false true a b =

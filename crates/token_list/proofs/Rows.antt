@@ -1,6 +1,6 @@
 -- The row at an offset from which on rows of a right form stand.
 use mathlib.Core.Path.{_≡_, refl, ap, _∙_, sym, subst}
-use mathlib.Core.Bool.{Bool, true, false, false≢true}
+use mathlib.Core.Bool.{Bool, true, false}
 use mathlib.Core.List.{List, [], _∷_, _++_}
 use Prim.Native.Nat.{ℕ, suc, _+_, _-_, _≤_, _<_}
 use native.Mathlib.Omega.{arith}
@@ -12,7 +12,7 @@ use Rattle.token_list.specs.Text.{LF}
 use Rattle.token_list.specs.Row.{Row, lines, rows, formOf, written}
 use Rattle.token_list.specs.Check.{isRow, right, allRight}
 use Rattle.token_list.specs.Stream.{rowsAt, allClosed}
-use Rattle.token_list.specs.Contract.{LineEnd, RowEnd, Whole}
+use Rattle.token_list.specs.Contract.{RowEnd, Whole}
 use Rattle.token_list.proofs.Texts.{and-parts}
 use Rattle.token_list.proofs.Lines.{Scanned, scan-start, scan-more, scan-found}
 use Rattle.token_list.proofs.Forms.{no-wrong, lf-kind, zero-kind, lf-text, no-text}
@@ -96,7 +96,8 @@ module _ (s : List ℕ) (i : ℕ) (f : FirstRow s i) where
 
   last-lf : getD s last 0 ≡ LF
   unfolding last
-  last-lf = byte-at (suc (suc (suc (length (f .text))))) ∙ getD-append-seam (f .row .kind ∷ 32 ∷ f .mark ∷ f .text) LF (written (f .rest)) 0
+  last-lf = byte-at (suc (suc (suc (length (f .text))))) ∙ getD-append-seam (f .row .kind ∷ 32 ∷ f .mark ∷ f .text) LF
+      (written (f .rest)) 0
 
 -- ## The scan for a row's end: an LF stands ahead
 
@@ -144,7 +145,8 @@ module _ (s : List ℕ) (i : ℕ) where
   ahead-found k q a =
       let h : k < length s = omega (arith, a .ahead, a .within) in
       record {
-        line = record { start = a .scanned .start; found = λ g. scan-found s i k g q (a .scanned); none = λ g. absurd (omega (arith, g, h)); lf = λ g. q };
+        line = record
+            { start = a .scanned .start; found = λ g. scan-found s i k g q (a .scanned); none = λ g. absurd (omega (arith, g, h)); lf = λ g. q };
         text = a .text;
         within = h;
       }

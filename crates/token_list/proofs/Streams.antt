@@ -1,20 +1,20 @@
 -- Laws that link offsets to streams: the row at an offset, one step, and the way past a group.
 use mathlib.Core.Path.{_≡_, refl, ap, _∙_, sym, subst}
-use mathlib.Core.Bool.{Bool, true, false, cond, _&&_, false≢true}
+use mathlib.Core.Bool.{Bool, true, false, cond, false≢true}
 use mathlib.Core.List.{List, [], _∷_}
 use Prim.Native.Nat.{ℕ, zero, suc, _+_, _-_, _≤_, _<_}
 use native.Mathlib.Omega.{arith}
-use borrow.Author.Tests.{eq-eqb, ne-eqb, leb-true, leb-false, eqb-true, eqb-false}
-use lib.Dec.{eqb, leb}
-use lib.ListN.{length, getD, drop, drop-of-length-le}
+use borrow.Author.Tests.{eq-eqb, ne-eqb, eqb-true, eqb-false}
+use lib.Dec.{eqb}
+use lib.ListN.{length, getD, drop}
 use lib.Seq.{slice, drop-nil}
-use Rattle.token_list.specs.Row.{Row, Lines, tail, line, lines, rows, rowOf, first}
+use Rattle.token_list.specs.Row.{Row, line, rows, first}
 use Rattle.token_list.specs.Stream.{Trees, end, leaf, group, Streams, head, others, before, streams, size, firstKind, firstMark, follows, allClosed, rowsAt, at}
 use Rattle.token_list.specs.Contract.{RowEnd, Whole, InList, Looked, TokenAt, LeafAt, GroupAt, Skipped, skipped, deeper}
 use Rattle.token_list.specs.declared.check.Cursor.{Cursor}
 use Rattle.token_list.specs.declared.stream.Token.{Token}
 use Rattle.token_list.proofs.Texts.{and-parts, chosen, passed-over, slice-next}
-use Rattle.token_list.proofs.Rows.{rows-none, FirstRow, first-row, first-kind, first-mark, some-kind, closed-next, whole-next}
+use Rattle.token_list.proofs.Rows.{rows-none, FirstRow, first-row, first-kind, first-mark, some-kind, whole-next}
 
 -- ## The row at an offset
 
@@ -23,7 +23,8 @@ row-at s i e l =
     let h = l .within in
     let k = l .text in
     let two : i + 1 + 1 ≡ i + 2 = omega arith in
-    ap rows (l .line .found h) ∙ rw (slice-next s i e (omega arith) (omega arith), slice-next s (i + 1) e (omega arith) (omega arith), two)
+    ap rows (l .line .found h) ∙ rw
+    (slice-next s i e (omega arith) (omega arith), slice-next s (i + 1) e (omega arith) (omega arith), two)
 
 pub at-none : (s : List ℕ) (i : ℕ) → rowsAt s i ≡ [] → at s i ≡ record { here = end; outer = [] }
 unfolding at

@@ -8,8 +8,8 @@ use borrow.Author.Tests.{lt-ltb, le-ltb, le-leb, lt-leb, eq-eqb, ne-eqb}
 use lib.Dec.{eqb, leb}
 use lib.ListN.{length, getD, take, drop, drop-of-length-le}
 use Rattle.token_list.specs.Text.{LF, closer, same}
-use Rattle.token_list.specs.Row.{Lines, tail, line, lines, front, byte, Form, opens, closed, wrong, plain}
-use Rattle.token_list.specs.Check.{Answer, passed, refused, END, NAMES, Open, ended, close, step, walk, check}
+use Rattle.token_list.specs.Row.{Lines, tail, line, lines, byte, Form, closed, wrong, plain}
+use Rattle.token_list.specs.Check.{refused, END, NAMES, Open, close, step, walk, check}
 use Rattle.token_list.specs.Contract.{formed, shape, Shaped, resumed, closedIn, Walked}
 use Rattle.token_list.specs.declared.check.Cursor.{Cursor}
 use Rattle.token_list.specs.declared.check.Refusal.{Refusal}
@@ -27,7 +27,8 @@ begun-byte false b (tail t) e = let z : _≡_ {A = ℕ} 0 1 = cc in omega arith
 begun-byte false b (line l ls) e = let z : _≡_ {A = ℕ} 0 1 = cc in omega arith
 
 begun : (s : List ℕ) (at : ℕ) → at < length s → lines (drop at s) ≡ tail [] → ⊥
-begun s at h e = begun-byte (eqb (getD s at 0) LF) (getD s at 0) (lines (drop (at + 1) s)) (sym (ap lines (drop-next s at h)) ∙ e)
+begun s at h e =
+    begun-byte (eqb (getD s at 0) LF) (getD s at 0) (lines (drop (at + 1) s)) (sym (ap lines (drop-next s at h)) ∙ e)
 
 -- ## One row
 
@@ -70,14 +71,16 @@ module _ (s : List ℕ) (levels : ℕ) (c : Cursor) (at r : ℕ) (re : Reached s
     form-is x e = sym (sh .right) ∙ ap shape e
 
     pub at-wrong : line .shape ≡ Wrong → Walked s c levels (stopped 3 r)
-    at-wrong e = record { right = λ gs q. re .same gs q ∙ no-row r gs (lines (drop at s)) (begun s at h) k (form-is Wrong e); past = tt }
+    at-wrong e = record
+        { right = λ gs q. re .same gs q ∙ no-row r gs (lines (drop at s)) (begun s at h) k (form-is Wrong e); past = tt }
 
     is-row : (x : Shape) → line .shape ≡ x → (shape x ≡ wrong → ⊥) → shape (line .shape) ≡ wrong → ⊥
     is-row x e n q = n (sym (ap shape e) ∙ q)
 
     -- the row's own step
     stepped : (x : Shape) → line .shape ≡ x → (shape x ≡ wrong → ⊥) → (gs : List Open) → length gs + levels ≡ 32
-        → walk (c .row) gs (lines (drop (c .at) s)) ≡ step r gs (shape x) (λ hs. walk (r + 1) hs (lines (drop (line .next) s)))
+        → walk (c .row) gs (lines (drop (c .at) s)) ≡ step r gs (shape x)
+        (λ hs. walk (r + 1) hs (lines (drop (line .next) s)))
     stepped x e n gs q = re .same gs q ∙ row r gs (shape x) (sh .rest (is-row x e n) .1) (form-is x e) k
 
     pub plain-past : line .shape ≡ Plain → (at < line .next) × (line .next ≤ length s)
@@ -103,14 +106,16 @@ module _ (s : List ℕ) (levels : ℕ) (c : Cursor) (at r : ℕ) (re : Reached s
     module _ (d : ℕ) (e : line .shape ≡ Opens d) where
       opened : (gs : List Open) → length gs + levels ≡ 32
           → walk (c .row) gs (lines (drop (c .at) s))
-          ≡ cond (leb 32 (length gs)) (refused 6 r) (walk (r + 1) (record { delimiter = d; row = r } ∷ gs) (lines (drop (line .next) s)))
+          ≡ cond (leb 32 (length gs)) (refused 6 r)
+          (walk (r + 1) (record { delimiter = d; row = r } ∷ gs) (lines (drop (line .next) s)))
       opened = stepped (Opens d) e (λ q. let z : _≡_ {A = ℕ} 0 1 = cc in omega arith)
 
       pub opened-past : (at < line .next) × (line .next ≤ length s)
       opened-past = sh .past (is-row (Opens d) e (λ q. let z : _≡_ {A = ℕ} 0 1 = cc in omega arith))
 
       pub too-deep : levels ≡ 0 → Walked s c levels (stopped 6 r)
-      too-deep z = record { right = λ gs q. opened gs q ∙ chosen _ _ _ (le-leb 32 (length gs) (omega arith)); past = tt }
+      too-deep z = record
+          { right = λ gs q. opened gs q ∙ chosen _ _ _ (le-leb 32 (length gs) (omega arith)); past = tt }
 
       module _ (z : levels ≡ 0 → ⊥) (inner : LevelEnd) (w : Walked s (record { at = line .next; row = r + 1 }) (levels - 1) inner) where
         entered : (gs : List Open) → length gs + levels ≡ 32
@@ -121,10 +126,12 @@ module _ (s : List ℕ) (levels : ℕ) (c : Cursor) (at r : ℕ) (re : Reached s
             ∙ w .right (record { delimiter = d; row = r } ∷ gs) (omega arith)
 
         pub unclosed : (n : ℕ) → inner ≡ End n → Walked s c levels (stopped 7 r)
-        unclosed n i = record { right = λ gs q. entered gs q ∙ ap (resumed s (record { delimiter = d; row = r } ∷ gs)) i; past = tt }
+        unclosed n i = record
+            { right = λ gs q. entered gs q ∙ ap (resumed s (record { delimiter = d; row = r } ∷ gs)) i; past = tt }
 
         pub refused-inside : (f : Refusal) → inner ≡ Stopped f → Walked s c levels (Stopped f)
-        refused-inside f i = record { right = λ gs q. entered gs q ∙ ap (resumed s (record { delimiter = d; row = r } ∷ gs)) i; past = tt }
+        refused-inside f i = record
+            { right = λ gs q. entered gs q ∙ ap (resumed s (record { delimiter = d; row = r } ∷ gs)) i; past = tt }
 
         module _ (b close next : ℕ) (i : inner ≡ Close b close next) where
           pub closed-past : (close < next) × (line .next < next) × (next ≤ length s)
@@ -133,7 +140,8 @@ module _ (s : List ℕ) (levels : ℕ) (c : Cursor) (at r : ℕ) (re : Reached s
           pub mismatched : (closer d ≡ b → ⊥) → Walked s c levels (stopped 5 close)
           mismatched n =
               record {
-                right = λ gs q. entered gs q ∙ ap (resumed s (record { delimiter = d; row = r } ∷ gs)) i ∙ passed-over _ _ _ (ne-eqb _ _ n);
+                right = λ gs q. entered gs q ∙ ap (resumed s (record { delimiter = d; row = r } ∷ gs)) i ∙ passed-over _
+                    _ _ (ne-eqb _ _ n);
                 past = tt;
               }
 
@@ -143,7 +151,8 @@ module _ (s : List ℕ) (levels : ℕ) (c : Cursor) (at r : ℕ) (re : Reached s
                 counted = omega (arith, closed-past);
                 within = closed-past .2;
                 from = omega (arith, closed-past, opened-past, re .from);
-                same = λ gs q. entered gs q ∙ ap (resumed s (record { delimiter = d; row = r } ∷ gs)) i ∙ chosen _ _ _ (eq-eqb _ _ m);
+                same = λ gs q. entered gs q ∙ ap (resumed s (record { delimiter = d; row = r } ∷ gs)) i ∙ chosen _ _ _
+                    (eq-eqb _ _ m);
               }
 
 -- ## The whole check

@@ -11,8 +11,12 @@ stands-punct-requires c κs = search needs
 
 returns : tie.Need-returns
 returns c =
-    let a = c .before .before .before .before .args in
-    (no-attribute (a .c .row) (stream (a .s .now) (a .c)) (sym (c .before .stands-punct .ensures) ∙ not-true _ (c .if1 .taken)), refl)
+    let args = c .before .before .before .before .args in
+    let a = args in (
+      no-attribute (a .c .row) (stream (a .s .now) (a .c))
+          (sym (c .before .stands-punct .ensures) ∙ not-true _ (c .if1 .taken)),
+      refl,
+    )
 
 marked-attribute-requires : tie.Need-marked-attribute-requires
 marked-attribute-requires c κs = search needs

@@ -4,12 +4,8 @@ use mathlib.Core.List.{[]}
 use Rattle.parse.proofs.Meeting as meeting
 use Rattle.parse.specs.Contract as contract
 use Rattle.reading.specs.Reading as reading
-use Rattle.token_list.proofs.Texts.{chosen, passed-over, and-last, and-fails}
-use Rattle.token_list.specs.Contract.{InList}
-use borrow.Author.Tests.{eq-eqb, ne-eqb, not-true, not-false}
-use native.Mathlib.Omega.{arith}
-use mathlib.Core.Bool.{true, false}
-use mathlib.Core.Path.{_≡_, refl, sym, _∙_, ap, subst, subst⁻¹}
+use borrow.Author.Tests.{not-true, not-false}
+use mathlib.Core.Path.{refl, sym, _∙_, ap}
 use borrow.Author.Needs.{needs}
 use Rattle.parse.proofs.attributes.marked_attribute.Statement.{statement}
 use Rattle.parse.proofs.attributes.marked_attribute.Tie as tie
@@ -30,13 +26,27 @@ is-punct-requires : tie.Need-is-punct-requires
 is-punct-requires c κs = search needs
 
 returns : tie.Need-returns
-returns c = (marks.no-mark _ _ (c .before .before .before .before .before .before .before .before .pre) _ (meeting.peeked _ _ ((c .before .before .before .before .before .peek) .ensures) ((c .before .before .before .t) .given .1)) (meeting.punct-of _ _ _ _ ((meeting.peeked _ _ ((c .before .before .before .before .before .peek) .ensures) ((c .before .before .before .t) .given .1)) .token) ∙ sym ((c .before .is-punct) .ensures) ∙ not-true _ ((c .if1) .taken)), refl)
+returns c =
+    let pre = c .before .before .before .before .before .before .before .before .pre in
+    let peek = c .before .before .before .before .before .peek in
+    let t = c .before .before .before .t in (
+      marks.no-mark _ _ pre _ (meeting.peeked _ _ (peek .ensures) (t .given .1))
+          (meeting.punct-of _ _ _ _ ((meeting.peeked _ _ (peek .ensures) (t .given .1)) .token) ∙ sym ((c .before .is-punct) .ensures) ∙ not-true _ ((c .if1) .taken)),
+      refl,
+    )
 
 past-requires : tie.Need-past-requires
-past-requires c κs = ((c .before .before .before .before .before .before .before .before .pre), (meeting.peeked _ _ ((c .before .before .before .before .before .peek) .ensures) ((c .before .before .before .t) .given .1)) .token)
+past-requires c κs =
+    let pre = c .before .before .before .before .before .before .before .before .pre in
+    let peek = c .before .before .before .before .before .peek in
+    (pre, (meeting.peeked _ _ (peek .ensures) ((c .before .before .before .t) .given .1)) .token)
 
 peek-requires-2 : tie.Need-peek-requires-2
-peek-requires-2 c κs = meeting.past-in-of _ _ _ _ ((c .past) .ensures) (c .before .before .before .before .before .before .before .before .before .pre) ((meeting.peeked _ _ ((c .before .before .before .before .before .before .peek) .ensures) ((c .before .before .before .before .t) .given .1)) .token)
+peek-requires-2 c κs =
+    let pre = c .before .before .before .before .before .before .before .before .before .pre in
+    let peek = c .before .before .before .before .before .before .peek in
+    let t = c .before .before .before .before .t in
+    meeting.past-in-of _ _ _ _ ((c .past) .ensures) pre ((meeting.peeked _ _ (peek .ensures) (t .given .1)) .token)
 
 enum-told-3 : tie.Need-enum-told-3
 enum-told-3 c = search needs
@@ -48,7 +58,21 @@ is-punct-requires-2 : tie.Need-is-punct-requires-2
 is-punct-requires-2 c κs = search needs
 
 returns-2 : tie.Need-returns-2
-returns-2 c = marks.mark-other _ _ (c .before .before .before .before .before .before .before .before .before .before .before .before .before .before .before .pre) _ (meeting.peeked _ _ ((c .before .before .before .before .before .before .before .before .before .before .before .before .peek) .ensures) ((c .before .before .before .before .before .before .before .before .before .before .t) .given .1)) (meeting.punct-of _ _ _ _ ((meeting.peeked _ _ ((c .before .before .before .before .before .before .before .before .before .before .before .before .peek) .ensures) ((c .before .before .before .before .before .before .before .before .before .before .t) .given .1)) .token) ∙ sym ((c .before .before .before .before .before .before .before .before .is-punct) .ensures) ∙ not-false _ ((c .before .before .before .before .before .before .before .if1) .left)) _ ((c .before .before .before .before .before .before .past) .ensures) _ (meeting.peeked _ _ ((c .before .before .before .before .before .peek2) .ensures) ((c .before .before .before .q) .given .1)) (meeting.punct-of _ _ _ _ ((meeting.peeked _ _ ((c .before .before .before .before .before .peek2) .ensures) ((c .before .before .before .q) .given .1)) .token) ∙ sym ((c .before .is-punct2) .ensures) ∙ not-true _ ((c .if2) .taken))
+returns-2 c =
+    let pre = c .before .before .before .before .before .before .before .before .before .before .before .before .before .before .before .pre in
+    let peek = c .before .before .before .before .before .before .before .before .before .before .before .before .peek in
+    let t = c .before .before .before .before .before .before .before .before .before .before .t in
+    let is-punct = c .before .before .before .before .before .before .before .before .is-punct in
+    let if1 = c .before .before .before .before .before .before .before .if1 in
+    let past = c .before .before .before .before .before .before .past in
+    let peek2 = c .before .before .before .before .before .peek2 in
+    let q = c .before .before .before .q in
+    marks.mark-other _ _ pre _ (meeting.peeked _ _ (peek .ensures) (t .given .1))
+    (meeting.punct-of _ _ _ _ ((meeting.peeked _ _ (peek .ensures) (t .given .1)) .token) ∙ sym
+    (is-punct .ensures) ∙ not-false _ (if1 .left))
+    _ (past .ensures) _ (meeting.peeked _ _ (peek2 .ensures) (q .given .1))
+    (meeting.punct-of _ _ _ _ ((meeting.peeked _ _ (peek2 .ensures) (q .given .1)) .token) ∙ sym
+    ((c .before .is-punct2) .ensures) ∙ not-true _ ((c .if2) .taken))
 
 mark-requires : tie.Need-mark-requires
 mark-requires c κs = search needs
@@ -57,16 +81,43 @@ enum-known-g : tie.Need-enum-known-g
 enum-known-g c = search needs
 
 returns-3 : tie.Need-returns-3
-returns-3 c = marks.mark-wrong _ _ (c .before .before .before .before .before .before .before .before .before .before .before .before .before .before .before .pre) _ (meeting.peeked _ _ ((c .before .before .before .before .before .before .before .before .before .before .before .before .peek) .ensures) ((c .before .before .before .before .before .before .before .before .before .before .t) .given .1)) (meeting.punct-of _ _ _ _ ((meeting.peeked _ _ ((c .before .before .before .before .before .before .before .before .before .before .before .before .peek) .ensures) ((c .before .before .before .before .before .before .before .before .before .before .t) .given .1)) .token) ∙ sym ((c .before .before .before .before .before .before .before .before .is-punct) .ensures) ∙ not-false _ ((c .before .before .before .before .before .before .before .if1) .left)) _ ((c .before .before .before .before .before .before .past) .ensures) _ (meeting.past-in-of _ _ _ _ ((c .before .before .before .before .before .before .past) .ensures) (c .before .before .before .before .before .before .before .before .before .before .before .before .before .before .before .pre) ((meeting.peeked _ _ ((c .before .before .before .before .before .before .before .before .before .before .before .before .peek) .ensures) ((c .before .before .before .before .before .before .before .before .before .before .t) .given .1)) .token)) (meeting.peeked _ _ ((c .before .before .before .before .before .peek2) .ensures) ((c .before .before .before .g) .given .1)) ((c .if3) .taken)
+returns-3 c =
+    let pre = c .before .before .before .before .before .before .before .before .before .before .before .before .before .before .before .pre in
+    let peek = c .before .before .before .before .before .before .before .before .before .before .before .before .peek in
+    let t = c .before .before .before .before .before .before .before .before .before .before .t in
+    let is-punct = c .before .before .before .before .before .before .before .before .is-punct in
+    let if1 = c .before .before .before .before .before .before .before .if1 in
+    let past = c .before .before .before .before .before .before .past in
+    let peek2 = c .before .before .before .before .before .peek2 in
+    marks.mark-wrong _ _ pre _ (meeting.peeked _ _ (peek .ensures) (t .given .1))
+    (meeting.punct-of _ _ _ _ ((meeting.peeked _ _ (peek .ensures) (t .given .1)) .token) ∙ sym
+    (is-punct .ensures) ∙ not-false _ (if1 .left))
+    _ (past .ensures) _
+    (meeting.past-in-of _ _ _ _ (past .ensures) pre ((meeting.peeked _ _ (peek .ensures) (t .given .1)) .token))
+    (meeting.peeked _ _ (peek2 .ensures) ((c .before .before .before .g) .given .1)) ((c .if3) .taken)
 
 mark-requires-2 : tie.Need-mark-requires-2
 mark-requires-2 c κs = search needs
 
 take-group-requires : tie.Need-take-group-requires
-take-group-requires c κs = (meeting.past-in-of _ _ _ _ ((c .before .before .before .before .before .before .before .before .before .before .before .past) .ensures) (c .before .before .before .before .before .before .before .before .before .before .before .before .before .before .before .before .before .before .before .before .pre) ((meeting.peeked _ _ ((c .before .before .before .before .before .before .before .before .before .before .before .before .before .before .before .before .before .peek) .ensures) ((c .before .before .before .before .before .before .before .before .before .before .before .before .before .before .before .t) .given .1)) .token), (meeting.peeked _ _ ((c .before .before .before .before .before .before .before .before .before .before .peek2) .ensures) ((c .before .before .before .before .before .before .before .before .g) .given .1)))
+take-group-requires c κs =
+    let pre = c .before .before .before .before .before .before .before .before .before .before .before .before .before .before .before .before .before .before .before .before .pre in
+    let peek = c .before .before .before .before .before .before .before .before .before .before .before .before .before .before .before .before .before .peek in
+    let t = c .before .before .before .before .before .before .before .before .before .before .before .before .before .before .before .t in
+    let past = c .before .before .before .before .before .before .before .before .before .before .before .past in
+    let peek2 = c .before .before .before .before .before .before .before .before .before .before .peek2 in
+    let g = c .before .before .before .before .before .before .before .before .g in (
+      meeting.past-in-of _ _ _ _ (past .ensures) pre ((meeting.peeked _ _ (peek .ensures) (t .given .1)) .token),
+      (meeting.peeked _ _ (peek2 .ensures) (g .given .1)),
+    )
 
 returns-4 : tie.Need-returns-4
-returns-4 c = (ap (reading.attributes _) (meeting.peeked _ _ ((c .before .before .peek) .ensures) ((c .enum-told) .given .1)) ∙ ap (took tt []) (sym (meeting.peeked _ _ ((c .before .before .peek) .ensures) ((c .enum-told) .given .1))), refl)
+returns-4 c =
+    let peek = c .before .before .peek in (
+      ap (reading.attributes _) (meeting.peeked _ _ (peek .ensures) ((c .enum-told) .given .1)) ∙ ap (took tt [])
+          (sym (meeting.peeked _ _ (peek .ensures) ((c .enum-told) .given .1))),
+      refl,
+    )
 
 returns-5 : tie.Need-returns-5
 returns-5 c =
@@ -74,19 +125,64 @@ returns-5 c =
     (ap (reading.attributes _) (g .here) ∙ ap (took tt []) (sym (g .here)), refl)
 
 returns-6 : tie.Need-returns-6
-returns-6 c = marks.mark-end _ _ (c .before .before .before .before .before .before .before .before .before .before .before .before .pre) _ (meeting.peeked _ _ ((c .before .before .before .before .before .before .before .before .before .peek) .ensures) ((c .before .before .before .before .before .before .before .t) .given .1)) (meeting.punct-of _ _ _ _ ((meeting.peeked _ _ ((c .before .before .before .before .before .before .before .before .before .peek) .ensures) ((c .before .before .before .before .before .before .before .t) .given .1)) .token) ∙ sym ((c .before .before .before .before .before .is-punct) .ensures) ∙ not-false _ ((c .before .before .before .before .if1) .left)) _ ((c .before .before .before .past) .ensures) (meeting.peeked _ _ ((c .before .before .peek2) .ensures) ((c .enum-told3) .given .1))
+returns-6 c =
+    let pre = c .before .before .before .before .before .before .before .before .before .before .before .before .pre in
+    let peek = c .before .before .before .before .before .before .before .before .before .peek in
+    let t = c .before .before .before .before .before .before .before .t in
+    let is-punct = c .before .before .before .before .before .is-punct in
+    let if1 = c .before .before .before .before .if1 in
+    marks.mark-end _ _ pre _ (meeting.peeked _ _ (peek .ensures) (t .given .1))
+    (meeting.punct-of _ _ _ _ ((meeting.peeked _ _ (peek .ensures) (t .given .1)) .token) ∙ sym
+    (is-punct .ensures) ∙ not-false _ (if1 .left))
+    _ ((c .before .before .before .past) .ensures)
+    (meeting.peeked _ _ ((c .before .before .peek2) .ensures) ((c .enum-told3) .given .1))
 
 same-length : tie.Need-same-length
 same-length c = (c .before .before .mark) .kept .0
 
 returns-7 : tie.Need-returns-7
-returns-7 c = marks.mark-idle _ _ (c .before .before .before .before .before .before .before .before .before .before .before .before .before .before .before .before .before .before .before .pre) _ (meeting.peeked _ _ ((c .before .before .before .before .before .before .before .before .before .before .before .before .before .before .before .before .peek) .ensures) ((c .before .before .before .before .before .before .before .before .before .before .before .before .before .before .t) .given .1)) (meeting.punct-of _ _ _ _ ((meeting.peeked _ _ ((c .before .before .before .before .before .before .before .before .before .before .before .before .before .before .before .before .peek) .ensures) ((c .before .before .before .before .before .before .before .before .before .before .before .before .before .before .t) .given .1)) .token) ∙ sym ((c .before .before .before .before .before .before .before .before .before .before .before .before .is-punct) .ensures) ∙ not-false _ ((c .before .before .before .before .before .before .before .before .before .before .before .if1) .left)) _ ((c .before .before .before .before .before .before .before .before .before .before .past) .ensures) _ (meeting.peeked _ _ ((c .before .before .before .before .before .before .before .before .before .peek2) .ensures) ((c .before .before .before .before .before .before .before .q) .given .1)) _ _ ((c .before .before .mark) .ensures) (meeting.punct-of _ _ _ _ ((meeting.peeked _ _ ((c .before .before .before .before .before .before .before .before .before .peek2) .ensures) ((c .before .before .before .before .before .before .before .q) .given .1)) .token) ∙ sym ((c .before .before .before .before .before .is-punct2) .ensures) ∙ not-false _ ((c .before .before .before .before .if2) .left))
+returns-7 c =
+    let pre = c .before .before .before .before .before .before .before .before .before .before .before .before .before .before .before .before .before .before .before .pre in
+    let peek = c .before .before .before .before .before .before .before .before .before .before .before .before .before .before .before .before .peek in
+    let t = c .before .before .before .before .before .before .before .before .before .before .before .before .before .before .t in
+    let is-punct = c .before .before .before .before .before .before .before .before .before .before .before .before .is-punct in
+    let if1 = c .before .before .before .before .before .before .before .before .before .before .before .if1 in
+    let past = c .before .before .before .before .before .before .before .before .before .before .past in
+    let peek2 = c .before .before .before .before .before .before .before .before .before .peek2 in
+    let q = c .before .before .before .before .before .before .before .q in
+    let is-punct2 = c .before .before .before .before .before .is-punct2 in
+    let if2 = c .before .before .before .before .if2 in
+    marks.mark-idle _ _ pre _ (meeting.peeked _ _ (peek .ensures) (t .given .1))
+    (meeting.punct-of _ _ _ _ ((meeting.peeked _ _ (peek .ensures) (t .given .1)) .token) ∙ sym
+    (is-punct .ensures) ∙ not-false _ (if1 .left))
+    _ (past .ensures) _ (meeting.peeked _ _ (peek2 .ensures) (q .given .1)) _ _ ((c .before .before .mark) .ensures)
+    (meeting.punct-of _ _ _ _ ((meeting.peeked _ _ (peek2 .ensures) (q .given .1)) .token) ∙ sym
+    (is-punct2 .ensures) ∙ not-false _ (if2 .left))
 
 same-length-2 : tie.Need-same-length-2
-same-length-2 c = (c .before .before .take-group) .kept .1 .1 .1 .0 ∙ (c .before .before .before .before .before .before .mark2) .kept .0
+same-length-2 c =
+    let mark2 = c .before .before .before .before .before .before .mark2 in
+    (c .before .before .take-group) .kept .1 .1 .1 .0 ∙ mark2 .kept .0
 
 returns-8 : tie.Need-returns-8
-returns-8 c = marks.mark-group _ _ (c .before .before .before .before .before .before .before .before .before .before .before .before .before .before .before .before .before .before .before .before .before .before .before .pre) _ (meeting.peeked _ _ ((c .before .before .before .before .before .before .before .before .before .before .before .before .before .before .before .before .before .before .before .before .peek) .ensures) ((c .before .before .before .before .before .before .before .before .before .before .before .before .before .before .before .before .before .before .t) .given .1)) (meeting.punct-of _ _ _ _ ((meeting.peeked _ _ ((c .before .before .before .before .before .before .before .before .before .before .before .before .before .before .before .before .before .before .before .before .peek) .ensures) ((c .before .before .before .before .before .before .before .before .before .before .before .before .before .before .before .before .before .before .t) .given .1)) .token) ∙ sym ((c .before .before .before .before .before .before .before .before .before .before .before .before .before .before .before .before .is-punct) .ensures) ∙ not-false _ ((c .before .before .before .before .before .before .before .before .before .before .before .before .before .before .before .if1) .left)) _ ((c .before .before .before .before .before .before .before .before .before .before .before .before .before .before .past) .ensures) _ (meeting.past-in-of _ _ _ _ ((c .before .before .before .before .before .before .before .before .before .before .before .before .before .before .past) .ensures) (c .before .before .before .before .before .before .before .before .before .before .before .before .before .before .before .before .before .before .before .before .before .before .before .pre) ((meeting.peeked _ _ ((c .before .before .before .before .before .before .before .before .before .before .before .before .before .before .before .before .before .before .before .before .peek) .ensures) ((c .before .before .before .before .before .before .before .before .before .before .before .before .before .before .before .before .before .before .t) .given .1)) .token)) (meeting.peeked _ _ ((c .before .before .before .before .before .before .before .before .before .before .before .before .before .peek2) .ensures) ((c .before .before .before .before .before .before .before .before .before .before .before .g) .given .1)) _ _ _ _ ((c .before .before .before .before .before .before .before .before .if3) .left) ((c .before .before .before .before .before .before .mark2) .ensures) ((c .before .before .take-group) .ensures)
+returns-8 c =
+    let pre = c .before .before .before .before .before .before .before .before .before .before .before .before .before .before .before .before .before .before .before .before .before .before .before .pre in
+    let peek = c .before .before .before .before .before .before .before .before .before .before .before .before .before .before .before .before .before .before .before .before .peek in
+    let t = c .before .before .before .before .before .before .before .before .before .before .before .before .before .before .before .before .before .before .t in
+    let is-punct = c .before .before .before .before .before .before .before .before .before .before .before .before .before .before .before .before .is-punct in
+    let if1 = c .before .before .before .before .before .before .before .before .before .before .before .before .before .before .before .if1 in
+    let past = c .before .before .before .before .before .before .before .before .before .before .before .before .before .before .past in
+    let peek2 = c .before .before .before .before .before .before .before .before .before .before .before .before .before .peek2 in
+    let g = c .before .before .before .before .before .before .before .before .before .before .before .g in
+    let if3 = c .before .before .before .before .before .before .before .before .if3 in
+    let mark2 = c .before .before .before .before .before .before .mark2 in
+    marks.mark-group _ _ pre _ (meeting.peeked _ _ (peek .ensures) (t .given .1))
+    (meeting.punct-of _ _ _ _ ((meeting.peeked _ _ (peek .ensures) (t .given .1)) .token) ∙ sym
+    (is-punct .ensures) ∙ not-false _ (if1 .left))
+    _ (past .ensures) _
+    (meeting.past-in-of _ _ _ _ (past .ensures) pre ((meeting.peeked _ _ (peek .ensures) (t .given .1)) .token))
+    (meeting.peeked _ _ (peek2 .ensures) (g .given .1)) _ _ _ _ (if3 .left) (mark2 .ensures)
+    ((c .before .before .take-group) .ensures)
 
 pub marked-attribute-spec : {M : Type 1} → statement M
 marked-attribute-spec =

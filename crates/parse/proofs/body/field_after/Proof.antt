@@ -6,12 +6,9 @@ use mathlib.Core.List.{List}
 use Rattle.parse.proofs.Meeting as meeting
 use Rattle.parse.specs.Contract as contract
 use Rattle.reading.specs.Reading as reading
-use Rattle.token_list.proofs.Texts.{chosen, passed-over, and-last, and-fails}
-use Rattle.token_list.specs.Contract.{InList}
-use borrow.Author.Tests.{eq-eqb, ne-eqb, not-true, not-false}
-use native.Mathlib.Omega.{arith}
-use mathlib.Core.Bool.{Bool, true, false}
-use mathlib.Core.Path.{_≡_, refl, sym, _∙_, ap, subst, subst⁻¹}
+use borrow.Author.Tests.{not-true, not-false}
+use mathlib.Core.Bool.{Bool}
+use mathlib.Core.Path.{refl, sym, _∙_, ap}
 use borrow.Author.Needs.{needs}
 use Rattle.parse.proofs.body.field_after.Statement.{statement}
 use Rattle.parse.proofs.body.field_after.Tie as tie
@@ -27,25 +24,44 @@ consume-punct-if-requires : tie.Need-consume-punct-if-requires
 consume-punct-if-requires c κs = search needs
 
 wrong-token-requires : tie.Need-wrong-token-requires
-wrong-token-requires c κs = meeting.landed ((c .before .before .before .before .before .consume-punct-if) .ensures)
+wrong-token-requires c κs =
+    let consume-punct-if = c .before .before .before .before .before .consume-punct-if in
+    meeting.landed (consume-punct-if .ensures)
 
 same-length : tie.Need-same-length
 same-length c = search needs
 
 returns : tie.Need-returns
-returns c = λ n. meeting.meets-then (colon n) ((c .before .before .before .before .before .before .consume-punct-if) .ensures) (λ t e. meeting.meets-as (ap (λ x. colon n x ((c .before .before .before .before .before .before .consume-punct-if) .result .next .row) (contract.stream ((c .before .before .before .before .before .before .before .before .before .before .args) .s .now) ((c .before .before .before .before .before .before .consume-punct-if) .result .next))) (sym e ∙ not-true _ ((c .before .if1) .taken))) (meeting.meets-wrong _ _ ((c .wrong-token) .ensures)))
+returns c =
+    let args = c .before .before .before .before .before .before .before .before .before .before .args in
+    let consume-punct-if = c .before .before .before .before .before .before .consume-punct-if in
+    λ n.
+    meeting.meets-then (colon n) (consume-punct-if .ensures)
+    (λ t e.
+    meeting.meets-as
+    (ap
+    (λ x.
+    colon n x (consume-punct-if .result .next .row)
+    (contract.stream (args .s .now) (consume-punct-if .result .next)))
+    (sym e ∙ not-true _ ((c .before .if1) .taken)))
+    (meeting.meets-wrong _ _ ((c .wrong-token) .ensures)))
 
 field-type-requires : tie.Need-field-type-requires
-field-type-requires c κs = meeting.landed ((c .before .before .before .before .before .before .consume-punct-if) .ensures)
+field-type-requires c κs =
+    let consume-punct-if = c .before .before .before .before .before .before .consume-punct-if in
+    meeting.landed (consume-punct-if .ensures)
 
 same-length-2 : tie.Need-same-length-2
 same-length-2 c = search needs
 
 returns-2 : tie.Need-returns-2
 returns-2 c =
-    let d = (c .before .before .before .before .before .before .before .before .before .consume-punct-if) .result .next in
-    let ts = contract.stream ((c .before .before .before .before .before .before .before .before .before .before .before .before .before .args) .s .now) d in
-    λ n. meeting.meets-then (colon n) ((c .before .before .before .before .before .before .before .before .before .consume-punct-if) .ensures) (λ t e. meeting.meets-as (ap (λ x. colon n x (d .row) ts) (sym e ∙ not-false _ ((c .before .before .before .before .if1) .left))) (meeting.meets-then (λ u. typed n) (meeting.meets-stay _ _ _ (λ (u : Unit {0}). Unit {0}) (tt {0}) (meeting.landed ((c .before .before .before .before .before .before .before .before .before .consume-punct-if) .ensures)) tt) (λ u h. meeting.meets-as (bodies.comma-as (d .row) (reading.run reading.fieldStops 18 (d .row) ts) (λ f. record { name = n; type = f })) (meeting.meets-map (d .row) (λ f. reading.one (record { name = n; type = f })) (λ f k. (f, refl)) ((c .before .before .field-type) .ensures)))))
+    let args = c .before .before .before .before .before .before .before .before .before .before .before .before .before .args in
+    let consume-punct-if = c .before .before .before .before .before .before .before .before .before .consume-punct-if in
+    let if1 = c .before .before .before .before .if1 in
+    let d = consume-punct-if .result .next in
+    let ts = contract.stream (args .s .now) d in
+    λ n. meeting.meets-then (colon n) (consume-punct-if .ensures) (λ t e. meeting.meets-as (ap (λ x. colon n x (d .row) ts) (sym e ∙ not-false _ (if1 .left))) (meeting.meets-then (λ u. typed n) (meeting.meets-stay _ _ _ (λ (u : Unit {0}). Unit {0}) (tt {0}) (meeting.landed (consume-punct-if .ensures)) tt) (λ u h. meeting.meets-as (bodies.comma-as (d .row) (reading.run reading.fieldStops 18 (d .row) ts) (λ f. record { name = n; type = f })) (meeting.meets-map (d .row) (λ f. reading.one (record { name = n; type = f })) (λ f k. (f, refl)) ((c .before .before .field-type) .ensures)))))
 
 pub field-after-spec : {M : Type 1} → statement M
 field-after-spec =

@@ -1,12 +1,6 @@
 use Rattle.parse.proofs.Meeting as meeting
 use Rattle.parse.specs.Contract as contract
 use Rattle.reading.specs.Reading as reading
-use Rattle.token_list.proofs.Texts.{chosen, passed-over, and-last, and-fails}
-use Rattle.token_list.specs.Contract.{InList}
-use borrow.Author.Tests.{eq-eqb, ne-eqb, not-true, not-false}
-use native.Mathlib.Omega.{arith}
-use mathlib.Core.Bool.{true, false}
-use mathlib.Core.Path.{_≡_, refl, sym, _∙_, ap, subst, subst⁻¹}
 use borrow.Author.Needs.{needs}
 use Rattle.parse.proofs.body.field_start.Statement.{statement}
 use Rattle.parse.proofs.body.field_start.Tie as tie
@@ -21,19 +15,30 @@ enum-known-d : tie.Need-enum-known-d
 enum-known-d c = search needs
 
 try-take-requires-2 : tie.Need-try-take-requires-2
-try-take-requires-2 c κs = meeting.landed (meeting.say (λ x. contract.any) contract.stepSaid ((c .before .before .d) .given .1) ((c .before .before .before .before .before .before .try-take) .ensures))
+try-take-requires-2 c κs =
+    let try-take = c .before .before .before .before .before .before .try-take in
+    meeting.landed
+    (meeting.say (λ x. contract.any) contract.stepSaid ((c .before .before .d) .given .1) (try-take .ensures))
 
 same-length : tie.Need-same-length
 same-length c = search needs
 
 returns : tie.Need-returns
-returns c = meeting.meets-no _ (meeting.say (λ x. contract.any) contract.stepSaid ((c .before .r) .given .1) ((c .before .before .before .before .before .try-take) .ensures))
+returns c =
+    let try-take = c .before .before .before .before .before .try-take in
+    meeting.meets-no _
+    (meeting.say (λ x. contract.any) contract.stepSaid ((c .before .r) .given .1) (try-take .ensures))
 
 same-length-2 : tie.Need-same-length-2
 same-length-2 c = search needs
 
 returns-2 : tie.Need-returns-2
-returns-2 c = meeting.meets-then (λ a. reading.visibility) (meeting.say (λ x. contract.any) contract.stepSaid ((c .before .before .before .before .before .d) .given .1) ((c .before .before .before .before .before .before .before .before .before .try-take) .ensures)) (λ a h. (c .before .before .try-take2) .ensures)
+returns-2 c =
+    let try-take = c .before .before .before .before .before .before .before .before .before .try-take in
+    let d = c .before .before .before .before .before .d in
+    meeting.meets-then (λ a. reading.visibility)
+    (meeting.say (λ x. contract.any) contract.stepSaid (d .given .1) (try-take .ensures))
+    (λ a h. (c .before .before .try-take2) .ensures)
 
 pub field-start-spec : {M : Type 1} → statement M
 field-start-spec =

@@ -5,18 +5,14 @@ use Prim.Native.Nat.{_≤_, _-_}
 use Rattle.parse.proofs.Meeting as meeting
 use Rattle.parse.specs.Contract as contract
 use Rattle.reading.specs.Reading as reading
-use Rattle.token_list.proofs.Texts.{chosen, passed-over, and-last, and-fails}
-use Rattle.token_list.specs.Contract.{InList}
-use borrow.Author.Tests.{eq-eqb, ne-eqb, not-true, not-false}
-use borrow.Author.Needs.{needs}
 use native.Mathlib.Omega.{arith}
-use mathlib.Core.Bool.{true, false}
-use mathlib.Core.Path.{_≡_, refl, sym, _∙_, ap, subst, subst⁻¹}
+use mathlib.Core.Path.{_≡_, sym, _∙_}
 use Rattle.parse.proofs.body.is_negatable.Statement.{statement}
 use Rattle.parse.proofs.body.is_negatable.Tie as tie
 
 abbrev Inv-loop : tie.InvT-loop
-Inv-loop s start end n₀ i₀ n i = (negatable (slice start end s) ≡ Negatable n (slice i end s)) × (n ≤ 9223372036854775809)
+Inv-loop s start end n₀ i₀ n i =
+    (negatable (slice start end s) ≡ Negatable n (slice i end s)) × (n ≤ 9223372036854775809)
 
 abbrev μ-loop : tie.MeasureT-loop
 μ-loop s start end n₀ i₀ n i = end - i
@@ -28,13 +24,28 @@ shared-slice-read-b : tie.Need-shared-slice-read-b Inv-loop μ-loop
 shared-slice-read-b c = omega arith
 
 returns : tie.Need-returns Inv-loop μ-loop
-returns c = sym ((c .before .before .before .loop) .inv .0 ∙ digit-low ((c .before .before .before .before .args) .s .now) ((c .before .before .before .loop) .i) ((c .before .before .before .before .args) .end) (omega arith) (omega arith) ((c .before .before .before .loop) .n) ((c .if1) .taken))
+returns c =
+    let args = c .before .before .before .before .args in
+    let loop = c .before .before .before .loop in
+    sym
+    (loop .inv .0 ∙ digit-low (args .s .now) (loop .i) (args .end) (omega arith) (omega arith) (loop .n)
+    ((c .if1) .taken))
 
 returns-2 : tie.Need-returns-2 Inv-loop μ-loop
-returns-2 c = sym ((c .before .before .before .before .loop) .inv .0 ∙ digit-high ((c .before .before .before .before .before .args) .s .now) ((c .before .before .before .before .loop) .i) ((c .before .before .before .before .before .args) .end) (omega arith) (omega arith) ((c .before .before .before .before .loop) .n) ((c .before .if1) .left) ((c .if2) .taken))
+returns-2 c =
+    let args = c .before .before .before .before .before .args in
+    let loop = c .before .before .before .before .loop in
+    sym
+    (loop .inv .0 ∙ digit-high (args .s .now) (loop .i) (args .end) (omega arith) (omega arith) (loop .n)
+    ((c .before .if1) .left) ((c .if2) .taken))
 
 returns-3 : tie.Need-returns-3 Inv-loop μ-loop
-returns-3 c = sym ((c .before .before .before .before .before .loop) .inv .0 ∙ too-large ((c .before .before .before .before .before .before .args) .s .now) ((c .before .before .before .before .before .loop) .i) ((c .before .before .before .before .before .before .args) .end) (omega arith) (omega arith) ((c .before .before .before .before .before .loop) .n) ((c .if3) .taken))
+returns-3 c =
+    let args = c .before .before .before .before .before .before .args in
+    let loop = c .before .before .before .before .before .loop in
+    sym
+    (loop .inv .0 ∙ too-large (args .s .now) (loop .i) (args .end) (omega arith) (omega arith) (loop .n)
+    ((c .if3) .taken))
 
 cast-digit : tie.Need-cast-digit Inv-loop μ-loop
 cast-digit c = omega arith
@@ -52,10 +63,20 @@ loop-less : tie.Need-loop-less Inv-loop μ-loop
 loop-less c = omega arith
 
 loop-again : tie.Need-loop-again Inv-loop μ-loop
-loop-again c = ((c .before .before .before .before .before .loop) .inv .0 ∙ digit-next ((c .before .before .before .before .before .before .args) .s .now) ((c .before .before .before .before .before .loop) .i) ((c .before .before .before .before .before .before .args) .end) (omega arith) (omega arith) ((c .before .before .before .before .before .loop) .n) ((c .before .before .if1) .left) ((c .before .if2) .left), omega arith)
+loop-again c =
+    let args = c .before .before .before .before .before .before .args in
+    let loop = c .before .before .before .before .before .loop in (
+      loop .inv .0 ∙ digit-next (args .s .now) (loop .i) (args .end) (omega arith) (omega arith) (loop .n)
+          ((c .before .before .if1) .left) ((c .before .if2) .left),
+      omega arith,
+    )
 
 returns-4 : tie.Need-returns-4 Inv-loop μ-loop
-returns-4 c = sym ((c .before .loop) .inv .0 ∙ digits-end ((c .before .before .args) .s .now) ((c .before .loop) .i) ((c .before .before .args) .end) ((c .before .loop) .n) (omega arith))
+returns-4 c =
+    let args = c .before .before .args in
+    sym
+    ((c .before .loop) .inv .0 ∙ digits-end (args .s .now) ((c .before .loop) .i) (args .end) ((c .before .loop) .n)
+    (omega arith))
 
 pub is-negatable-spec : {M : Type 1} → statement M
 is-negatable-spec =

@@ -5,12 +5,9 @@ use Prim.Native.Nat.{_+_}
 use Rattle.parse.proofs.Meeting as meeting
 use Rattle.parse.specs.Contract as contract
 use Rattle.reading.specs.Reading as reading
-use Rattle.token_list.proofs.Texts.{chosen, passed-over, and-last, and-fails}
-use Rattle.token_list.specs.Contract.{InList}
+use Rattle.token_list.proofs.Texts.{chosen, passed-over}
 use borrow.Author.Tests.{eq-eqb, ne-eqb, not-true, not-false}
-use native.Mathlib.Omega.{arith}
-use mathlib.Core.Bool.{true, false}
-use mathlib.Core.Path.{_≡_, refl, sym, _∙_, ap, subst, subst⁻¹}
+use mathlib.Core.Path.{refl, sym, _∙_, ap}
 use borrow.Author.Needs.{needs}
 use Rattle.parse.proofs.body.take_struct.Statement.{statement}
 use Rattle.parse.proofs.body.take_struct.Tie as tie
@@ -28,43 +25,115 @@ is-punct-requires : tie.Need-is-punct-requires
 is-punct-requires c κs = search needs
 
 returns : tie.Need-returns
-returns c = meeting.meets-refused reading.structBody _ _ (c .before .before .before .before .before .before .before .before .pre) _ _ _ _ _ _ ((meeting.peeked _ _ ((c .before .before .before .before .before .peek) .ensures) ((c .before .before .before .t) .given .1)) .here) (passed-over _ _ _ (meeting.punct-of _ _ _ _ ((meeting.peeked _ _ ((c .before .before .before .before .before .peek) .ensures) ((c .before .before .before .t) .given .1)) .token) ∙ sym ((c .before .is-punct) .ensures) ∙ not-true _ ((c .if1) .taken)))
+returns c =
+    let pre = c .before .before .before .before .before .before .before .before .pre in
+    let peek = c .before .before .before .before .before .peek in
+    let t = c .before .before .before .t in
+    meeting.meets-refused reading.structBody _ _ pre _ _ _ _ _ _
+    ((meeting.peeked _ _ (peek .ensures) (t .given .1)) .here)
+    (passed-over _ _ _
+    (meeting.punct-of _ _ _ _ ((meeting.peeked _ _ (peek .ensures) (t .given .1)) .token) ∙ sym
+    ((c .before .is-punct) .ensures) ∙ not-true _ ((c .if1) .taken)))
 
 take-token-requires : tie.Need-take-token-requires
-take-token-requires c κs = ((c .before .before .before .before .before .before .before .before .before .pre), (meeting.peeked _ _ ((c .before .before .before .before .before .before .peek) .ensures) ((c .before .before .before .before .t) .given .1)) .token)
+take-token-requires c κs =
+    let pre = c .before .before .before .before .before .before .before .before .before .pre in
+    let peek = c .before .before .before .before .before .before .peek in
+    let t = c .before .before .before .before .t in
+    (pre, (meeting.peeked _ _ (peek .ensures) (t .given .1)) .token)
 
 enum-known-t-2 : tie.Need-enum-known-t-2
 enum-known-t-2 c = search needs
 
 named-group-requires : tie.Need-named-group-requires
-named-group-requires c κs = ((c .before .before .before .before .before .before .before .before .pre), (meeting.peeked _ _ ((c .before .before .before .before .before .peek) .ensures) ((c .before .before .before .t2) .given .1)))
+named-group-requires c κs =
+    let pre = c .before .before .before .before .before .before .before .before .pre in
+    let peek = c .before .before .before .before .before .peek in
+    (pre, (meeting.peeked _ _ (peek .ensures) ((c .before .before .before .t2) .given .1)))
 
 same-length : tie.Need-same-length
 same-length c = search needs
 
 returns-2 : tie.Need-returns-2
-returns-2 c = meeting.meets-as (ap (reading.structBody ((c .before .before .before .before .before .before .before .before .before .before .before .args) .c .row)) (meeting.group-stream _ _ _ (c .before .before .before .before .before .before .before .before .before .before .before .pre) (meeting.peeked _ _ ((c .before .before .before .before .before .before .before .before .peek) .ensures) ((c .before .before .before .before .before .before .t2) .given .1))) ∙ chosen _ _ _ (eq-eqb _ _ ((c .before .before .before .before .if2) .taken))) (bodies.closing-map _ _ (reading.namedFields (((c .before .before .before .before .before .before .before .before .before .before .before .args) .c .row) + 1) (at ((c .before .before .before .before .before .before .before .before .before .before .before .args) .s .now) ((c .before .before .before .before .before .before .t2) .given .0 .0 .next) .here)) fields (λ f rs rest e h. h) (bodies.closing-map _ _ (reading.every reading.namedField (((c .before .before .before .before .before .before .before .before .before .before .before .args) .c .row) + 1) (at ((c .before .before .before .before .before .before .before .before .before .before .before .args) .s .now) ((c .before .before .before .before .before .before .t2) .given .0 .0 .next) .here)) named (λ fs rs rest e h. bodies.count-named ((c .before .before .named-group) .result) fs h) ((c .before .before .named-group) .ensures)))
+returns-2 c =
+    let args = c .before .before .before .before .before .before .before .before .before .before .before .args in
+    let pre = c .before .before .before .before .before .before .before .before .before .before .before .pre in
+    let peek = c .before .before .before .before .before .before .before .before .peek in
+    let t2 = c .before .before .before .before .before .before .t2 in
+    let if2 = c .before .before .before .before .if2 in
+    let named-group = c .before .before .named-group in
+    meeting.meets-as
+    (ap (reading.structBody (args .c .row))
+    (meeting.group-stream _ _ _ pre (meeting.peeked _ _ (peek .ensures) (t2 .given .1))) ∙ chosen _ _ _
+    (eq-eqb _ _ (if2 .taken)))
+    (bodies.closing-map _ _
+    (reading.namedFields ((args .c .row) + 1) (at (args .s .now) (t2 .given .0 .0 .next) .here)) fields
+    (λ f rs rest e h. h)
+    (bodies.closing-map _ _
+    (reading.every reading.namedField ((args .c .row) + 1) (at (args .s .now) (t2 .given .0 .0 .next) .here))
+    named (λ fs rs rest e h. bodies.count-named (named-group .result) fs h) (named-group .ensures)))
 
 tuple-group-requires : tie.Need-tuple-group-requires
-tuple-group-requires c κs = ((c .before .before .before .before .before .before .before .before .before .pre), (meeting.peeked _ _ ((c .before .before .before .before .before .before .peek) .ensures) ((c .before .before .before .before .t2) .given .1)))
+tuple-group-requires c κs =
+    let pre = c .before .before .before .before .before .before .before .before .before .pre in
+    let peek = c .before .before .before .before .before .before .peek in
+    let t2 = c .before .before .before .before .t2 in
+    (pre, (meeting.peeked _ _ (peek .ensures) (t2 .given .1)))
 
 same-length-2 : tie.Need-same-length-2
 same-length-2 c = search needs
 
 returns-3 : tie.Need-returns-3
-returns-3 c = meeting.meets-as (ap (reading.structBody ((c .before .before .before .before .before .before .before .before .before .before .before .before .args) .c .row)) (meeting.group-stream _ _ _ (c .before .before .before .before .before .before .before .before .before .before .before .before .pre) (meeting.peeked _ _ ((c .before .before .before .before .before .before .before .before .before .peek) .ensures) ((c .before .before .before .before .before .before .before .t2) .given .1))) ∙ passed-over _ _ _ (ne-eqb _ _ ((c .before .before .before .before .before .if2) .left)) ∙ chosen _ _ _ (eq-eqb _ _ ((c .before .before .before .before .if3) .taken))) (bodies.closing-map _ _ (reading.tupleFields (((c .before .before .before .before .before .before .before .before .before .before .before .before .args) .c .row) + 1) (at ((c .before .before .before .before .before .before .before .before .before .before .before .before .args) .s .now) ((c .before .before .before .before .before .before .before .t2) .given .0 .0 .next) .here)) fields (λ f rs rest e h. h) (bodies.closing-map _ _ (reading.every reading.tupleField (((c .before .before .before .before .before .before .before .before .before .before .before .before .args) .c .row) + 1) (at ((c .before .before .before .before .before .before .before .before .before .before .before .before .args) .s .now) ((c .before .before .before .before .before .before .before .t2) .given .0 .0 .next) .here)) tuple (λ fs rs rest e h. bodies.count-tuple ((c .before .before .tuple-group) .result) fs h) ((c .before .before .tuple-group) .ensures)))
+returns-3 c =
+    let args = c .before .before .before .before .before .before .before .before .before .before .before .before .args in
+    let pre = c .before .before .before .before .before .before .before .before .before .before .before .before .pre in
+    let peek = c .before .before .before .before .before .before .before .before .before .peek in
+    let t2 = c .before .before .before .before .before .before .before .t2 in
+    let if2 = c .before .before .before .before .before .if2 in
+    let if3 = c .before .before .before .before .if3 in
+    let tuple-group = c .before .before .tuple-group in
+    meeting.meets-as
+    (ap (reading.structBody (args .c .row))
+    (meeting.group-stream _ _ _ pre (meeting.peeked _ _ (peek .ensures) (t2 .given .1))) ∙ passed-over _ _ _
+    (ne-eqb _ _ (if2 .left)) ∙ chosen _ _ _ (eq-eqb _ _ (if3 .taken)))
+    (bodies.closing-map _ _
+    (reading.tupleFields ((args .c .row) + 1) (at (args .s .now) (t2 .given .0 .0 .next) .here)) fields
+    (λ f rs rest e h. h)
+    (bodies.closing-map _ _
+    (reading.every reading.tupleField ((args .c .row) + 1) (at (args .s .now) (t2 .given .0 .0 .next) .here))
+    tuple (λ fs rs rest e h. bodies.count-tuple (tuple-group .result) fs h) (tuple-group .ensures)))
 
 returns-4 : tie.Need-returns-4
-returns-4 c = meeting.meets-refused reading.structBody _ _ (c .before .before .before .before .before .pre) _ _ _ _ _ _ (meeting.peeked _ _ ((c .before .before .peek) .ensures) ((c .enum-told) .given .1)) refl
+returns-4 c =
+    let pre = c .before .before .before .before .before .pre in
+    meeting.meets-refused reading.structBody _ _ pre _ _ _ _ _ _
+    (meeting.peeked _ _ ((c .before .before .peek) .ensures) ((c .enum-told) .given .1)) refl
 
 same-length-3 : tie.Need-same-length-3
 same-length-3 c = search needs
 
 returns-5 : tie.Need-returns-5
-returns-5 c = meeting.meets-leaf reading.structBody _ _ (c .before .before .before .before .before .before .before .before .before .before .before .before .pre) _ _ (meeting.peeked _ _ ((c .before .before .before .before .before .before .before .before .before .peek) .ensures) ((c .before .before .before .before .before .before .before .t) .given .1)) _ _ _ _ ((c .before .before .take-token) .ensures .0) ((c .before .before .take-token) .ensures .1) _ (chosen _ _ _ (meeting.punct-of _ _ _ _ ((meeting.peeked _ _ ((c .before .before .before .before .before .before .before .before .before .peek) .ensures) ((c .before .before .before .before .before .before .before .t) .given .1)) .token) ∙ sym ((c .before .before .before .before .before .is-punct) .ensures) ∙ not-false _ ((c .before .before .before .before .if1) .left))) refl
+returns-5 c =
+    let pre = c .before .before .before .before .before .before .before .before .before .before .before .before .pre in
+    let peek = c .before .before .before .before .before .before .before .before .before .peek in
+    let t = c .before .before .before .before .before .before .before .t in
+    let is-punct = c .before .before .before .before .before .is-punct in
+    let if1 = c .before .before .before .before .if1 in
+    let take-token = c .before .before .take-token in
+    meeting.meets-leaf reading.structBody _ _ pre _ _ (meeting.peeked _ _ (peek .ensures) (t .given .1)) _ _ _ _
+    (take-token .ensures .0) (take-token .ensures .1) _
+    (chosen _ _ _
+    (meeting.punct-of _ _ _ _ ((meeting.peeked _ _ (peek .ensures) (t .given .1)) .token) ∙ sym
+    (is-punct .ensures) ∙ not-false _ (if1 .left)))
+    refl
 
 returns-6 : tie.Need-returns-6
-returns-6 c = meeting.meets-refused reading.structBody _ _ (c .before .before .before .before .before .before .before .before .pre) _ _ _ _ _ _ (meeting.group-stream _ _ _ (c .before .before .before .before .before .before .before .before .pre) (meeting.peeked _ _ ((c .before .before .before .before .before .peek) .ensures) ((c .before .before .before .t2) .given .1))) (passed-over _ _ _ (ne-eqb _ _ ((c .before .if2) .left)) ∙ passed-over _ _ _ (ne-eqb _ _ ((c .if3) .left)))
+returns-6 c =
+    let pre = c .before .before .before .before .before .before .before .before .pre in
+    let peek = c .before .before .before .before .before .peek in
+    meeting.meets-refused reading.structBody _ _ pre _ _ _ _ _ _
+    (meeting.group-stream _ _ _ pre (meeting.peeked _ _ (peek .ensures) ((c .before .before .before .t2) .given .1)))
+    (passed-over _ _ _ (ne-eqb _ _ ((c .before .if2) .left)) ∙ passed-over _ _ _ (ne-eqb _ _ ((c .if3) .left)))
 
 pub take-struct-spec : {M : Type 1} → statement M
 take-struct-spec =

@@ -3,12 +3,6 @@ use Rattle.reading.proofs.Conserved as conserved
 use Rattle.parse.proofs.Meeting as meeting
 use Rattle.parse.specs.Contract as contract
 use Rattle.reading.specs.Reading as reading
-use Rattle.token_list.proofs.Texts.{chosen, passed-over, and-last, and-fails}
-use Rattle.token_list.specs.Contract.{InList}
-use borrow.Author.Tests.{eq-eqb, ne-eqb, not-true, not-false}
-use native.Mathlib.Omega.{arith}
-use mathlib.Core.Bool.{true, false}
-use mathlib.Core.Path.{_≡_, refl, sym, _∙_, ap, subst, subst⁻¹}
 use borrow.Author.Needs.{needs}
 use Rattle.parse.proofs.body.tuple_group.Statement.{statement}
 use Rattle.parse.proofs.body.tuple_group.Tie as tie
@@ -17,7 +11,9 @@ take-token-requires : tie.Need-take-token-requires
 take-token-requires c κs = search needs
 
 parse-requires : tie.Need-parse-requires
-parse-requires c κs = meeting.past-in-of _ _ _ _ ((c .before .before .before .take-token) .ensures .0) ((c .before .before .before .before .before .before .before .pre) .0) ((c .before .before .before .before .before .before .before .pre) .1 .token)
+parse-requires c κs =
+    let pre = c .before .before .before .before .before .before .before .pre in
+    meeting.past-in-of _ _ _ _ ((c .before .before .before .take-token) .ensures .0) (pre .0) (pre .1 .token)
 
 enum-known-r : tie.Need-enum-known-r
 enum-known-r c = search needs
@@ -26,19 +22,45 @@ enum-known-d : tie.Need-enum-known-d
 enum-known-d c = search needs
 
 close-group-requires : tie.Need-close-group-requires
-close-group-requires c κs = (meeting.landed (meeting.say contract.countShown contract.countSaid ((c .before .before .d) .given .1) ((c .before .before .before .before .before .before .parse) .ensures)), bodies.closing-follows _ _ _ _ ((c .before .before .before .before .before .before .before .before .before .before .before .before .before .before .pre) .0) ((c .before .before .before .before .before .before .before .before .before .before .before .before .before .before .pre) .1) ((c .before .before .before .before .before .before .before .before .before .before .before .before .before .before .args) .roles .now) _ ((c .before .before .before .before .before .before .before .before .before .before .take-token) .ensures .0) ((c .before .before .before .before .before .before .before .before .before .before .take-token) .ensures .1) (meeting.say contract.countShown contract.countSaid ((c .before .before .d) .given .1) ((c .before .before .before .before .before .before .parse) .ensures)))
+close-group-requires c κs =
+    let args = c .before .before .before .before .before .before .before .before .before .before .before .before .before .before .args in
+    let pre = c .before .before .before .before .before .before .before .before .before .before .before .before .before .before .pre in
+    let take-token = c .before .before .before .before .before .before .before .before .before .before .take-token in
+    let parse = c .before .before .before .before .before .before .parse in
+    let d = c .before .before .d in (
+      meeting.landed (meeting.say contract.countShown contract.countSaid (d .given .1) (parse .ensures)),
+      bodies.closing-follows _ _ _ _ (pre .0) (pre .1) (args .roles .now) _ (take-token .ensures .0)
+          (take-token .ensures .1) (meeting.say contract.countShown contract.countSaid (d .given .1) (parse .ensures)),
+    )
 
 same-length : tie.Need-same-length
 same-length c = search needs
 
 returns : tie.Need-returns
-returns c = bodies.group-refused _ _ _ _ ((c .before .before .before .before .before .before .before .before .before .before .before .before .before .pre) .0) ((c .before .before .before .before .before .before .before .before .before .before .before .before .before .pre) .1) ((c .before .before .before .before .before .before .before .before .before .before .before .before .before .args) .roles .now) _ ((c .before .before .before .before .before .before .before .before .before .take-token) .ensures .0) ((c .before .before .before .before .before .before .before .before .before .take-token) .ensures .1) (reading.every reading.tupleField) (meeting.say contract.countShown contract.countSaid ((c .before .r) .given .1) ((c .before .before .before .before .before .parse) .ensures))
+returns c =
+    let args = c .before .before .before .before .before .before .before .before .before .before .before .before .before .args in
+    let pre = c .before .before .before .before .before .before .before .before .before .before .before .before .before .pre in
+    let take-token = c .before .before .before .before .before .before .before .before .before .take-token in
+    let parse = c .before .before .before .before .before .parse in
+    bodies.group-refused _ _ _ _ (pre .0) (pre .1) (args .roles .now) _ (take-token .ensures .0)
+    (take-token .ensures .1) (reading.every reading.tupleField)
+    (meeting.say contract.countShown contract.countSaid ((c .before .r) .given .1) (parse .ensures))
 
 same-length-2 : tie.Need-same-length-2
 same-length-2 c = search needs
 
 returns-2 : tie.Need-returns-2
-returns-2 c = bodies.group-closed _ _ _ _ ((c .before .before .before .before .before .before .before .before .before .before .before .before .before .before .before .before .before .pre) .0) ((c .before .before .before .before .before .before .before .before .before .before .before .before .before .before .before .before .before .pre) .1) ((c .before .before .before .before .before .before .before .before .before .before .before .before .before .before .before .before .before .args) .roles .now) _ ((c .before .before .before .before .before .before .before .before .before .before .before .before .before .take-token) .ensures .0) ((c .before .before .before .before .before .before .before .before .before .before .before .before .before .take-token) .ensures .1) (reading.every reading.tupleField) (conserved.every-ended reading.tupleField conserved.tupleField-last) (meeting.say contract.countShown contract.countSaid ((c .before .before .before .before .before .d) .given .1) ((c .before .before .before .before .before .before .before .before .before .parse) .ensures)) ((c .before .before .close-group) .ensures .1) ((c .before .before .close-group) .ensures .0)
+returns-2 c =
+    let args = c .before .before .before .before .before .before .before .before .before .before .before .before .before .before .before .before .before .args in
+    let pre = c .before .before .before .before .before .before .before .before .before .before .before .before .before .before .before .before .before .pre in
+    let take-token = c .before .before .before .before .before .before .before .before .before .before .before .before .before .take-token in
+    let parse = c .before .before .before .before .before .before .before .before .before .parse in
+    let d = c .before .before .before .before .before .d in
+    let close-group = c .before .before .close-group in
+    bodies.group-closed _ _ _ _ (pre .0) (pre .1) (args .roles .now) _ (take-token .ensures .0) (take-token .ensures .1)
+    (reading.every reading.tupleField) (conserved.every-ended reading.tupleField conserved.tupleField-last)
+    (meeting.say contract.countShown contract.countSaid (d .given .1) (parse .ensures)) (close-group .ensures .1)
+    (close-group .ensures .0)
 
 pub tuple-group-spec : {M : Type 1} → statement M
 tuple-group-spec =

@@ -5,12 +5,7 @@ use Prim.Native.Nat.{ℕ}
 use Rattle.parse.proofs.Meeting as meeting
 use Rattle.parse.specs.Contract as contract
 use Rattle.reading.specs.Reading as reading
-use Rattle.token_list.proofs.Texts.{chosen, passed-over, and-last, and-fails}
-use Rattle.token_list.specs.Contract.{InList}
-use borrow.Author.Tests.{eq-eqb, ne-eqb, not-true, not-false}
-use native.Mathlib.Omega.{arith}
-use mathlib.Core.Bool.{true, false}
-use mathlib.Core.Path.{_≡_, refl, sym, _∙_, ap, subst, subst⁻¹}
+use mathlib.Core.Path.{_≡_, refl, sym}
 use borrow.Author.Needs.{needs}
 use Rattle.parse.proofs.body.tuple_type.Statement.{statement}
 use Rattle.parse.proofs.body.tuple_type.Tie as tie
@@ -31,7 +26,10 @@ enum-known-d : tie.Need-enum-known-d
 enum-known-d c = search needs
 
 field-type-requires : tie.Need-field-type-requires
-field-type-requires c κs = meeting.landed (meeting.say (λ x. contract.any) contract.stepSaid ((c .before .before .d) .given .1) ((c .before .before .before .before .before .before .field-start) .ensures))
+field-type-requires c κs =
+    let field-start = c .before .before .before .before .before .before .field-start in
+    meeting.landed
+    (meeting.say (λ x. contract.any) contract.stepSaid ((c .before .before .d) .given .1) (field-start .ensures))
 
 enum-known-r-2 : tie.Need-enum-known-r-2
 enum-known-r-2 c = search needs
@@ -43,23 +41,52 @@ same-length : tie.Need-same-length
 same-length c = search needs
 
 returns : tie.Need-returns
-returns c = meeting.meets-as (split ((c .before .before .before .before .before .before .before .before .before .args) .c .row) (contract.stream ((c .before .before .before .before .before .before .before .before .before .args) .s .now) ((c .before .before .before .before .before .before .before .before .before .args) .c))) (meeting.meets-no typed (meeting.say (λ x. contract.any) contract.stepSaid ((c .before .r) .given .1) ((c .before .before .before .before .before .field-start) .ensures)))
+returns c =
+    let args = c .before .before .before .before .before .before .before .before .before .args in
+    let field-start = c .before .before .before .before .before .field-start in
+    meeting.meets-as (split (args .c .row) (contract.stream (args .s .now) (args .c)))
+    (meeting.meets-no typed
+    (meeting.say (λ x. contract.any) contract.stepSaid ((c .before .r) .given .1) (field-start .ensures)))
 
 same-length-2 : tie.Need-same-length-2
 same-length-2 c = search needs
 
 returns-2 : tie.Need-returns-2
 returns-2 c =
-    let d = (c .before .before .before .before .before .before .before .before .d) .given .0 .0 in
-    meeting.meets-as (split ((c .before .before .before .before .before .before .before .before .before .before .before .before .before .before .before .before .args) .c .row) (contract.stream ((c .before .before .before .before .before .before .before .before .before .before .before .before .before .before .before .before .args) .s .now) ((c .before .before .before .before .before .before .before .before .before .before .before .before .before .before .before .before .args) .c))) (meeting.meets-then typed (meeting.say (λ x. contract.any) contract.stepSaid ((c .before .before .before .before .before .before .before .before .d) .given .1) ((c .before .before .before .before .before .before .before .before .before .before .before .before .field-start) .ensures)) (λ u h. meeting.meets-as (bodies.comma-as (d .row) (reading.run reading.fieldStops 18 (d .row) (contract.stream ((c .before .before .before .before .before .before .before .before .before .before .before .before .before .before .before .before .args) .s .now) d)) (λ f. f)) (meeting.meets-no _ (meeting.say (λ x. contract.any) contract.stepSaid ((c .before .r2) .given .1) ((c .before .before .before .before .before .field-type) .ensures)))))
+    let args = c .before .before .before .before .before .before .before .before .before .before .before .before .before .before .before .before .args in
+    let field-start = c .before .before .before .before .before .before .before .before .before .before .before .before .field-start in
+    let d-2 = c .before .before .before .before .before .before .before .before .d in
+    let field-type = c .before .before .before .before .before .field-type in
+    let d = d-2 .given .0 .0 in
+    meeting.meets-as (split (args .c .row) (contract.stream (args .s .now) (args .c)))
+    (meeting.meets-then typed
+    (meeting.say (λ x. contract.any) contract.stepSaid (d-2 .given .1) (field-start .ensures))
+    (λ u h.
+    meeting.meets-as
+    (bodies.comma-as (d .row) (reading.run reading.fieldStops 18 (d .row) (contract.stream (args .s .now) d))
+    (λ f. f))
+    (meeting.meets-no _
+    (meeting.say (λ x. contract.any) contract.stepSaid ((c .before .r2) .given .1) (field-type .ensures)))))
 
 same-length-3 : tie.Need-same-length-3
 same-length-3 c = search needs
 
 returns-3 : tie.Need-returns-3
 returns-3 c =
-    let d = (c .before .before .before .before .before .before .before .before .d) .given .0 .0 in
-    meeting.meets-as (split ((c .before .before .before .before .before .before .before .before .before .before .before .before .before .before .before .before .args) .c .row) (contract.stream ((c .before .before .before .before .before .before .before .before .before .before .before .before .before .before .before .before .args) .s .now) ((c .before .before .before .before .before .before .before .before .before .before .before .before .before .before .before .before .args) .c))) (meeting.meets-then typed (meeting.say (λ x. contract.any) contract.stepSaid ((c .before .before .before .before .before .before .before .before .d) .given .1) ((c .before .before .before .before .before .before .before .before .before .before .before .before .field-start) .ensures)) (λ u h. meeting.meets-as (bodies.comma-as (d .row) (reading.run reading.fieldStops 18 (d .row) (contract.stream ((c .before .before .before .before .before .before .before .before .before .before .before .before .before .before .before .before .args) .s .now) d)) (λ f. f)) (meeting.meets-map (d .row) (λ f. reading.one f) (λ f k. (f, refl)) (meeting.say (λ x. contract.any) contract.stepSaid ((c .before .e) .given .1) ((c .before .before .before .before .before .field-type) .ensures)))))
+    let args = c .before .before .before .before .before .before .before .before .before .before .before .before .before .before .before .before .args in
+    let field-start = c .before .before .before .before .before .before .before .before .before .before .before .before .field-start in
+    let d-2 = c .before .before .before .before .before .before .before .before .d in
+    let field-type = c .before .before .before .before .before .field-type in
+    let d = d-2 .given .0 .0 in
+    meeting.meets-as (split (args .c .row) (contract.stream (args .s .now) (args .c)))
+    (meeting.meets-then typed
+    (meeting.say (λ x. contract.any) contract.stepSaid (d-2 .given .1) (field-start .ensures))
+    (λ u h.
+    meeting.meets-as
+    (bodies.comma-as (d .row) (reading.run reading.fieldStops 18 (d .row) (contract.stream (args .s .now) d))
+    (λ f. f))
+    (meeting.meets-map (d .row) (λ f. reading.one f) (λ f k. (f, refl))
+    (meeting.say (λ x. contract.any) contract.stepSaid ((c .before .e) .given .1) (field-type .ensures)))))
 
 pub tuple-type-spec : {M : Type 1} → statement M
 tuple-type-spec =

@@ -1,12 +1,8 @@
 use Rattle.parse.proofs.Meeting as meeting
 use Rattle.parse.specs.Contract as contract
 use Rattle.reading.specs.Reading as reading
-use Rattle.token_list.proofs.Texts.{chosen, passed-over, and-last, and-fails}
-use Rattle.token_list.specs.Contract.{InList}
-use borrow.Author.Tests.{eq-eqb, ne-eqb, not-true, not-false}
-use native.Mathlib.Omega.{arith}
-use mathlib.Core.Bool.{true, false}
-use mathlib.Core.Path.{_≡_, refl, sym, _∙_, ap, subst, subst⁻¹}
+use Rattle.token_list.proofs.Texts.{chosen, passed-over}
+use mathlib.Core.Path.{refl, sym, _∙_}
 use borrow.Author.Needs.{needs}
 use Rattle.parse.proofs.body.value_if.Statement.{statement}
 use Rattle.parse.proofs.body.value_if.Tie as tie
@@ -27,31 +23,77 @@ is-punct-requires : tie.Need-is-punct-requires
 is-punct-requires c κs = search needs
 
 take-token-requires : tie.Need-take-token-requires
-take-token-requires c κs = ((c .before .before .before .before .before .before .before .before .before .pre), (meeting.peeked _ _ ((c .before .before .before .before .before .before .peek) .ensures) ((c .before .before .before .before .t) .given .1)) .token)
+take-token-requires c κs =
+    let pre = c .before .before .before .before .before .before .before .before .before .pre in
+    let peek = c .before .before .before .before .before .before .peek in
+    let t = c .before .before .before .before .t in
+    (pre, (meeting.peeked _ _ (peek .ensures) (t .given .1)) .token)
 
 discriminant-requires : tie.Need-discriminant-requires
-discriminant-requires c κs = meeting.past-in-of _ _ _ _ ((c .before .before .before .take-token) .ensures .0) (c .before .before .before .before .before .before .before .before .before .before .before .before .before .pre) ((meeting.peeked _ _ ((c .before .before .before .before .before .before .before .before .before .before .peek) .ensures) ((c .before .before .before .before .before .before .before .before .t) .given .1)) .token)
+discriminant-requires c κs =
+    let pre = c .before .before .before .before .before .before .before .before .before .before .before .before .before .pre in
+    let peek = c .before .before .before .before .before .before .before .before .before .before .peek in
+    let t = c .before .before .before .before .before .before .before .before .t in
+    meeting.past-in-of _ _ _ _ ((c .before .before .before .take-token) .ensures .0) pre
+    ((meeting.peeked _ _ (peek .ensures) (t .given .1)) .token)
 
 same-length : tie.Need-same-length
 same-length c = search needs
 
 returns : tie.Need-returns
-returns c = meeting.meets-from reading.valueIf _ _ (c .before .before .before .before .before .before .before .before .before .before .before .before .before .before .before .before .pre) _ _ (meeting.peeked _ _ ((c .before .before .before .before .before .before .before .before .before .before .before .before .before .peek) .ensures) ((c .before .before .before .before .before .before .before .before .before .before .before .t) .given .1)) _ _ _ _ ((c .before .before .before .before .before .before .take-token) .ensures .0) ((c .before .before .before .before .before .before .take-token) .ensures .1) _ _ reading.discriminant (chosen _ _ _ (meeting.punct-of _ _ _ _ ((meeting.peeked _ _ ((c .before .before .before .before .before .before .before .before .before .before .before .before .before .peek) .ensures) ((c .before .before .before .before .before .before .before .before .before .before .before .t) .given .1)) .token) ∙ sym ((c .before .before .before .before .before .before .before .before .before .is-punct) .ensures) ∙ (c .before .before .before .before .before .before .before .before .if1) .taken)) ((c .before .before .discriminant) .ensures)
+returns c =
+    let pre = c .before .before .before .before .before .before .before .before .before .before .before .before .before .before .before .before .pre in
+    let peek = c .before .before .before .before .before .before .before .before .before .before .before .before .before .peek in
+    let t = c .before .before .before .before .before .before .before .before .before .before .before .t in
+    let is-punct = c .before .before .before .before .before .before .before .before .before .is-punct in
+    let if1 = c .before .before .before .before .before .before .before .before .if1 in
+    let take-token = c .before .before .before .before .before .before .take-token in
+    meeting.meets-from reading.valueIf _ _ pre _ _ (meeting.peeked _ _ (peek .ensures) (t .given .1)) _ _ _ _
+    (take-token .ensures .0) (take-token .ensures .1) _ _ reading.discriminant
+    (chosen _ _ _
+    (meeting.punct-of _ _ _ _ ((meeting.peeked _ _ (peek .ensures) (t .given .1)) .token) ∙ sym
+    (is-punct .ensures) ∙ if1 .taken))
+    ((c .before .before .discriminant) .ensures)
 
 is-punct-requires-2 : tie.Need-is-punct-requires-2
 is-punct-requires-2 c κs = search needs
 
 returns-2 : tie.Need-returns-2
-returns-2 c = meeting.meets-same reading.valueIf _ _ (c .before .before .before .before .before .before .before .before .before .before .pre) _ _ _ _ ((meeting.peeked _ _ ((c .before .before .before .before .before .before .before .peek) .ensures) ((c .before .before .before .before .before .t) .given .1)) .here) (passed-over _ _ _ (meeting.punct-of _ _ _ _ ((meeting.peeked _ _ ((c .before .before .before .before .before .before .before .peek) .ensures) ((c .before .before .before .before .before .t) .given .1)) .token) ∙ sym ((c .before .before .before .is-punct) .ensures) ∙ (c .before .before .if1) .left) ∙ chosen _ _ _ (meeting.punct-of _ _ _ _ ((meeting.peeked _ _ ((c .before .before .before .before .before .before .before .peek) .ensures) ((c .before .before .before .before .before .t) .given .1)) .token) ∙ sym ((c .before .is-punct2) .ensures) ∙ (c .if2) .taken)) refl
+returns-2 c =
+    let pre = c .before .before .before .before .before .before .before .before .before .before .pre in
+    let peek = c .before .before .before .before .before .before .before .peek in
+    let t = c .before .before .before .before .before .t in
+    meeting.meets-same reading.valueIf _ _ pre _ _ _ _ ((meeting.peeked _ _ (peek .ensures) (t .given .1)) .here)
+    (passed-over _ _ _
+    (meeting.punct-of _ _ _ _ ((meeting.peeked _ _ (peek .ensures) (t .given .1)) .token) ∙ sym ((c .before .before .before .is-punct) .ensures) ∙ (c .before .before .if1) .left) ∙ chosen
+    _ _ _
+    (meeting.punct-of _ _ _ _ ((meeting.peeked _ _ (peek .ensures) (t .given .1)) .token) ∙ sym
+    ((c .before .is-punct2) .ensures) ∙ (c .if2) .taken))
+    refl
 
 returns-3 : tie.Need-returns-3
-returns-3 c = meeting.meets-same reading.valueIf _ _ (c .before .before .before .before .before .pre) _ _ _ _ (meeting.peeked _ _ ((c .before .before .peek) .ensures) ((c .enum-told) .given .1)) refl refl
+returns-3 c =
+    let pre = c .before .before .before .before .before .pre in
+    meeting.meets-same reading.valueIf _ _ pre _ _ _ _
+    (meeting.peeked _ _ ((c .before .before .peek) .ensures) ((c .enum-told) .given .1)) refl refl
 
 returns-4 : tie.Need-returns-4
-returns-4 c = meeting.meets-refused reading.valueIf _ _ (c .before .before .before .before .before .pre) _ _ _ _ _ _ ((meeting.peeked _ _ ((c .before .before .peek) .ensures) ((c .enum-told2) .given .1)) .here) refl
+returns-4 c =
+    let pre = c .before .before .before .before .before .pre in
+    meeting.meets-refused reading.valueIf _ _ pre _ _ _ _ _ _
+    ((meeting.peeked _ _ ((c .before .before .peek) .ensures) ((c .enum-told2) .given .1)) .here) refl
 
 returns-5 : tie.Need-returns-5
-returns-5 c = meeting.meets-refused reading.valueIf _ _ (c .before .before .before .before .before .before .before .before .before .before .pre) _ _ _ _ _ _ ((meeting.peeked _ _ ((c .before .before .before .before .before .before .before .peek) .ensures) ((c .before .before .before .before .before .t) .given .1)) .here) (passed-over _ _ _ (meeting.punct-of _ _ _ _ ((meeting.peeked _ _ ((c .before .before .before .before .before .before .before .peek) .ensures) ((c .before .before .before .before .before .t) .given .1)) .token) ∙ sym ((c .before .before .before .is-punct) .ensures) ∙ (c .before .before .if1) .left) ∙ passed-over _ _ _ (meeting.punct-of _ _ _ _ ((meeting.peeked _ _ ((c .before .before .before .before .before .before .before .peek) .ensures) ((c .before .before .before .before .before .t) .given .1)) .token) ∙ sym ((c .before .is-punct2) .ensures) ∙ (c .if2) .left))
+returns-5 c =
+    let pre = c .before .before .before .before .before .before .before .before .before .before .pre in
+    let peek = c .before .before .before .before .before .before .before .peek in
+    let t = c .before .before .before .before .before .t in
+    meeting.meets-refused reading.valueIf _ _ pre _ _ _ _ _ _ ((meeting.peeked _ _ (peek .ensures) (t .given .1)) .here)
+    (passed-over _ _ _
+    (meeting.punct-of _ _ _ _ ((meeting.peeked _ _ (peek .ensures) (t .given .1)) .token) ∙ sym ((c .before .before .before .is-punct) .ensures) ∙ (c .before .before .if1) .left) ∙ passed-over
+    _ _ _
+    (meeting.punct-of _ _ _ _ ((meeting.peeked _ _ (peek .ensures) (t .given .1)) .token) ∙ sym
+    ((c .before .is-punct2) .ensures) ∙ (c .if2) .left))
 
 pub value-if-spec : {M : Type 1} → statement M
 value-if-spec =

@@ -8,11 +8,6 @@ use mathlib.Core.Path.{fun-ext}
 use Rattle.parse.proofs.Meeting as meeting
 use Rattle.parse.specs.Contract as contract
 use Rattle.reading.specs.Reading as reading
-use Rattle.token_list.proofs.Texts.{chosen, passed-over, and-last, and-fails}
-use Rattle.token_list.specs.Contract.{InList}
-use borrow.Author.Tests.{eq-eqb, ne-eqb, not-true, not-false}
-use native.Mathlib.Omega.{arith}
-use mathlib.Core.Bool.{true, false}
 use mathlib.Core.Path.{_≡_, refl, sym, _∙_, ap, subst, subst⁻¹}
 use borrow.Author.Needs.{needs}
 use Rattle.parse.proofs.body.variant_here.Statement.{statement}
@@ -29,7 +24,9 @@ rest n = reading.variantFields >>= valued n
 
 split : (row : ℕ) (ts : Trees) → reading.variantHere row ts ≡ after row (contract.variantName row ts) rest
 split row ts =
-    ap (after row (reading.attributes row ts)) (fun-ext (λ a. fun-ext (λ r. fun-ext (λ us. sym (meeting.after-assoc r (reading.word 15 r us) reading.named! rest)))))
+    ap (after row (reading.attributes row ts))
+    (fun-ext
+    (λ a. fun-ext (λ r. fun-ext (λ us. sym (meeting.after-assoc r (reading.word 15 r us) reading.named! rest)))))
     ∙ sym (meeting.after-assoc row (reading.attributes row ts) (λ a. (reading.word 15 >>= reading.named!)) rest)
 
 variant-name-requires : tie.Need-variant-name-requires
@@ -42,7 +39,12 @@ enum-known-name : tie.Need-enum-known-name
 enum-known-name c = search needs
 
 variant-fields-requires : tie.Need-variant-fields-requires
-variant-fields-requires c κs = meeting.landed (meeting.say (contract.nameShown ((c .before .before .before .before .before .before .before .before .before .before .args) .s .now)) contract.nameSaid ((c .before .before .name) .given .1) ((c .before .before .before .before .before .before .variant-name) .ensures))
+variant-fields-requires c κs =
+    let args = c .before .before .before .before .before .before .before .before .before .before .args in
+    let variant-name = c .before .before .before .before .before .before .variant-name in
+    meeting.landed
+    (meeting.say (contract.nameShown (args .s .now)) contract.nameSaid ((c .before .before .name) .given .1)
+    (variant-name .ensures))
 
 enum-known-r-2 : tie.Need-enum-known-r-2
 enum-known-r-2 c = search needs
@@ -51,7 +53,12 @@ enum-known-fields : tie.Need-enum-known-fields
 enum-known-fields c = search needs
 
 variant-value-requires : tie.Need-variant-value-requires
-variant-value-requires c κs = meeting.landed (meeting.say (contract.fieldsShown ((c .before .before .before .before .before .before .before .before .before .before .before .before .before .before .before .before .before .args) .s .now)) contract.fieldsSaid ((c .before .before .fields) .given .1) ((c .before .before .before .before .before .before .variant-fields) .ensures))
+variant-value-requires c κs =
+    let args = c .before .before .before .before .before .before .before .before .before .before .before .before .before .before .before .before .before .args in
+    let variant-fields = c .before .before .before .before .before .before .variant-fields in
+    meeting.landed
+    (meeting.say (contract.fieldsShown (args .s .now)) contract.fieldsSaid ((c .before .before .fields) .given .1)
+    (variant-fields .ensures))
 
 enum-known-r-3 : tie.Need-enum-known-r-3
 enum-known-r-3 c = search needs
@@ -63,29 +70,83 @@ same-length : tie.Need-same-length
 same-length c = search needs
 
 returns : tie.Need-returns
-returns c = meeting.meets-as (split ((c .before .before .before .before .before .before .before .before .before .args) .c .row) (contract.stream ((c .before .before .before .before .before .before .before .before .before .args) .s .now) ((c .before .before .before .before .before .before .before .before .before .args) .c))) (meeting.meets-no rest (meeting.say (contract.nameShown ((c .before .before .before .before .before .before .before .before .before .args) .s .now)) contract.nameSaid ((c .before .r) .given .1) ((c .before .before .before .before .before .variant-name) .ensures)))
+returns c =
+    let args = c .before .before .before .before .before .before .before .before .before .args in
+    let variant-name = c .before .before .before .before .before .variant-name in
+    meeting.meets-as (split (args .c .row) (contract.stream (args .s .now) (args .c)))
+    (meeting.meets-no rest
+    (meeting.say (contract.nameShown (args .s .now)) contract.nameSaid ((c .before .r) .given .1)
+    (variant-name .ensures)))
 
 same-length-2 : tie.Need-same-length-2
 same-length-2 c = search needs
 
 returns-2 : tie.Need-returns-2
-returns-2 c = meeting.meets-as (split ((c .before .before .before .before .before .before .before .before .before .before .before .before .before .before .before .before .args) .c .row) (contract.stream ((c .before .before .before .before .before .before .before .before .before .before .before .before .before .before .before .before .args) .s .now) ((c .before .before .before .before .before .before .before .before .before .before .before .before .before .before .before .before .args) .c))) (meeting.meets-then rest (meeting.say (contract.nameShown ((c .before .before .before .before .before .before .before .before .before .before .before .before .before .before .before .before .args) .s .now)) contract.nameSaid ((c .before .before .before .before .before .before .before .before .name) .given .1) ((c .before .before .before .before .before .before .before .before .before .before .before .before .variant-name) .ensures)) (λ n h. meeting.meets-no (valued n) (meeting.say (contract.fieldsShown ((c .before .before .before .before .before .before .before .before .before .before .before .before .before .before .before .before .args) .s .now)) contract.fieldsSaid ((c .before .r2) .given .1) ((c .before .before .before .before .before .variant-fields) .ensures))))
+returns-2 c =
+    let args = c .before .before .before .before .before .before .before .before .before .before .before .before .before .before .before .before .args in
+    let variant-name = c .before .before .before .before .before .before .before .before .before .before .before .before .variant-name in
+    let name = c .before .before .before .before .before .before .before .before .name in
+    let variant-fields = c .before .before .before .before .before .variant-fields in
+    meeting.meets-as (split (args .c .row) (contract.stream (args .s .now) (args .c)))
+    (meeting.meets-then rest
+    (meeting.say (contract.nameShown (args .s .now)) contract.nameSaid (name .given .1) (variant-name .ensures))
+    (λ n h.
+    meeting.meets-no (valued n)
+    (meeting.say (contract.fieldsShown (args .s .now)) contract.fieldsSaid ((c .before .r2) .given .1)
+    (variant-fields .ensures))))
 
 same-length-3 : tie.Need-same-length-3
 same-length-3 c = search needs
 
 returns-3 : tie.Need-returns-3
 returns-3 c =
-    let e = (c .before .before .before .before .before .before .before .before .fields) .given .0 .1 .0 in
-    meeting.meets-as (split ((c .before .before .before .before .before .before .before .before .before .before .before .before .before .before .before .before .before .before .before .before .before .before .before .args) .c .row) (contract.stream ((c .before .before .before .before .before .before .before .before .before .before .before .before .before .before .before .before .before .before .before .before .before .before .before .args) .s .now) ((c .before .before .before .before .before .before .before .before .before .before .before .before .before .before .before .before .before .before .before .before .before .before .before .args) .c))) (meeting.meets-then rest (meeting.say (contract.nameShown ((c .before .before .before .before .before .before .before .before .before .before .before .before .before .before .before .before .before .before .before .before .before .before .before .args) .s .now)) contract.nameSaid ((c .before .before .before .before .before .before .before .before .before .before .before .before .before .before .before .name) .given .1) ((c .before .before .before .before .before .before .before .before .before .before .before .before .before .before .before .before .before .before .before .variant-name) .ensures)) (λ n h. meeting.meets-then (valued n) (meeting.say (contract.fieldsShown ((c .before .before .before .before .before .before .before .before .before .before .before .before .before .before .before .before .before .before .before .before .before .before .before .args) .s .now)) contract.fieldsSaid ((c .before .before .before .before .before .before .before .before .fields) .given .1) ((c .before .before .before .before .before .before .before .before .before .before .before .before .variant-fields) .ensures)) (λ f k. meeting.meets-as (bodies.comma-as (e .row) (reading.valueIf (e .row) (contract.stream ((c .before .before .before .before .before .before .before .before .before .before .before .before .before .before .before .before .before .before .before .before .before .before .before .args) .s .now) e)) (made n f)) (meeting.meets-no _ (meeting.say (contract.valueShown ((c .before .before .before .before .before .before .before .before .before .before .before .before .before .before .before .before .before .before .before .before .before .before .before .args) .s .now)) contract.valueSaid ((c .before .r3) .given .1) ((c .before .before .before .before .before .variant-value) .ensures))))))
+    let args = c .before .before .before .before .before .before .before .before .before .before .before .before .before .before .before .before .before .before .before .before .before .before .before .args in
+    let variant-name = c .before .before .before .before .before .before .before .before .before .before .before .before .before .before .before .before .before .before .before .variant-name in
+    let name = c .before .before .before .before .before .before .before .before .before .before .before .before .before .before .before .name in
+    let variant-fields = c .before .before .before .before .before .before .before .before .before .before .before .before .variant-fields in
+    let fields = c .before .before .before .before .before .before .before .before .fields in
+    let variant-value = c .before .before .before .before .before .variant-value in
+    let e = fields .given .0 .1 .0 in
+    meeting.meets-as (split (args .c .row) (contract.stream (args .s .now) (args .c)))
+    (meeting.meets-then rest
+    (meeting.say (contract.nameShown (args .s .now)) contract.nameSaid (name .given .1) (variant-name .ensures))
+    (λ n h.
+    meeting.meets-then (valued n)
+    (meeting.say (contract.fieldsShown (args .s .now)) contract.fieldsSaid (fields .given .1)
+    (variant-fields .ensures))
+    (λ f k.
+    meeting.meets-as
+    (bodies.comma-as (e .row) (reading.valueIf (e .row) (contract.stream (args .s .now) e)) (made n f))
+    (meeting.meets-no _
+    (meeting.say (contract.valueShown (args .s .now)) contract.valueSaid ((c .before .r3) .given .1)
+    (variant-value .ensures))))))
 
 same-length-4 : tie.Need-same-length-4
 same-length-4 c = search needs
 
 returns-4 : tie.Need-returns-4
 returns-4 c =
-    let e = (c .before .before .before .before .before .before .before .before .fields) .given .0 .1 .0 in
-    meeting.meets-as (split ((c .before .before .before .before .before .before .before .before .before .before .before .before .before .before .before .before .before .before .before .before .before .before .before .args) .c .row) (contract.stream ((c .before .before .before .before .before .before .before .before .before .before .before .before .before .before .before .before .before .before .before .before .before .before .before .args) .s .now) ((c .before .before .before .before .before .before .before .before .before .before .before .before .before .before .before .before .before .before .before .before .before .before .before .args) .c))) (meeting.meets-then rest (meeting.say (contract.nameShown ((c .before .before .before .before .before .before .before .before .before .before .before .before .before .before .before .before .before .before .before .before .before .before .before .args) .s .now)) contract.nameSaid ((c .before .before .before .before .before .before .before .before .before .before .before .before .before .before .before .name) .given .1) ((c .before .before .before .before .before .before .before .before .before .before .before .before .before .before .before .before .before .before .before .variant-name) .ensures)) (λ n h. meeting.meets-then (valued n) (meeting.say (contract.fieldsShown ((c .before .before .before .before .before .before .before .before .before .before .before .before .before .before .before .before .before .before .before .before .before .before .before .args) .s .now)) contract.fieldsSaid ((c .before .before .before .before .before .before .before .before .fields) .given .1) ((c .before .before .before .before .before .before .before .before .before .before .before .before .variant-fields) .ensures)) (λ f k. meeting.meets-as (bodies.comma-as (e .row) (reading.valueIf (e .row) (contract.stream ((c .before .before .before .before .before .before .before .before .before .before .before .before .before .before .before .before .before .before .before .before .before .before .before .args) .s .now) e)) (made n f)) (meeting.meets-map (e .row) (λ v. reading.one (made n f v)) (λ v w. (made n f v, refl, record { name = h; fields = k; value = w })) (meeting.say (contract.valueShown ((c .before .before .before .before .before .before .before .before .before .before .before .before .before .before .before .before .before .before .before .before .before .before .before .args) .s .now)) contract.valueSaid ((c .before .value) .given .1) ((c .before .before .before .before .before .variant-value) .ensures))))))
+    let args = c .before .before .before .before .before .before .before .before .before .before .before .before .before .before .before .before .before .before .before .before .before .before .before .args in
+    let variant-name = c .before .before .before .before .before .before .before .before .before .before .before .before .before .before .before .before .before .before .before .variant-name in
+    let name-2 = c .before .before .before .before .before .before .before .before .before .before .before .before .before .before .before .name in
+    let variant-fields = c .before .before .before .before .before .before .before .before .before .before .before .before .variant-fields in
+    let fields-2 = c .before .before .before .before .before .before .before .before .fields in
+    let variant-value = c .before .before .before .before .before .variant-value in
+    let e = fields-2 .given .0 .1 .0 in
+    meeting.meets-as (split (args .c .row) (contract.stream (args .s .now) (args .c)))
+    (meeting.meets-then rest
+    (meeting.say (contract.nameShown (args .s .now)) contract.nameSaid (name-2 .given .1) (variant-name .ensures))
+    (λ n h.
+    meeting.meets-then (valued n)
+    (meeting.say (contract.fieldsShown (args .s .now)) contract.fieldsSaid (fields-2 .given .1)
+    (variant-fields .ensures))
+    (λ f k.
+    meeting.meets-as
+    (bodies.comma-as (e .row) (reading.valueIf (e .row) (contract.stream (args .s .now) e)) (made n f))
+    (meeting.meets-map (e .row) (λ v. reading.one (made n f v))
+    (λ v w. (made n f v, refl, record { name = h; fields = k; value = w }))
+    (meeting.say (contract.valueShown (args .s .now)) contract.valueSaid ((c .before .value) .given .1)
+    (variant-value .ensures))))))
 
 pub variant-here-spec : {M : Type 1} → statement M
 variant-here-spec =

@@ -4,12 +4,6 @@ use mathlib.Core.List.{List}
 use Rattle.parse.proofs.Meeting as meeting
 use Rattle.parse.specs.Contract as contract
 use Rattle.reading.specs.Reading as reading
-use Rattle.token_list.proofs.Texts.{chosen, passed-over, and-last, and-fails}
-use Rattle.token_list.specs.Contract.{InList}
-use borrow.Author.Tests.{eq-eqb, ne-eqb, not-true, not-false}
-use native.Mathlib.Omega.{arith}
-use mathlib.Core.Bool.{true, false}
-use mathlib.Core.Path.{_≡_, refl, sym, _∙_, ap, subst, subst⁻¹}
 use borrow.Author.Needs.{needs}
 use Rattle.parse.proofs.body.variant_name.Statement.{statement}
 use Rattle.parse.proofs.body.variant_name.Tie as tie
@@ -27,13 +21,19 @@ enum-known-d : tie.Need-enum-known-d
 enum-known-d c = search needs
 
 consume-ident-requires : tie.Need-consume-ident-requires
-consume-ident-requires c κs = meeting.landed (meeting.say (λ x. contract.any) contract.stepSaid ((c .before .before .d) .given .1) ((c .before .before .before .before .before .before .try-take) .ensures))
+consume-ident-requires c κs =
+    let try-take = c .before .before .before .before .before .before .try-take in
+    meeting.landed
+    (meeting.say (λ x. contract.any) contract.stepSaid ((c .before .before .d) .given .1) (try-take .ensures))
 
 enum-told : tie.Need-enum-told
 enum-told c = search needs
 
 wrong-token-requires : tie.Need-wrong-token-requires
-wrong-token-requires c κs = meeting.landed (meeting.say (λ x. contract.any) contract.stepSaid ((c .before .before .before .before .before .before .before .d) .given .1) ((c .before .before .before .before .before .before .before .before .before .before .before .try-take) .ensures))
+wrong-token-requires c κs =
+    let try-take = c .before .before .before .before .before .before .before .before .before .before .before .try-take in
+    let d = c .before .before .before .before .before .before .before .d in
+    meeting.landed (meeting.say (λ x. contract.any) contract.stepSaid (d .given .1) (try-take .ensures))
 
 enum-known-w : tie.Need-enum-known-w
 enum-known-w c = search needs
@@ -42,19 +42,39 @@ same-length : tie.Need-same-length
 same-length c = search needs
 
 returns : tie.Need-returns
-returns c = meeting.meets-no name (meeting.say (λ x. contract.any) contract.stepSaid ((c .before .r) .given .1) ((c .before .before .before .before .before .try-take) .ensures))
+returns c =
+    let try-take = c .before .before .before .before .before .try-take in
+    meeting.meets-no name
+    (meeting.say (λ x. contract.any) contract.stepSaid ((c .before .r) .given .1) (try-take .ensures))
 
 same-length-2 : tie.Need-same-length-2
 same-length-2 c = search needs
 
 returns-2 : tie.Need-returns-2
-returns-2 c = meeting.meets-then name (meeting.say (λ x. contract.any) contract.stepSaid ((c .before .before .before .before .before .before .before .before .d) .given .1) ((c .before .before .before .before .before .before .before .before .before .before .before .before .try-take) .ensures)) (λ u h. meeting.meets-missing reading.named! (meeting.say-word ((c .before .enum-told) .given .1) ((c .before .before .before .before .before .consume-ident) .ensures)) (meeting.meets-wrong _ _ ((c .wrong-token) .ensures)))
+returns-2 c =
+    let try-take = c .before .before .before .before .before .before .before .before .before .before .before .before .try-take in
+    let d = c .before .before .before .before .before .before .before .before .d in
+    let consume-ident = c .before .before .before .before .before .consume-ident in
+    meeting.meets-then name (meeting.say (λ x. contract.any) contract.stepSaid (d .given .1) (try-take .ensures))
+    (λ u h.
+    meeting.meets-missing reading.named!
+    (meeting.say-word ((c .before .enum-told) .given .1) (consume-ident .ensures))
+    (meeting.meets-wrong _ _ ((c .wrong-token) .ensures)))
 
 same-length-3 : tie.Need-same-length-3
 same-length-3 c = search needs
 
 returns-3 : tie.Need-returns-3
-returns-3 c = meeting.meets-then name (meeting.say (λ x. contract.any) contract.stepSaid ((c .before .before .before .before .before .before .before .before .before .before .d) .given .1) ((c .before .before .before .before .before .before .before .before .before .before .before .before .before .before .try-take) .ensures)) (λ u h. meeting.meets-word reading.named! _ (meeting.say-word ((c .before .before .before .w) .given .1) ((c .before .before .before .before .before .before .before .consume-ident) .ensures)) (λ text k. meeting.meets-stay _ _ _ _ _ (meeting.landed (meeting.say-word ((c .before .before .before .w) .given .1) ((c .before .before .before .before .before .before .before .consume-ident) .ensures))) k))
+returns-3 c =
+    let try-take = c .before .before .before .before .before .before .before .before .before .before .before .before .before .before .try-take in
+    let d = c .before .before .before .before .before .before .before .before .before .before .d in
+    let consume-ident = c .before .before .before .before .before .before .before .consume-ident in
+    let w = c .before .before .before .w in
+    meeting.meets-then name (meeting.say (λ x. contract.any) contract.stepSaid (d .given .1) (try-take .ensures))
+    (λ u h.
+    meeting.meets-word reading.named! _ (meeting.say-word (w .given .1) (consume-ident .ensures))
+    (λ text k.
+    meeting.meets-stay _ _ _ _ _ (meeting.landed (meeting.say-word (w .given .1) (consume-ident .ensures))) k))
 
 pub variant-name-spec : {M : Type 1} → statement M
 variant-name-spec =

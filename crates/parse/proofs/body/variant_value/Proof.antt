@@ -2,12 +2,6 @@ use Rattle.parse.proofs.Bodies as bodies
 use Rattle.parse.proofs.Meeting as meeting
 use Rattle.parse.specs.Contract as contract
 use Rattle.reading.specs.Reading as reading
-use Rattle.token_list.proofs.Texts.{chosen, passed-over, and-last, and-fails}
-use Rattle.token_list.specs.Contract.{InList}
-use borrow.Author.Tests.{eq-eqb, ne-eqb, not-true, not-false}
-use native.Mathlib.Omega.{arith}
-use mathlib.Core.Bool.{true, false}
-use mathlib.Core.Path.{_≡_, refl, sym, _∙_, ap, subst, subst⁻¹}
 use borrow.Author.Needs.{needs}
 use Rattle.parse.proofs.body.variant_value.Statement.{statement}
 use Rattle.parse.proofs.body.variant_value.Tie as tie
@@ -22,19 +16,35 @@ enum-known-v : tie.Need-enum-known-v
 enum-known-v c = search needs
 
 consume-punct-if-requires : tie.Need-consume-punct-if-requires
-consume-punct-if-requires c κs = meeting.landed (meeting.say (contract.valueShown ((c .before .before .before .before .before .before .before .before .before .before .args) .s .now)) contract.valueSaid ((c .before .before .v) .given .1) ((c .before .before .before .before .before .before .value-if) .ensures))
+consume-punct-if-requires c κs =
+    let args = c .before .before .before .before .before .before .before .before .before .before .args in
+    let value-if = c .before .before .before .before .before .before .value-if in
+    meeting.landed
+    (meeting.say (contract.valueShown (args .s .now)) contract.valueSaid ((c .before .before .v) .given .1)
+    (value-if .ensures))
 
 same-length : tie.Need-same-length
 same-length c = search needs
 
 returns : tie.Need-returns
-returns c = meeting.meets-no bodies.commaAfter (meeting.say (contract.valueShown ((c .before .before .before .before .before .before .before .before .before .args) .s .now)) contract.valueSaid ((c .before .r) .given .1) ((c .before .before .before .before .before .value-if) .ensures))
+returns c =
+    let args = c .before .before .before .before .before .before .before .before .before .args in
+    let value-if = c .before .before .before .before .before .value-if in
+    meeting.meets-no bodies.commaAfter
+    (meeting.say (contract.valueShown (args .s .now)) contract.valueSaid ((c .before .r) .given .1)
+    (value-if .ensures))
 
 same-length-2 : tie.Need-same-length-2
 same-length-2 c = search needs
 
 returns-2 : tie.Need-returns-2
-returns-2 c = meeting.meets-then bodies.commaAfter (meeting.say (contract.valueShown ((c .before .before .before .before .before .before .before .before .before .before .before .before .before .before .args) .s .now)) contract.valueSaid ((c .before .before .before .before .before .before .v) .given .1) ((c .before .before .before .before .before .before .before .before .before .before .value-if) .ensures)) (λ a h. meeting.meets-map _ (λ u. a) (λ u k. h) ((c .before .before .before .consume-punct-if) .ensures))
+returns-2 c =
+    let args = c .before .before .before .before .before .before .before .before .before .before .before .before .before .before .args in
+    let value-if = c .before .before .before .before .before .before .before .before .before .before .value-if in
+    let v = c .before .before .before .before .before .before .v in
+    meeting.meets-then bodies.commaAfter
+    (meeting.say (contract.valueShown (args .s .now)) contract.valueSaid (v .given .1) (value-if .ensures))
+    (λ a h. meeting.meets-map _ (λ u. a) (λ u k. h) ((c .before .before .before .consume-punct-if) .ensures))
 
 pub variant-value-spec : {M : Type 1} → statement M
 variant-value-spec =

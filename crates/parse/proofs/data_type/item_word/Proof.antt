@@ -3,12 +3,7 @@ use Rattle.token_list.specs.Text.{same}
 use Rattle.parse.proofs.Meeting as meeting
 use Rattle.parse.specs.Contract as contract
 use Rattle.reading.specs.Reading as reading
-use Rattle.token_list.proofs.Texts.{chosen, passed-over, and-last, and-fails}
-use Rattle.token_list.specs.Contract.{InList}
-use borrow.Author.Tests.{eq-eqb, ne-eqb, not-true, not-false}
-use native.Mathlib.Omega.{arith}
-use mathlib.Core.Bool.{true, false}
-use mathlib.Core.Path.{_≡_, refl, sym, _∙_, ap, subst, subst⁻¹}
+use mathlib.Core.Path.{refl, sym, _∙_, ap}
 use borrow.Author.Needs.{needs}
 use Rattle.parse.proofs.data_type.item_word.Statement.{statement}
 use Rattle.parse.proofs.data_type.item_word.Tie as tie
@@ -35,7 +30,17 @@ same-length : tie.Need-same-length
 same-length c = search needs
 
 returns : tie.Need-returns
-returns c = meeting.meets-word reading.kindOf _ (meeting.say-word ((c .before .before .before .before .before .before .w) .given .1) ((c .before .before .before .before .before .before .before .before .before .before .consume-ident) .ensures)) (λ text h. meeting.meets-as (heads.kind-struct text ((c .before .before .before .before .before .before .w) .given .0 .0 .row) ((c .before .before .before .before .before .before .w) .given .0 .0 .next .row) (contract.stream (c .before .before .before .before .before .before .before .before .before .before .before .before .before .before .args .s .now) ((c .before .before .before .before .before .before .w) .given .0 .0 .next)) (ap (λ x. same x reading.STRUCT) (h .bytes) ∙ sym ((c .before .text-is) .ensures) ∙ (c .if1) .taken)) (meeting.meets-stay _ _ _ _ _ (meeting.landed (meeting.say-word ((c .before .before .before .before .before .before .w) .given .1) ((c .before .before .before .before .before .before .before .before .before .before .consume-ident) .ensures))) refl))
+returns c =
+    let args = c .before .before .before .before .before .before .before .before .before .before .before .before .before .before .args in
+    let consume-ident = c .before .before .before .before .before .before .before .before .before .before .consume-ident in
+    let w = c .before .before .before .before .before .before .w in
+    meeting.meets-word reading.kindOf _ (meeting.say-word (w .given .1) (consume-ident .ensures))
+    (λ text h.
+    meeting.meets-as
+    (heads.kind-struct text (w .given .0 .0 .row) (w .given .0 .0 .next .row)
+    (contract.stream (args .s .now) (w .given .0 .0 .next))
+    (ap (λ x. same x reading.STRUCT) (h .bytes) ∙ sym ((c .before .text-is) .ensures) ∙ (c .if1) .taken))
+    (meeting.meets-stay _ _ _ _ _ (meeting.landed (meeting.say-word (w .given .1) (consume-ident .ensures))) refl))
 
 slice-aggregate-text-is-2 : tie.Need-slice-aggregate-text-is-2
 slice-aggregate-text-is-2 c = search needs
@@ -47,19 +52,48 @@ same-length-2 : tie.Need-same-length-2
 same-length-2 c = search needs
 
 returns-2 : tie.Need-returns-2
-returns-2 c = meeting.meets-word reading.kindOf _ (meeting.say-word ((c .before .before .before .before .before .before .before .before .before .w) .given .1) ((c .before .before .before .before .before .before .before .before .before .before .before .before .before .consume-ident) .ensures)) (λ text h. meeting.meets-as (heads.kind-enum text ((c .before .before .before .before .before .before .before .before .before .w) .given .0 .0 .row) ((c .before .before .before .before .before .before .before .before .before .w) .given .0 .0 .next .row) (contract.stream (c .before .before .before .before .before .before .before .before .before .before .before .before .before .before .before .before .before .args .s .now) ((c .before .before .before .before .before .before .before .before .before .w) .given .0 .0 .next)) (ap (λ x. same x reading.STRUCT) (h .bytes) ∙ sym ((c .before .before .before .before .text-is) .ensures) ∙ (c .before .before .before .if1) .left) (ap (λ x. same x reading.ENUM) (h .bytes) ∙ sym ((c .before .text-is2) .ensures) ∙ (c .if2) .taken)) (meeting.meets-stay _ _ _ _ _ (meeting.landed (meeting.say-word ((c .before .before .before .before .before .before .before .before .before .w) .given .1) ((c .before .before .before .before .before .before .before .before .before .before .before .before .before .consume-ident) .ensures))) refl))
+returns-2 c =
+    let args = c .before .before .before .before .before .before .before .before .before .before .before .before .before .before .before .before .before .args in
+    let consume-ident = c .before .before .before .before .before .before .before .before .before .before .before .before .before .consume-ident in
+    let w = c .before .before .before .before .before .before .before .before .before .w in
+    let text-is = c .before .before .before .before .text-is in
+    meeting.meets-word reading.kindOf _ (meeting.say-word (w .given .1) (consume-ident .ensures))
+    (λ text h.
+    meeting.meets-as
+    (heads.kind-enum text (w .given .0 .0 .row) (w .given .0 .0 .next .row)
+    (contract.stream (args .s .now) (w .given .0 .0 .next))
+    (ap (λ x. same x reading.STRUCT) (h .bytes) ∙ sym
+    (text-is .ensures) ∙ (c .before .before .before .if1) .left)
+    (ap (λ x. same x reading.ENUM) (h .bytes) ∙ sym ((c .before .text-is2) .ensures) ∙ (c .if2) .taken))
+    (meeting.meets-stay _ _ _ _ _ (meeting.landed (meeting.say-word (w .given .1) (consume-ident .ensures))) refl))
 
 same-length-3 : tie.Need-same-length-3
 same-length-3 c = search needs
 
 returns-3 : tie.Need-returns-3
-returns-3 c = meeting.meets-missing reading.kindOf (meeting.say-word ((c .before .enum-told) .given .1) ((c .before .before .before .before .before .consume-ident) .ensures)) (meeting.meets-wrong _ _ ((c .wrong-token) .ensures))
+returns-3 c =
+    let consume-ident = c .before .before .before .before .before .consume-ident in
+    meeting.meets-missing reading.kindOf (meeting.say-word ((c .before .enum-told) .given .1) (consume-ident .ensures))
+    (meeting.meets-wrong _ _ ((c .wrong-token) .ensures))
 
 same-length-4 : tie.Need-same-length-4
 same-length-4 c = search needs
 
 returns-4 : tie.Need-returns-4
-returns-4 c = meeting.meets-word reading.kindOf _ (meeting.say-word ((c .before .before .before .before .before .before .before .before .before .w) .given .1) ((c .before .before .before .before .before .before .before .before .before .before .before .before .before .consume-ident) .ensures)) (λ text h. meeting.meets-as (heads.kind-other text ((c .before .before .before .before .before .before .before .before .before .w) .given .0 .0 .row) ((c .before .before .before .before .before .before .before .before .before .w) .given .0 .0 .next .row) (contract.stream (c .before .before .before .before .before .before .before .before .before .before .before .before .before .before .before .before .before .args .s .now) ((c .before .before .before .before .before .before .before .before .before .w) .given .0 .0 .next)) (ap (λ x. same x reading.STRUCT) (h .bytes) ∙ sym ((c .before .before .before .before .text-is) .ensures) ∙ (c .before .before .before .if1) .left) (ap (λ x. same x reading.ENUM) (h .bytes) ∙ sym ((c .before .text-is2) .ensures) ∙ (c .if2) .left)) contract.refuses)
+returns-4 c =
+    let args = c .before .before .before .before .before .before .before .before .before .before .before .before .before .before .before .before .before .args in
+    let consume-ident = c .before .before .before .before .before .before .before .before .before .before .before .before .before .consume-ident in
+    let w = c .before .before .before .before .before .before .before .before .before .w in
+    let text-is = c .before .before .before .before .text-is in
+    meeting.meets-word reading.kindOf _ (meeting.say-word (w .given .1) (consume-ident .ensures))
+    (λ text h.
+    meeting.meets-as
+    (heads.kind-other text (w .given .0 .0 .row) (w .given .0 .0 .next .row)
+    (contract.stream (args .s .now) (w .given .0 .0 .next))
+    (ap (λ x. same x reading.STRUCT) (h .bytes) ∙ sym
+    (text-is .ensures) ∙ (c .before .before .before .if1) .left)
+    (ap (λ x. same x reading.ENUM) (h .bytes) ∙ sym ((c .before .text-is2) .ensures) ∙ (c .if2) .left))
+    contract.refuses)
 
 pub item-word-spec : {M : Type 1} → statement M
 item-word-spec =

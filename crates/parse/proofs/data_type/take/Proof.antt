@@ -10,12 +10,7 @@ use mathlib.Core.List.{List}
 use Rattle.parse.proofs.Meeting as meeting
 use Rattle.parse.specs.Contract as contract
 use Rattle.reading.specs.Reading as reading
-use Rattle.token_list.proofs.Texts.{chosen, passed-over, and-last, and-fails}
-use Rattle.token_list.specs.Contract.{InList}
-use borrow.Author.Tests.{eq-eqb, ne-eqb, not-true, not-false}
-use native.Mathlib.Omega.{arith}
-use mathlib.Core.Bool.{true, false}
-use mathlib.Core.Path.{_≡_, refl, sym, _∙_, ap, subst, subst⁻¹}
+use mathlib.Core.Path.{_≡_, sym, subst}
 use borrow.Author.Needs.{needs}
 use Rattle.parse.proofs.data_type.take.Statement.{statement}
 use Rattle.parse.proofs.data_type.take.Tie as tie
@@ -46,13 +41,18 @@ enum-known-kind : tie.Need-enum-known-kind
 enum-known-kind c = search needs
 
 consume-ident-requires : tie.Need-consume-ident-requires
-consume-ident-requires c κs = meeting.landed (said ((c .before .before .kind) .given .1) ((c .before .before .before .before .before .before .item-word) .ensures))
+consume-ident-requires c κs =
+    let item-word = c .before .before .before .before .before .before .item-word in
+    meeting.landed (said ((c .before .before .kind) .given .1) (item-word .ensures))
 
 enum-told : tie.Need-enum-told
 enum-told c = search needs
 
 wrong-token-requires : tie.Need-wrong-token-requires
-wrong-token-requires c κs = meeting.landed (said ((c .before .before .before .before .before .before .before .kind) .given .1) ((c .before .before .before .before .before .before .before .before .before .before .before .item-word) .ensures))
+wrong-token-requires c κs =
+    let item-word = c .before .before .before .before .before .before .before .before .before .before .before .item-word in
+    let kind = c .before .before .before .before .before .before .before .kind in
+    meeting.landed (said (kind .given .1) (item-word .ensures))
 
 enum-known-w : tie.Need-enum-known-w
 enum-known-w c = search needs
@@ -61,19 +61,44 @@ same-length : tie.Need-same-length
 same-length c = search needs
 
 returns : tie.Need-returns
-returns c = meeting.meets-as (split ((c .before .before .before .before .before .before .before .before .before .args) .c .row) (contract.stream ((c .before .before .before .before .before .before .before .before .before .args) .s .now) ((c .before .before .before .before .before .before .before .before .before .args) .c))) (meeting.meets-no rest (said ((c .before .r) .given .1) ((c .before .before .before .before .before .item-word) .ensures)))
+returns c =
+    let args = c .before .before .before .before .before .before .before .before .before .args in
+    let item-word = c .before .before .before .before .before .item-word in
+    meeting.meets-as (split (args .c .row) (contract.stream (args .s .now) (args .c)))
+    (meeting.meets-no rest (said ((c .before .r) .given .1) (item-word .ensures)))
 
 same-length-2 : tie.Need-same-length-2
 same-length-2 c = search needs
 
 returns-2 : tie.Need-returns-2
-returns-2 c = meeting.meets-as (split ((c .before .before .before .before .before .before .before .before .before .before .before .before .before .before .before .before .args) .c .row) (contract.stream ((c .before .before .before .before .before .before .before .before .before .before .before .before .before .before .before .before .args) .s .now) ((c .before .before .before .before .before .before .before .before .before .before .before .before .before .before .before .before .args) .c))) (meeting.meets-then rest (said ((c .before .before .before .before .before .before .before .before .kind) .given .1) ((c .before .before .before .before .before .before .before .before .before .before .before .before .item-word) .ensures)) (λ k h. meeting.meets-missing (name k) (meeting.say-word ((c .before .enum-told) .given .1) ((c .before .before .before .before .before .consume-ident) .ensures)) (meeting.meets-wrong _ _ ((c .wrong-token) .ensures))))
+returns-2 c =
+    let args = c .before .before .before .before .before .before .before .before .before .before .before .before .before .before .before .before .args in
+    let item-word = c .before .before .before .before .before .before .before .before .before .before .before .before .item-word in
+    let kind = c .before .before .before .before .before .before .before .before .kind in
+    let consume-ident = c .before .before .before .before .before .consume-ident in
+    meeting.meets-as (split (args .c .row) (contract.stream (args .s .now) (args .c)))
+    (meeting.meets-then rest (said (kind .given .1) (item-word .ensures))
+    (λ k h.
+    meeting.meets-missing (name k) (meeting.say-word ((c .before .enum-told) .given .1) (consume-ident .ensures))
+    (meeting.meets-wrong _ _ ((c .wrong-token) .ensures))))
 
 same-length-3 : tie.Need-same-length-3
 same-length-3 c = search needs
 
 returns-3 : tie.Need-returns-3
-returns-3 c = meeting.meets-as (split ((c .before .before .before .before .before .before .before .before .before .before .before .before .before .before .before .before .before .before .args) .c .row) (contract.stream ((c .before .before .before .before .before .before .before .before .before .before .before .before .before .before .before .before .before .before .args) .s .now) ((c .before .before .before .before .before .before .before .before .before .before .before .before .before .before .before .before .before .before .args) .c))) (meeting.meets-then rest (said ((c .before .before .before .before .before .before .before .before .before .before .kind) .given .1) ((c .before .before .before .before .before .before .before .before .before .before .before .before .before .before .item-word) .ensures)) (λ k h. meeting.meets-word (name k) _ (meeting.say-word ((c .before .before .before .w) .given .1) ((c .before .before .before .before .before .before .before .consume-ident) .ensures)) (λ text x. meeting.meets-stay _ _ _ _ _ (meeting.landed (meeting.say-word ((c .before .before .before .w) .given .1) ((c .before .before .before .before .before .before .before .consume-ident) .ensures))) (h, x))))
+returns-3 c =
+    let args = c .before .before .before .before .before .before .before .before .before .before .before .before .before .before .before .before .before .before .args in
+    let item-word = c .before .before .before .before .before .before .before .before .before .before .before .before .before .before .item-word in
+    let kind = c .before .before .before .before .before .before .before .before .before .before .kind in
+    let consume-ident = c .before .before .before .before .before .before .before .consume-ident in
+    let w = c .before .before .before .w in
+    meeting.meets-as (split (args .c .row) (contract.stream (args .s .now) (args .c)))
+    (meeting.meets-then rest (said (kind .given .1) (item-word .ensures))
+    (λ k h.
+    meeting.meets-word (name k) _ (meeting.say-word (w .given .1) (consume-ident .ensures))
+    (λ text x.
+    meeting.meets-stay _ _ _ _ _ (meeting.landed (meeting.say-word (w .given .1) (consume-ident .ensures)))
+    (h, x))))
 
 pub take-spec : {M : Type 1} → statement M
 take-spec =

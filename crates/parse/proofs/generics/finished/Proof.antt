@@ -2,12 +2,7 @@ use Rattle.reading.specs.Took.{pure}
 use Rattle.parse.proofs.Meeting as meeting
 use Rattle.parse.specs.Contract as contract
 use Rattle.reading.specs.Reading as reading
-use Rattle.token_list.proofs.Texts.{chosen, passed-over, and-last, and-fails}
-use Rattle.token_list.specs.Contract.{InList}
-use borrow.Author.Tests.{eq-eqb, ne-eqb, not-true, not-false}
-use native.Mathlib.Omega.{arith}
-use mathlib.Core.Bool.{true, false}
-use mathlib.Core.Path.{_≡_, refl, sym, _∙_, ap, subst, subst⁻¹}
+use mathlib.Core.Path.{refl}
 use borrow.Author.Needs.{needs}
 use Rattle.parse.proofs.generics.finished.Statement.{statement}
 use Rattle.parse.proofs.generics.finished.Tie as tie
@@ -19,7 +14,11 @@ same-length : tie.Need-same-length
 same-length c = search needs
 
 returns : tie.Need-returns
-returns c = λ a h. meeting.meets-then (λ t. pure (reading.one a)) ((c .before .before .before .consume-punct-if) .ensures) (λ t x. meeting.meets-stay _ _ _ _ (reading.one a) (meeting.landed ((c .before .before .before .consume-punct-if) .ensures)) (a, refl, h))
+returns c =
+    let consume-punct-if = c .before .before .before .consume-punct-if in
+    λ a h.
+    meeting.meets-then (λ t. pure (reading.one a)) (consume-punct-if .ensures)
+    (λ t x. meeting.meets-stay _ _ _ _ (reading.one a) (meeting.landed (consume-punct-if .ensures)) (a, refl, h))
 
 pub finished-spec : {M : Type 1} → statement M
 finished-spec = tie.close (tie.spec consume-punct-if-requires same-length returns)

@@ -7,12 +7,8 @@ use mathlib.Core.List.{List}
 use Rattle.parse.proofs.Meeting as meeting
 use Rattle.parse.specs.Contract as contract
 use Rattle.reading.specs.Reading as reading
-use Rattle.token_list.proofs.Texts.{chosen, passed-over, and-last, and-fails}
-use Rattle.token_list.specs.Contract.{InList}
-use borrow.Author.Tests.{eq-eqb, ne-eqb, not-true, not-false}
-use native.Mathlib.Omega.{arith}
 use mathlib.Core.Bool.{Bool, true, false}
-use mathlib.Core.Path.{_≡_, refl, sym, _∙_, ap, subst, subst⁻¹}
+use mathlib.Core.Path.{refl}
 use borrow.Author.Needs.{needs}
 use Rattle.parse.proofs.generics.named_parameter.Statement.{statement}
 use Rattle.parse.proofs.generics.named_parameter.Tie as tie
@@ -40,7 +36,12 @@ enum-known-name : tie.Need-enum-known-name
 enum-known-name c = search needs
 
 marked-run-requires : tie.Need-marked-run-requires
-marked-run-requires c κs = meeting.landed (meeting.say (contract.namedShown ((c .before .before .before .before .before .before .before .before .before .before .args) .s .now)) contract.namedSaid ((c .before .before .name) .given .1) ((c .before .before .before .before .before .before .parameter-name) .ensures))
+marked-run-requires c κs =
+    let args = c .before .before .before .before .before .before .before .before .before .before .args in
+    let parameter-name = c .before .before .before .before .before .before .parameter-name in
+    meeting.landed
+    (meeting.say (contract.namedShown (args .s .now)) contract.namedSaid ((c .before .before .name) .given .1)
+    (parameter-name .ensures))
 
 enum-known-r-2 : tie.Need-enum-known-r-2
 enum-known-r-2 c = search needs
@@ -49,29 +50,80 @@ enum-known-e : tie.Need-enum-known-e
 enum-known-e c = search needs
 
 finished-requires : tie.Need-finished-requires
-finished-requires c κs = meeting.landed (meeting.say (λ x. contract.any) contract.stepSaid ((c .before .before .e) .given .1) ((c .before .before .before .before .before .before .marked-run) .ensures))
+finished-requires c κs =
+    let marked-run = c .before .before .before .before .before .before .marked-run in
+    meeting.landed
+    (meeting.say (λ x. contract.any) contract.stepSaid ((c .before .before .e) .given .1) (marked-run .ensures))
 
 same-length : tie.Need-same-length
 same-length c = search needs
 
 returns : tie.Need-returns
-returns c = meeting.meets-as (meeting.after-assoc ((c .before .before .before .before .before .before .before .before .before .args) .c .row) (reading.parameterName ((c .before .before .before .before .before .before .before .before .before .args) .number) ((c .before .before .before .before .before .before .before .before .before .args) .or) ((c .before .before .before .before .before .before .before .before .before .args) .c .row) (contract.stream ((c .before .before .before .before .before .before .before .before .before .args) .s .now) ((c .before .before .before .before .before .before .before .before .before .args) .c))) (made ((c .before .before .before .before .before .before .before .before .before .args) .lifetime)) reading.comma) (meeting.meets-no (rest ((c .before .before .before .before .before .before .before .before .before .args) .lifetime)) (meeting.say (contract.namedShown ((c .before .before .before .before .before .before .before .before .before .args) .s .now)) contract.namedSaid ((c .before .r) .given .1) ((c .before .before .before .before .before .parameter-name) .ensures)))
+returns c =
+    let args = c .before .before .before .before .before .before .before .before .before .args in
+    let parameter-name = c .before .before .before .before .before .parameter-name in
+    meeting.meets-as
+    (meeting.after-assoc (args .c .row)
+    (reading.parameterName (args .number) (args .or) (args .c .row) (contract.stream (args .s .now) (args .c)))
+    (made (args .lifetime)) reading.comma)
+    (meeting.meets-no (rest (args .lifetime))
+    (meeting.say (contract.namedShown (args .s .now)) contract.namedSaid ((c .before .r) .given .1)
+    (parameter-name .ensures)))
 
 same-length-2 : tie.Need-same-length-2
 same-length-2 c = search needs
 
 returns-2 : tie.Need-returns-2
 returns-2 c =
-    let d = (c .before .before .before .before .before .before .before .before .name) .given .0 .1 .0 in
-    meeting.meets-as (meeting.after-assoc ((c .before .before .before .before .before .before .before .before .before .before .before .before .before .before .before .before .args) .c .row) (reading.parameterName ((c .before .before .before .before .before .before .before .before .before .before .before .before .before .before .before .before .args) .number) ((c .before .before .before .before .before .before .before .before .before .before .before .before .before .before .before .before .args) .or) ((c .before .before .before .before .before .before .before .before .before .before .before .before .before .before .before .before .args) .c .row) (contract.stream ((c .before .before .before .before .before .before .before .before .before .before .before .before .before .before .before .before .args) .s .now) ((c .before .before .before .before .before .before .before .before .before .before .before .before .before .before .before .before .args) .c))) (made ((c .before .before .before .before .before .before .before .before .before .before .before .before .before .before .before .before .args) .lifetime)) reading.comma) (meeting.meets-then (rest ((c .before .before .before .before .before .before .before .before .before .before .before .before .before .before .before .before .args) .lifetime)) (meeting.say (contract.namedShown ((c .before .before .before .before .before .before .before .before .before .before .before .before .before .before .before .before .args) .s .now)) contract.namedSaid ((c .before .before .before .before .before .before .before .before .name) .given .1) ((c .before .before .before .before .before .before .before .before .before .before .before .before .parameter-name) .ensures)) (λ x h. meeting.meets-as (meeting.after-assoc (d .row) (reading.marked-run 58 (d .row) (contract.stream ((c .before .before .before .before .before .before .before .before .before .before .before .before .before .before .before .before .args) .s .now) d)) (λ b. pure (contract.parameterMade ((c .before .before .before .before .before .before .before .before .before .before .before .before .before .before .before .before .args) .lifetime) x b)) reading.comma) (meeting.meets-no (last ((c .before .before .before .before .before .before .before .before .before .before .before .before .before .before .before .before .args) .lifetime) x) (meeting.say (λ x. contract.any) contract.stepSaid ((c .before .r2) .given .1) ((c .before .before .before .before .before .marked-run) .ensures)))))
+    let args = c .before .before .before .before .before .before .before .before .before .before .before .before .before .before .before .before .args in
+    let parameter-name = c .before .before .before .before .before .before .before .before .before .before .before .before .parameter-name in
+    let name = c .before .before .before .before .before .before .before .before .name in
+    let marked-run = c .before .before .before .before .before .marked-run in
+    let d = name .given .0 .1 .0 in
+    meeting.meets-as
+    (meeting.after-assoc (args .c .row)
+    (reading.parameterName (args .number) (args .or) (args .c .row) (contract.stream (args .s .now) (args .c)))
+    (made (args .lifetime)) reading.comma)
+    (meeting.meets-then (rest (args .lifetime))
+    (meeting.say (contract.namedShown (args .s .now)) contract.namedSaid (name .given .1) (parameter-name .ensures))
+    (λ x h.
+    meeting.meets-as
+    (meeting.after-assoc (d .row) (reading.marked-run 58 (d .row) (contract.stream (args .s .now) d))
+    (λ b. pure (contract.parameterMade (args .lifetime) x b)) reading.comma)
+    (meeting.meets-no (last (args .lifetime) x)
+    (meeting.say (λ x. contract.any) contract.stepSaid ((c .before .r2) .given .1) (marked-run .ensures)))))
 
 same-length-3 : tie.Need-same-length-3
 same-length-3 c = search needs
 
 returns-3 : tie.Need-returns-3
 returns-3 c =
-    let d = (c .before .before .before .before .before .before .before .before .before .before .before .before .name) .given .0 .1 .0 in
-    meeting.meets-as (meeting.after-assoc ((c .before .before .before .before .before .before .before .before .before .before .before .before .before .before .before .before .before .before .before .before .args) .c .row) (reading.parameterName ((c .before .before .before .before .before .before .before .before .before .before .before .before .before .before .before .before .before .before .before .before .args) .number) ((c .before .before .before .before .before .before .before .before .before .before .before .before .before .before .before .before .before .before .before .before .args) .or) ((c .before .before .before .before .before .before .before .before .before .before .before .before .before .before .before .before .before .before .before .before .args) .c .row) (contract.stream ((c .before .before .before .before .before .before .before .before .before .before .before .before .before .before .before .before .before .before .before .before .args) .s .now) ((c .before .before .before .before .before .before .before .before .before .before .before .before .before .before .before .before .before .before .before .before .args) .c))) (made ((c .before .before .before .before .before .before .before .before .before .before .before .before .before .before .before .before .before .before .before .before .args) .lifetime)) reading.comma) (meeting.meets-then (rest ((c .before .before .before .before .before .before .before .before .before .before .before .before .before .before .before .before .before .before .before .before .args) .lifetime)) (meeting.say (contract.namedShown ((c .before .before .before .before .before .before .before .before .before .before .before .before .before .before .before .before .before .before .before .before .args) .s .now)) contract.namedSaid ((c .before .before .before .before .before .before .before .before .before .before .before .before .name) .given .1) ((c .before .before .before .before .before .before .before .before .before .before .before .before .before .before .before .before .parameter-name) .ensures)) (λ x h. meeting.meets-as (meeting.after-assoc (d .row) (reading.marked-run 58 (d .row) (contract.stream ((c .before .before .before .before .before .before .before .before .before .before .before .before .before .before .before .before .before .before .before .before .args) .s .now) d)) (λ b. pure (contract.parameterMade ((c .before .before .before .before .before .before .before .before .before .before .before .before .before .before .before .before .before .before .before .before .args) .lifetime) x b)) reading.comma) (meeting.meets-then (last ((c .before .before .before .before .before .before .before .before .before .before .before .before .before .before .before .before .before .before .before .before .args) .lifetime) x) (meeting.say (λ x. contract.any) contract.stepSaid ((c .before .before .before .before .before .e) .given .1) ((c .before .before .before .before .before .before .before .before .before .marked-run) .ensures)) (λ b u. meeting.meets-then reading.comma (meeting.meets-stay _ _ _ (contract.ParameterOf ((c .before .before .before .before .before .before .before .before .before .before .before .before .before .before .before .before .before .before .before .before .args) .s .now) ((c .before .before .before .before .before .before .before .before .before .before .before .before .before .before .before .before .before .before .before .before .args) .lifetime) ((c .before .before .before .before .before .before .before .before .before .before .before .before .name) .given .0 .0)) _ (meeting.landed (meeting.say (λ x. contract.any) contract.stepSaid ((c .before .before .before .before .before .e) .given .1) ((c .before .before .before .before .before .before .before .before .before .marked-run) .ensures))) (made-as ((c .before .before .before .before .before .before .before .before .before .before .before .before .before .before .before .before .before .before .before .before .args) .s .now) ((c .before .before .before .before .before .before .before .before .before .before .before .before .before .before .before .before .before .before .before .before .args) .lifetime) ((c .before .before .before .before .before .before .before .before .before .before .before .before .name) .given .0 .0) x b h)) (λ a k. (c .before .before .finished) .ensures a k)))))
+    let args = c .before .before .before .before .before .before .before .before .before .before .before .before .before .before .before .before .before .before .before .before .args in
+    let parameter-name = c .before .before .before .before .before .before .before .before .before .before .before .before .before .before .before .before .parameter-name in
+    let name = c .before .before .before .before .before .before .before .before .before .before .before .before .name in
+    let marked-run = c .before .before .before .before .before .before .before .before .before .marked-run in
+    let e = c .before .before .before .before .before .e in
+    let d = name .given .0 .1 .0 in
+    meeting.meets-as
+    (meeting.after-assoc (args .c .row)
+    (reading.parameterName (args .number) (args .or) (args .c .row) (contract.stream (args .s .now) (args .c)))
+    (made (args .lifetime)) reading.comma)
+    (meeting.meets-then (rest (args .lifetime))
+    (meeting.say (contract.namedShown (args .s .now)) contract.namedSaid (name .given .1) (parameter-name .ensures))
+    (λ x h.
+    meeting.meets-as
+    (meeting.after-assoc (d .row) (reading.marked-run 58 (d .row) (contract.stream (args .s .now) d))
+    (λ b. pure (contract.parameterMade (args .lifetime) x b)) reading.comma)
+    (meeting.meets-then (last (args .lifetime) x)
+    (meeting.say (λ x. contract.any) contract.stepSaid (e .given .1) (marked-run .ensures))
+    (λ b u.
+    meeting.meets-then reading.comma
+    (meeting.meets-stay _ _ _ (contract.ParameterOf (args .s .now) (args .lifetime) (name .given .0 .0))
+    _
+    (meeting.landed
+    (meeting.say (λ x. contract.any) contract.stepSaid (e .given .1) (marked-run .ensures)))
+    (made-as (args .s .now) (args .lifetime) (name .given .0 .0) x b h))
+    (λ a k. (c .before .before .finished) .ensures a k)))))
 
 pub named-parameter-spec : {M : Type 1} → statement M
 named-parameter-spec =

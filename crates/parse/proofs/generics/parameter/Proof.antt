@@ -2,12 +2,9 @@ use lib.Seq.{slice}
 use Rattle.parse.proofs.Meeting as meeting
 use Rattle.parse.specs.Contract as contract
 use Rattle.reading.specs.Reading as reading
-use Rattle.token_list.proofs.Texts.{chosen, passed-over, and-last, and-fails}
-use Rattle.token_list.specs.Contract.{InList}
-use borrow.Author.Tests.{eq-eqb, ne-eqb, not-true, not-false}
-use native.Mathlib.Omega.{arith}
-use mathlib.Core.Bool.{true, false}
-use mathlib.Core.Path.{_≡_, refl, sym, _∙_, ap, subst, subst⁻¹}
+use Rattle.token_list.proofs.Texts.{chosen, passed-over, and-fails}
+use borrow.Author.Tests.{eq-eqb, ne-eqb}
+use mathlib.Core.Path.{refl, sym, _∙_}
 use borrow.Author.Needs.{needs}
 use Rattle.parse.proofs.generics.parameter.Statement.{statement}
 use Rattle.parse.proofs.generics.parameter.Tie as tie
@@ -28,66 +25,186 @@ is-punct-requires : tie.Need-is-punct-requires
 is-punct-requires c κs = search needs
 
 take-token-requires : tie.Need-take-token-requires
-take-token-requires c κs = ((c .before .before .before .before .before .before .before .before .before .pre), (meeting.peeked _ _ ((c .before .before .before .before .before .before .peek) .ensures) ((c .before .before .before .before .t) .given .1)) .token)
+take-token-requires c κs =
+    let pre = c .before .before .before .before .before .before .before .before .before .pre in
+    let peek = c .before .before .before .before .before .before .peek in
+    let t = c .before .before .before .before .t in
+    (pre, (meeting.peeked _ _ (peek .ensures) (t .given .1)) .token)
 
 lifetime-requires : tie.Need-lifetime-requires
-lifetime-requires c κs = meeting.past-in-of _ _ _ _ ((c .before .before .before .take-token) .ensures .0) (c .before .before .before .before .before .before .before .before .before .before .before .before .before .pre) ((meeting.peeked _ _ ((c .before .before .before .before .before .before .before .before .before .before .peek) .ensures) ((c .before .before .before .before .before .before .before .before .t) .given .1)) .token)
+lifetime-requires c κs =
+    let pre = c .before .before .before .before .before .before .before .before .before .before .before .before .before .pre in
+    let peek = c .before .before .before .before .before .before .before .before .before .before .peek in
+    let t = c .before .before .before .before .before .before .before .before .t in
+    meeting.past-in-of _ _ _ _ ((c .before .before .before .take-token) .ensures .0) pre
+    ((meeting.peeked _ _ (peek .ensures) (t .given .1)) .token)
 
 same-length : tie.Need-same-length
 same-length c = search needs
 
 returns : tie.Need-returns
-returns c = meeting.meets-from (reading.parameter ((c .before .before .before .before .before .before .before .before .before .before .before .before .before .before .before .before .args) .angle)) _ _ (c .before .before .before .before .before .before .before .before .before .before .before .before .before .before .before .before .pre) _ _ (meeting.peeked _ _ ((c .before .before .before .before .before .before .before .before .before .before .before .before .before .peek) .ensures) ((c .before .before .before .before .before .before .before .before .before .before .before .t) .given .1)) _ _ _ _ ((c .before .before .before .before .before .before .take-token) .ensures .0) ((c .before .before .before .before .before .before .take-token) .ensures .1) _ _ (contract.afterQuote ((c .before .before .before .before .before .before .before .before .before .before .before .before .before .before .before .before .args) .c .row)) (chosen _ _ _ (meeting.punct-of _ _ _ _ ((meeting.peeked _ _ ((c .before .before .before .before .before .before .before .before .before .before .before .before .before .peek) .ensures) ((c .before .before .before .before .before .before .before .before .before .before .before .t) .given .1)) .token) ∙ sym ((c .before .before .before .before .before .before .before .before .before .is-punct) .ensures) ∙ (c .before .before .before .before .before .before .before .before .if1) .taken)) ((c .before .before .lifetime) .ensures)
+returns c =
+    let args = c .before .before .before .before .before .before .before .before .before .before .before .before .before .before .before .before .args in
+    let pre = c .before .before .before .before .before .before .before .before .before .before .before .before .before .before .before .before .pre in
+    let peek = c .before .before .before .before .before .before .before .before .before .before .before .before .before .peek in
+    let t = c .before .before .before .before .before .before .before .before .before .before .before .t in
+    let is-punct = c .before .before .before .before .before .before .before .before .before .is-punct in
+    let if1 = c .before .before .before .before .before .before .before .before .if1 in
+    let take-token = c .before .before .before .before .before .before .take-token in
+    meeting.meets-from (reading.parameter (args .angle)) _ _ pre _ _ (meeting.peeked _ _ (peek .ensures) (t .given .1))
+    _ _ _ _ (take-token .ensures .0) (take-token .ensures .1) _ _ (contract.afterQuote (args .c .row))
+    (chosen _ _ _
+    (meeting.punct-of _ _ _ _ ((meeting.peeked _ _ (peek .ensures) (t .given .1)) .token) ∙ sym
+    (is-punct .ensures) ∙ if1 .taken))
+    ((c .before .before .lifetime) .ensures)
 
 is-punct-requires-2 : tie.Need-is-punct-requires-2
 is-punct-requires-2 c κs = search needs
 
 take-token-requires-2 : tie.Need-take-token-requires-2
-take-token-requires-2 c κs = ((c .before .before .before .before .before .before .before .before .before .before .before .pre), (meeting.peeked _ _ ((c .before .before .before .before .before .before .before .before .peek) .ensures) ((c .before .before .before .before .before .before .t) .given .1)) .token)
+take-token-requires-2 c κs =
+    let pre = c .before .before .before .before .before .before .before .before .before .before .before .pre in
+    let peek = c .before .before .before .before .before .before .before .before .peek in
+    let t = c .before .before .before .before .before .before .t in
+    (pre, (meeting.peeked _ _ (peek .ensures) (t .given .1)) .token)
 
 same-length-2 : tie.Need-same-length-2
 same-length-2 c = search needs
 
 returns-2 : tie.Need-returns-2
-returns-2 c = meeting.meets-leaf (reading.parameter ((c .before .before .before .before .before .before .before .before .before .before .before .before .before .before .args) .angle)) _ _ (c .before .before .before .before .before .before .before .before .before .before .before .before .before .before .pre) _ _ (meeting.peeked _ _ ((c .before .before .before .before .before .before .before .before .before .before .before .peek) .ensures) ((c .before .before .before .before .before .before .before .before .before .t) .given .1)) _ _ _ _ ((c .before .before .take-token2) .ensures .0) ((c .before .before .take-token2) .ensures .1) _ (passed-over _ _ _ (meeting.punct-of _ _ _ _ ((meeting.peeked _ _ ((c .before .before .before .before .before .before .before .before .before .before .before .peek) .ensures) ((c .before .before .before .before .before .before .before .before .before .t) .given .1)) .token) ∙ sym ((c .before .before .before .before .before .before .before .is-punct) .ensures) ∙ (c .before .before .before .before .before .before .if1) .left) ∙ chosen _ _ _ (meeting.punct-of _ _ _ _ ((meeting.peeked _ _ ((c .before .before .before .before .before .before .before .before .before .before .before .peek) .ensures) ((c .before .before .before .before .before .before .before .before .before .t) .given .1)) .token) ∙ sym ((c .before .before .before .before .before .is-punct2) .ensures) ∙ (c .before .before .before .before .if2) .taken)) refl
+returns-2 c =
+    let args = c .before .before .before .before .before .before .before .before .before .before .before .before .before .before .args in
+    let pre = c .before .before .before .before .before .before .before .before .before .before .before .before .before .before .pre in
+    let peek = c .before .before .before .before .before .before .before .before .before .before .before .peek in
+    let t = c .before .before .before .before .before .before .before .before .before .t in
+    let is-punct = c .before .before .before .before .before .before .before .is-punct in
+    let if1 = c .before .before .before .before .before .before .if1 in
+    let is-punct2 = c .before .before .before .before .before .is-punct2 in
+    let if2 = c .before .before .before .before .if2 in
+    let take-token2 = c .before .before .take-token2 in
+    meeting.meets-leaf (reading.parameter (args .angle)) _ _ pre _ _ (meeting.peeked _ _ (peek .ensures) (t .given .1))
+    _ _ _ _ (take-token2 .ensures .0) (take-token2 .ensures .1) _
+    (passed-over _ _ _
+    (meeting.punct-of _ _ _ _ ((meeting.peeked _ _ (peek .ensures) (t .given .1)) .token) ∙ sym (is-punct .ensures) ∙ if1 .left) ∙ chosen
+    _ _ _
+    (meeting.punct-of _ _ _ _ ((meeting.peeked _ _ (peek .ensures) (t .given .1)) .token) ∙ sym
+    (is-punct2 .ensures) ∙ if2 .taken))
+    refl
 
 returns-3 : tie.Need-returns-3
-returns-3 c = meeting.meets-refused (reading.parameter ((c .before .before .before .before .before .before .before .before .before .before .before .before .args) .angle)) _ _ (c .before .before .before .before .before .before .before .before .before .before .before .before .pre) _ _ _ _ _ _ ((meeting.peeked _ _ ((c .before .before .before .before .before .before .before .before .before .peek) .ensures) ((c .before .before .before .before .before .before .before .t) .given .1)) .here) (passed-over _ _ _ (meeting.punct-of _ _ _ _ ((meeting.peeked _ _ ((c .before .before .before .before .before .before .before .before .before .peek) .ensures) ((c .before .before .before .before .before .before .before .t) .given .1)) .token) ∙ sym ((c .before .before .before .before .before .is-punct) .ensures) ∙ (c .before .before .before .before .if1) .left) ∙ passed-over _ _ _ (meeting.punct-of _ _ _ _ ((meeting.peeked _ _ ((c .before .before .before .before .before .before .before .before .before .peek) .ensures) ((c .before .before .before .before .before .before .before .t) .given .1)) .token) ∙ sym ((c .before .before .before .is-punct2) .ensures) ∙ (c .before .before .if2) .left) ∙ passed-over _ _ _ (and-fails _ _ (ne-eqb _ _ ((c .if3) .taken))) ∙ passed-over _ _ _ (ne-eqb _ _ ((c .if3) .taken)))
+returns-3 c =
+    let args = c .before .before .before .before .before .before .before .before .before .before .before .before .args in
+    let pre = c .before .before .before .before .before .before .before .before .before .before .before .before .pre in
+    let peek = c .before .before .before .before .before .before .before .before .before .peek in
+    let t = c .before .before .before .before .before .before .before .t in
+    let is-punct = c .before .before .before .before .before .is-punct in
+    let if1 = c .before .before .before .before .if1 in
+    meeting.meets-refused (reading.parameter (args .angle)) _ _ pre _ _ _ _ _ _
+    ((meeting.peeked _ _ (peek .ensures) (t .given .1)) .here)
+    (passed-over _ _ _
+    (meeting.punct-of _ _ _ _ ((meeting.peeked _ _ (peek .ensures) (t .given .1)) .token) ∙ sym (is-punct .ensures) ∙ if1 .left) ∙ passed-over
+    _ _ _
+    (meeting.punct-of _ _ _ _ ((meeting.peeked _ _ (peek .ensures) (t .given .1)) .token) ∙ sym ((c .before .before .before .is-punct2) .ensures) ∙ (c .before .before .if2) .left) ∙ passed-over
+    _ _ _ (and-fails _ _ (ne-eqb _ _ ((c .if3) .taken))) ∙ passed-over _ _ _ (ne-eqb _ _ ((c .if3) .taken)))
 
 take-token-requires-3 : tie.Need-take-token-requires-3
-take-token-requires-3 c κs = ((c .before .before .before .before .before .before .before .before .before .before .before .before .before .pre), (meeting.peeked _ _ ((c .before .before .before .before .before .before .before .before .before .before .peek) .ensures) ((c .before .before .before .before .before .before .before .before .t) .given .1)) .token)
+take-token-requires-3 c κs =
+    let pre = c .before .before .before .before .before .before .before .before .before .before .before .before .before .pre in
+    let peek = c .before .before .before .before .before .before .before .before .before .before .peek in
+    let t = c .before .before .before .before .before .before .before .before .t in
+    (pre, (meeting.peeked _ _ (peek .ensures) (t .given .1)) .token)
 
 slice-aggregate-ident-eq : tie.Need-slice-aggregate-ident-eq
 slice-aggregate-ident-eq c = search needs
 
 ident-eq-requires : tie.Need-ident-eq-requires
-ident-eq-requires c κs = meeting.token-within _ _ _ ((meeting.peeked _ _ ((c .before .before .before .before .before .before .before .before .before .before .before .before .before .before .peek) .ensures) ((c .before .before .before .before .before .before .before .before .before .before .before .before .t) .given .1)) .token)
+ident-eq-requires c κs =
+    let peek = c .before .before .before .before .before .before .before .before .before .before .before .before .before .before .peek in
+    let t = c .before .before .before .before .before .before .before .before .before .before .before .before .t in
+    meeting.token-within _ _ _ ((meeting.peeked _ _ (peek .ensures) (t .given .1)) .token)
 
 const-generic-requires : tie.Need-const-generic-requires
-const-generic-requires c κs = meeting.past-in-of _ _ _ _ ((c .before .before .before .before .before .before .take-token3) .ensures .0) (c .before .before .before .before .before .before .before .before .before .before .before .before .before .before .before .before .before .before .before .before .pre) ((meeting.peeked _ _ ((c .before .before .before .before .before .before .before .before .before .before .before .before .before .before .before .before .before .peek) .ensures) ((c .before .before .before .before .before .before .before .before .before .before .before .before .before .before .before .t) .given .1)) .token)
+const-generic-requires c κs =
+    let pre = c .before .before .before .before .before .before .before .before .before .before .before .before .before .before .before .before .before .before .before .before .pre in
+    let peek = c .before .before .before .before .before .before .before .before .before .before .before .before .before .before .before .before .before .peek in
+    let t = c .before .before .before .before .before .before .before .before .before .before .before .before .before .before .before .t in
+    let take-token3 = c .before .before .before .before .before .before .take-token3 in
+    meeting.past-in-of _ _ _ _ (take-token3 .ensures .0) pre ((meeting.peeked _ _ (peek .ensures) (t .given .1)) .token)
 
 same-length-3 : tie.Need-same-length-3
 same-length-3 c = search needs
 
 returns-4 : tie.Need-returns-4
-returns-4 c = meeting.meets-from (reading.parameter ((c .before .before .before .before .before .before .before .before .before .before .before .before .before .before .before .before .before .before .before .before .before .before .before .args) .angle)) _ _ (c .before .before .before .before .before .before .before .before .before .before .before .before .before .before .before .before .before .before .before .before .before .before .before .pre) _ _ (meeting.peeked _ _ ((c .before .before .before .before .before .before .before .before .before .before .before .before .before .before .before .before .before .before .before .before .peek) .ensures) ((c .before .before .before .before .before .before .before .before .before .before .before .before .before .before .before .before .before .before .t) .given .1)) _ _ _ _ ((c .before .before .before .before .before .before .before .before .before .take-token3) .ensures .0) ((c .before .before .before .before .before .before .before .before .before .take-token3) .ensures .1) _ _ contract.afterConst (passed-over _ _ _ (meeting.punct-of _ _ _ _ ((meeting.peeked _ _ ((c .before .before .before .before .before .before .before .before .before .before .before .before .before .before .before .before .before .before .before .before .peek) .ensures) ((c .before .before .before .before .before .before .before .before .before .before .before .before .before .before .before .before .before .before .t) .given .1)) .token) ∙ sym ((c .before .before .before .before .before .before .before .before .before .before .before .before .before .before .before .before .is-punct) .ensures) ∙ (c .before .before .before .before .before .before .before .before .before .before .before .before .before .before .before .if1) .left) ∙ passed-over _ _ _ (meeting.punct-of _ _ _ _ ((meeting.peeked _ _ ((c .before .before .before .before .before .before .before .before .before .before .before .before .before .before .before .before .before .before .before .before .peek) .ensures) ((c .before .before .before .before .before .before .before .before .before .before .before .before .before .before .before .before .before .before .t) .given .1)) .token) ∙ sym ((c .before .before .before .before .before .before .before .before .before .before .before .before .before .before .is-punct2) .ensures) ∙ (c .before .before .before .before .before .before .before .before .before .before .before .before .before .if2) .left) ∙ chosen _ _ _ (sym ((c .before .before .before .before .before .ident-eq) .ensures) ∙ (c .before .before .before .before .if4) .taken)) ((c .before .before .const-generic) .ensures)
+returns-4 c =
+    let args = c .before .before .before .before .before .before .before .before .before .before .before .before .before .before .before .before .before .before .before .before .before .before .before .args in
+    let pre = c .before .before .before .before .before .before .before .before .before .before .before .before .before .before .before .before .before .before .before .before .before .before .before .pre in
+    let peek = c .before .before .before .before .before .before .before .before .before .before .before .before .before .before .before .before .before .before .before .before .peek in
+    let t = c .before .before .before .before .before .before .before .before .before .before .before .before .before .before .before .before .before .before .t in
+    let is-punct = c .before .before .before .before .before .before .before .before .before .before .before .before .before .before .before .before .is-punct in
+    let if1 = c .before .before .before .before .before .before .before .before .before .before .before .before .before .before .before .if1 in
+    let is-punct2 = c .before .before .before .before .before .before .before .before .before .before .before .before .before .before .is-punct2 in
+    let if2 = c .before .before .before .before .before .before .before .before .before .before .before .before .before .if2 in
+    let take-token3 = c .before .before .before .before .before .before .before .before .before .take-token3 in
+    let ident-eq = c .before .before .before .before .before .ident-eq in
+    let if4 = c .before .before .before .before .if4 in
+    meeting.meets-from (reading.parameter (args .angle)) _ _ pre _ _ (meeting.peeked _ _ (peek .ensures) (t .given .1))
+    _ _ _ _ (take-token3 .ensures .0) (take-token3 .ensures .1) _ _ contract.afterConst
+    (passed-over _ _ _
+    (meeting.punct-of _ _ _ _ ((meeting.peeked _ _ (peek .ensures) (t .given .1)) .token) ∙ sym (is-punct .ensures) ∙ if1 .left) ∙ passed-over
+    _ _ _
+    (meeting.punct-of _ _ _ _ ((meeting.peeked _ _ (peek .ensures) (t .given .1)) .token) ∙ sym (is-punct2 .ensures) ∙ if2 .left) ∙ chosen
+    _ _ _ (sym (ident-eq .ensures) ∙ if4 .taken))
+    ((c .before .before .const-generic) .ensures)
 
 simple-generic-requires : tie.Need-simple-generic-requires
-simple-generic-requires c κs = meeting.past-in-of _ _ _ _ ((c .before .before .before .before .before .before .take-token3) .ensures .0) (c .before .before .before .before .before .before .before .before .before .before .before .before .before .before .before .before .before .before .before .before .pre) ((meeting.peeked _ _ ((c .before .before .before .before .before .before .before .before .before .before .before .before .before .before .before .before .before .peek) .ensures) ((c .before .before .before .before .before .before .before .before .before .before .before .before .before .before .before .t) .given .1)) .token)
+simple-generic-requires c κs =
+    let pre = c .before .before .before .before .before .before .before .before .before .before .before .before .before .before .before .before .before .before .before .before .pre in
+    let peek = c .before .before .before .before .before .before .before .before .before .before .before .before .before .before .before .before .before .peek in
+    let t = c .before .before .before .before .before .before .before .before .before .before .before .before .before .before .before .t in
+    let take-token3 = c .before .before .before .before .before .before .take-token3 in
+    meeting.past-in-of _ _ _ _ (take-token3 .ensures .0) pre ((meeting.peeked _ _ (peek .ensures) (t .given .1)) .token)
 
 returns-5 : tie.Need-returns-5
-returns-5 c = meeting.meets-refused (reading.parameter ((c .before .before .before .before .before .args) .angle)) _ _ (c .before .before .before .before .before .pre) _ _ _ _ _ _ (meeting.peeked _ _ ((c .before .before .peek) .ensures) ((c .enum-told) .given .1)) refl
+returns-5 c =
+    let args = c .before .before .before .before .before .args in
+    let pre = c .before .before .before .before .before .pre in
+    meeting.meets-refused (reading.parameter (args .angle)) _ _ pre _ _ _ _ _ _
+    (meeting.peeked _ _ ((c .before .before .peek) .ensures) ((c .enum-told) .given .1)) refl
 
 returns-6 : tie.Need-returns-6
-returns-6 c = meeting.meets-refused (reading.parameter ((c .before .before .before .before .before .args) .angle)) _ _ (c .before .before .before .before .before .pre) _ _ _ _ _ _ ((meeting.peeked _ _ ((c .before .before .peek) .ensures) ((c .enum-told2) .given .1)) .here) refl
+returns-6 c =
+    let args = c .before .before .before .before .before .args in
+    let pre = c .before .before .before .before .before .pre in
+    meeting.meets-refused (reading.parameter (args .angle)) _ _ pre _ _ _ _ _ _
+    ((meeting.peeked _ _ ((c .before .before .peek) .ensures) ((c .enum-told2) .given .1)) .here) refl
 
 same-length-4 : tie.Need-same-length-4
 same-length-4 c = search needs
 
 returns-7 : tie.Need-returns-7
 returns-7 c =
-    let text = slice ((c .before .before .before .before .before .before .before .before .before .before .before .before .before .before .before .before .before .before .t) .given .0 .0 .start) ((c .before .before .before .before .before .before .before .before .before .before .before .before .before .before .before .before .before .before .t) .given .0 .0 .end) ((c .before .before .before .before .before .before .before .before .before .before .before .before .before .before .before .before .before .before .before .before .before .before .before .args) .s .now) in
-    meeting.meets-from (reading.parameter ((c .before .before .before .before .before .before .before .before .before .before .before .before .before .before .before .before .before .before .before .before .before .before .before .args) .angle)) _ _ (c .before .before .before .before .before .before .before .before .before .before .before .before .before .before .before .before .before .before .before .before .before .before .before .pre) _ _ (meeting.peeked _ _ ((c .before .before .before .before .before .before .before .before .before .before .before .before .before .before .before .before .before .before .before .before .peek) .ensures) ((c .before .before .before .before .before .before .before .before .before .before .before .before .before .before .before .before .before .before .t) .given .1)) _ _ _ _ ((c .before .before .before .before .before .before .before .before .before .take-token3) .ensures .0) ((c .before .before .before .before .before .before .before .before .before .take-token3) .ensures .1) _ _ (contract.afterName text) (passed-over _ _ _ (meeting.punct-of _ _ _ _ ((meeting.peeked _ _ ((c .before .before .before .before .before .before .before .before .before .before .before .before .before .before .before .before .before .before .before .before .peek) .ensures) ((c .before .before .before .before .before .before .before .before .before .before .before .before .before .before .before .before .before .before .t) .given .1)) .token) ∙ sym ((c .before .before .before .before .before .before .before .before .before .before .before .before .before .before .before .before .is-punct) .ensures) ∙ (c .before .before .before .before .before .before .before .before .before .before .before .before .before .before .before .if1) .left) ∙ passed-over _ _ _ (meeting.punct-of _ _ _ _ ((meeting.peeked _ _ ((c .before .before .before .before .before .before .before .before .before .before .before .before .before .before .before .before .before .before .before .before .peek) .ensures) ((c .before .before .before .before .before .before .before .before .before .before .before .before .before .before .before .before .before .before .t) .given .1)) .token) ∙ sym ((c .before .before .before .before .before .before .before .before .before .before .before .before .before .before .is-punct2) .ensures) ∙ (c .before .before .before .before .before .before .before .before .before .before .before .before .before .if2) .left) ∙ passed-over _ _ _ (sym ((c .before .before .before .before .before .ident-eq) .ensures) ∙ (c .before .before .before .before .if4) .left) ∙ chosen _ _ _ (eq-eqb _ _ ((c .before .before .before .before .before .before .before .before .before .before .before .if3) .left))) ((c .before .before .simple-generic) .ensures text (record { bytes = refl; within = meeting.token-within _ _ _ ((meeting.peeked _ _ ((c .before .before .before .before .before .before .before .before .before .before .before .before .before .before .before .before .before .before .before .before .peek) .ensures) ((c .before .before .before .before .before .before .before .before .before .before .before .before .before .before .before .before .before .before .t) .given .1)) .token) }))
+    let args = c .before .before .before .before .before .before .before .before .before .before .before .before .before .before .before .before .before .before .before .before .before .before .before .args in
+    let pre = c .before .before .before .before .before .before .before .before .before .before .before .before .before .before .before .before .before .before .before .before .before .before .before .pre in
+    let peek = c .before .before .before .before .before .before .before .before .before .before .before .before .before .before .before .before .before .before .before .before .peek in
+    let t = c .before .before .before .before .before .before .before .before .before .before .before .before .before .before .before .before .before .before .t in
+    let is-punct = c .before .before .before .before .before .before .before .before .before .before .before .before .before .before .before .before .is-punct in
+    let if1 = c .before .before .before .before .before .before .before .before .before .before .before .before .before .before .before .if1 in
+    let is-punct2 = c .before .before .before .before .before .before .before .before .before .before .before .before .before .before .is-punct2 in
+    let if2 = c .before .before .before .before .before .before .before .before .before .before .before .before .before .if2 in
+    let if3 = c .before .before .before .before .before .before .before .before .before .before .before .if3 in
+    let take-token3 = c .before .before .before .before .before .before .before .before .before .take-token3 in
+    let ident-eq = c .before .before .before .before .before .ident-eq in
+    let if4 = c .before .before .before .before .if4 in
+    let text = slice (t .given .0 .0 .start) (t .given .0 .0 .end) (args .s .now) in
+    meeting.meets-from (reading.parameter (args .angle)) _ _ pre _ _ (meeting.peeked _ _ (peek .ensures) (t .given .1))
+    _ _ _ _ (take-token3 .ensures .0) (take-token3 .ensures .1) _ _ (contract.afterName text)
+    (passed-over _ _ _
+    (meeting.punct-of _ _ _ _ ((meeting.peeked _ _ (peek .ensures) (t .given .1)) .token) ∙ sym (is-punct .ensures) ∙ if1 .left) ∙ passed-over
+    _ _ _
+    (meeting.punct-of _ _ _ _ ((meeting.peeked _ _ (peek .ensures) (t .given .1)) .token) ∙ sym (is-punct2 .ensures) ∙ if2 .left) ∙ passed-over
+    _ _ _ (sym (ident-eq .ensures) ∙ if4 .left) ∙ chosen _ _ _ (eq-eqb _ _ (if3 .left)))
+    ((c .before .before .simple-generic) .ensures text
+    (record { bytes = refl; within = meeting.token-within _ _ _ ((meeting.peeked _ _ (peek .ensures) (t .given .1)) .token) }))
 
 pub parameter-spec : {M : Type 1} → statement M
 parameter-spec =

@@ -1,12 +1,6 @@
 use Rattle.parse.proofs.Meeting as meeting
 use Rattle.parse.specs.Contract as contract
 use Rattle.reading.specs.Reading as reading
-use Rattle.token_list.proofs.Texts.{chosen, passed-over, and-last, and-fails}
-use Rattle.token_list.specs.Contract.{InList}
-use borrow.Author.Tests.{eq-eqb, ne-eqb, not-true, not-false}
-use native.Mathlib.Omega.{arith}
-use mathlib.Core.Bool.{true, false}
-use mathlib.Core.Path.{_≡_, refl, sym, _∙_, ap, subst, subst⁻¹}
 use borrow.Author.Needs.{needs}
 use Rattle.parse.proofs.generics.parameter_run.Statement.{statement}
 use Rattle.parse.proofs.generics.parameter_run.Tie as tie
@@ -24,13 +18,21 @@ same-length : tie.Need-same-length
 same-length c = search needs
 
 returns : tie.Need-returns
-returns c = meeting.meets-kept (contract.stream ((c .before .before .before .before .before .before .before .before .before .args) .s .now) ((c .before .before .before .before .before .before .before .before .before .args) .c)) (meeting.say contract.ranShown contract.ranSaid ((c .before .d) .given .1) ((c .before .before .before .before .before .read-tokens-until-punct) .ensures))
+returns c =
+    let args = c .before .before .before .before .before .before .before .before .before .args in
+    let read-tokens-until-punct = c .before .before .before .before .before .read-tokens-until-punct in
+    meeting.meets-kept (contract.stream (args .s .now) (args .c))
+    (meeting.say contract.ranShown contract.ranSaid ((c .before .d) .given .1) (read-tokens-until-punct .ensures))
 
 same-length-2 : tie.Need-same-length-2
 same-length-2 c = search needs
 
 returns-2 : tie.Need-returns-2
-returns-2 c = meeting.meets-kept (contract.stream ((c .before .before .before .before .before .before .before .before .before .args) .s .now) ((c .before .before .before .before .before .before .before .before .before .args) .c)) (meeting.say contract.ranShown contract.ranSaid ((c .before .r) .given .1) ((c .before .before .before .before .before .read-tokens-until-punct) .ensures))
+returns-2 c =
+    let args = c .before .before .before .before .before .before .before .before .before .args in
+    let read-tokens-until-punct = c .before .before .before .before .before .read-tokens-until-punct in
+    meeting.meets-kept (contract.stream (args .s .now) (args .c))
+    (meeting.say contract.ranShown contract.ranSaid ((c .before .r) .given .1) (read-tokens-until-punct .ensures))
 
 pub parameter-run-spec : {M : Type 1} → statement M
 parameter-run-spec =

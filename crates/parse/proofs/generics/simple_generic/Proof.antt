@@ -2,12 +2,7 @@ use mathlib.Core.List.{[]}
 use Rattle.parse.proofs.Meeting as meeting
 use Rattle.parse.specs.Contract as contract
 use Rattle.reading.specs.Reading as reading
-use Rattle.token_list.proofs.Texts.{chosen, passed-over, and-last, and-fails}
-use Rattle.token_list.specs.Contract.{InList}
-use borrow.Author.Tests.{eq-eqb, ne-eqb, not-true, not-false}
-use native.Mathlib.Omega.{arith}
-use mathlib.Core.Bool.{true, false}
-use mathlib.Core.Path.{_≡_, refl, sym, _∙_, ap, subst, subst⁻¹}
+use mathlib.Core.Path.{sym, subst, subst⁻¹}
 use borrow.Author.Needs.{needs}
 use Rattle.parse.proofs.generics.simple_generic.Statement.{statement}
 use Rattle.parse.proofs.generics.simple_generic.Tie as tie
@@ -22,19 +17,36 @@ enum-known-d : tie.Need-enum-known-d
 enum-known-d c = search needs
 
 finished-requires : tie.Need-finished-requires
-finished-requires c κs = meeting.landed (meeting.say (λ x. contract.TypeNamed []) contract.stepSaid ((c .before .before .d) .given .1) ((c .before .before .before .before .before .before .type-runs) .ensures []))
+finished-requires c κs =
+    let type-runs = c .before .before .before .before .before .before .type-runs in
+    meeting.landed
+    (meeting.say (λ x. contract.TypeNamed []) contract.stepSaid ((c .before .before .d) .given .1)
+    (type-runs .ensures []))
 
 same-length : tie.Need-same-length
 same-length c = search needs
 
 returns : tie.Need-returns
-returns c = λ n h. meeting.meets-no reading.comma (meeting.say (λ x. contract.TypeNamed n) contract.stepSaid ((c .before .r) .given .1) ((c .before .before .before .before .before .type-runs) .ensures n))
+returns c =
+    let type-runs = c .before .before .before .before .before .type-runs in
+    λ n h.
+    meeting.meets-no reading.comma
+    (meeting.say (λ x. contract.TypeNamed n) contract.stepSaid ((c .before .r) .given .1) (type-runs .ensures n))
 
 same-length-2 : tie.Need-same-length-2
 same-length-2 c = search needs
 
 returns-2 : tie.Need-returns-2
-returns-2 c = λ n h. meeting.meets-then reading.comma (meeting.say (λ x. contract.TypeNamed n) contract.stepSaid ((c .before .before .before .before .before .d) .given .1) ((c .before .before .before .before .before .before .before .before .before .type-runs) .ensures n)) (λ a k. (c .before .before .finished) .ensures a (record { kind = sym (k .0); text = subst⁻¹ (contract.TextOf ((c .before .before .before .before .before .before .before .before .before .before .before .before .before .args) .s .now) ((c .before .before .before .before .before .before .before .before .before .before .before .before .before .args) .name)) (k .1) h }))
+returns-2 c =
+    let args = c .before .before .before .before .before .before .before .before .before .before .before .before .before .args in
+    let type-runs = c .before .before .before .before .before .before .before .before .before .type-runs in
+    let d = c .before .before .before .before .before .d in
+    λ n h.
+    meeting.meets-then reading.comma
+    (meeting.say (λ x. contract.TypeNamed n) contract.stepSaid (d .given .1) (type-runs .ensures n))
+    (λ a k.
+    (c .before .before .finished) .ensures a
+    (record { kind = sym (k .0); text = subst⁻¹ (contract.TextOf (args .s .now) (args .name)) (k .1) h }))
 
 pub simple-generic-spec : {M : Type 1} → statement M
 simple-generic-spec =

@@ -2,12 +2,9 @@ use Rattle.parse.proofs.Meeting as meeting
 use Rattle.parse.specs.Contract as contract
 use Rattle.reading.specs.Declaration.{angled}
 use Rattle.reading.specs.Reading as reading
-use Rattle.token_list.proofs.Texts.{chosen, passed-over, and-last, and-fails}
-use Rattle.token_list.specs.Contract.{InList}
-use borrow.Author.Tests.{eq-eqb, ne-eqb, not-true, not-false}
-use native.Mathlib.Omega.{arith}
-use mathlib.Core.Bool.{true, false}
-use mathlib.Core.Path.{_≡_, refl, sym, _∙_, ap, subst, subst⁻¹}
+use Rattle.token_list.proofs.Texts.{chosen, passed-over}
+use borrow.Author.Tests.{not-true, not-false}
+use mathlib.Core.Path.{refl, sym, _∙_}
 use borrow.Author.Needs.{needs}
 use Rattle.parse.proofs.generics.try_take.Statement.{statement}
 use Rattle.parse.proofs.generics.try_take.Tie as tie
@@ -28,25 +25,61 @@ is-punct-requires : tie.Need-is-punct-requires
 is-punct-requires c κs = search needs
 
 returns : tie.Need-returns
-returns c = meeting.meets-same reading.generics _ _ (c .before .before .before .before .before .before .before .before .pre) _ _ _ _ ((meeting.peeked _ _ ((c .before .before .before .before .before .peek) .ensures) ((c .before .before .before .t) .given .1)) .here) (passed-over _ _ _ (meeting.punct-of _ _ _ _ ((meeting.peeked _ _ ((c .before .before .before .before .before .peek) .ensures) ((c .before .before .before .t) .given .1)) .token) ∙ sym ((c .before .is-punct) .ensures) ∙ not-true _ ((c .if1) .taken))) refl
+returns c =
+    let pre = c .before .before .before .before .before .before .before .before .pre in
+    let peek = c .before .before .before .before .before .peek in
+    let t = c .before .before .before .t in
+    meeting.meets-same reading.generics _ _ pre _ _ _ _ ((meeting.peeked _ _ (peek .ensures) (t .given .1)) .here)
+    (passed-over _ _ _
+    (meeting.punct-of _ _ _ _ ((meeting.peeked _ _ (peek .ensures) (t .given .1)) .token) ∙ sym
+    ((c .before .is-punct) .ensures) ∙ not-true _ ((c .if1) .taken)))
+    refl
 
 take-token-requires : tie.Need-take-token-requires
-take-token-requires c κs = ((c .before .before .before .before .before .before .before .before .before .pre), (meeting.peeked _ _ ((c .before .before .before .before .before .before .peek) .ensures) ((c .before .before .before .before .t) .given .1)) .token)
+take-token-requires c κs =
+    let pre = c .before .before .before .before .before .before .before .before .before .pre in
+    let peek = c .before .before .before .before .before .before .peek in
+    let t = c .before .before .before .before .t in
+    (pre, (meeting.peeked _ _ (peek .ensures) (t .given .1)) .token)
 
 parameters-requires : tie.Need-parameters-requires
-parameters-requires c κs = meeting.past-in-of _ _ _ _ ((c .before .before .before .take-token) .ensures .0) (c .before .before .before .before .before .before .before .before .before .before .before .before .before .pre) ((meeting.peeked _ _ ((c .before .before .before .before .before .before .before .before .before .before .peek) .ensures) ((c .before .before .before .before .before .before .before .before .t) .given .1)) .token)
+parameters-requires c κs =
+    let pre = c .before .before .before .before .before .before .before .before .before .before .before .before .before .pre in
+    let peek = c .before .before .before .before .before .before .before .before .before .before .peek in
+    let t = c .before .before .before .before .before .before .before .before .t in
+    meeting.past-in-of _ _ _ _ ((c .before .before .before .take-token) .ensures .0) pre
+    ((meeting.peeked _ _ (peek .ensures) (t .given .1)) .token)
 
 returns-2 : tie.Need-returns-2
-returns-2 c = meeting.meets-same reading.generics _ _ (c .before .before .before .before .before .pre) _ _ _ _ (meeting.peeked _ _ ((c .before .before .peek) .ensures) ((c .enum-told) .given .1)) refl refl
+returns-2 c =
+    let pre = c .before .before .before .before .before .pre in
+    meeting.meets-same reading.generics _ _ pre _ _ _ _
+    (meeting.peeked _ _ ((c .before .before .peek) .ensures) ((c .enum-told) .given .1)) refl refl
 
 returns-3 : tie.Need-returns-3
-returns-3 c = meeting.meets-same reading.generics _ _ (c .before .before .before .before .before .pre) _ _ _ _ ((meeting.peeked _ _ ((c .before .before .peek) .ensures) ((c .enum-told2) .given .1)) .here) refl refl
+returns-3 c =
+    let pre = c .before .before .before .before .before .pre in
+    meeting.meets-same reading.generics _ _ pre _ _ _ _
+    ((meeting.peeked _ _ ((c .before .before .peek) .ensures) ((c .enum-told2) .given .1)) .here) refl refl
 
 same-length : tie.Need-same-length
 same-length c = search needs
 
 returns-4 : tie.Need-returns-4
-returns-4 c = meeting.meets-from reading.generics _ _ (c .before .before .before .before .before .before .before .before .before .before .before .before .before .before .before .before .pre) _ _ (meeting.peeked _ _ ((c .before .before .before .before .before .before .before .before .before .before .before .before .before .peek) .ensures) ((c .before .before .before .before .before .before .before .before .before .before .before .t) .given .1)) _ _ _ _ ((c .before .before .before .before .before .before .take-token) .ensures .0) ((c .before .before .before .before .before .before .take-token) .ensures .1) _ _ (reading.genericsAfter ((c .before .before .before .before .before .before .before .before .before .before .before .before .before .before .before .before .args) .c .row)) (chosen _ _ _ (meeting.punct-of _ _ _ _ ((meeting.peeked _ _ ((c .before .before .before .before .before .before .before .before .before .before .before .before .before .peek) .ensures) ((c .before .before .before .before .before .before .before .before .before .before .before .t) .given .1)) .token) ∙ sym ((c .before .before .before .before .before .before .before .before .before .is-punct) .ensures) ∙ not-false _ ((c .before .before .before .before .before .before .before .before .if1) .left))) (meeting.meets-map _ angled (λ ps h. h) ((c .before .before .parameters) .ensures))
+returns-4 c =
+    let args = c .before .before .before .before .before .before .before .before .before .before .before .before .before .before .before .before .args in
+    let pre = c .before .before .before .before .before .before .before .before .before .before .before .before .before .before .before .before .pre in
+    let peek = c .before .before .before .before .before .before .before .before .before .before .before .before .before .peek in
+    let t = c .before .before .before .before .before .before .before .before .before .before .before .t in
+    let is-punct = c .before .before .before .before .before .before .before .before .before .is-punct in
+    let if1 = c .before .before .before .before .before .before .before .before .if1 in
+    let take-token = c .before .before .before .before .before .before .take-token in
+    meeting.meets-from reading.generics _ _ pre _ _ (meeting.peeked _ _ (peek .ensures) (t .given .1)) _ _ _ _
+    (take-token .ensures .0) (take-token .ensures .1) _ _ (reading.genericsAfter (args .c .row))
+    (chosen _ _ _
+    (meeting.punct-of _ _ _ _ ((meeting.peeked _ _ (peek .ensures) (t .given .1)) .token) ∙ sym
+    (is-punct .ensures) ∙ not-false _ (if1 .left)))
+    (meeting.meets-map _ angled (λ ps h. h) ((c .before .before .parameters) .ensures))
 
 pub try-take-spec : {M : Type 1} → statement M
 try-take-spec =

@@ -1,12 +1,9 @@
 use Rattle.parse.proofs.Meeting as meeting
 use Rattle.parse.specs.Contract as contract
 use Rattle.reading.specs.Reading as reading
-use Rattle.token_list.proofs.Texts.{chosen, passed-over, and-last, and-fails}
-use Rattle.token_list.specs.Contract.{InList}
-use borrow.Author.Tests.{eq-eqb, ne-eqb, not-true, not-false}
-use native.Mathlib.Omega.{arith}
-use mathlib.Core.Bool.{true, false}
-use mathlib.Core.Path.{_≡_, refl, sym, _∙_, ap, subst, subst⁻¹}
+use Rattle.token_list.proofs.Texts.{chosen, passed-over}
+use borrow.Author.Tests.{not-true, not-false}
+use mathlib.Core.Path.{refl, sym, _∙_}
 use borrow.Author.Needs.{needs}
 use Rattle.parse.proofs.generics.try_take_constraints.Statement.{statement}
 use Rattle.parse.proofs.generics.try_take_constraints.Tie as tie
@@ -27,16 +24,32 @@ slice-aggregate-ident-eq : tie.Need-slice-aggregate-ident-eq
 slice-aggregate-ident-eq c = search needs
 
 ident-eq-requires : tie.Need-ident-eq-requires
-ident-eq-requires c κs = meeting.token-within _ _ _ ((meeting.peeked _ _ ((c .before .before .before .before .peek) .ensures) ((c .before .before .t) .given .1)) .token)
+ident-eq-requires c κs =
+    let peek = c .before .before .before .before .peek in
+    meeting.token-within _ _ _ ((meeting.peeked _ _ (peek .ensures) ((c .before .before .t) .given .1)) .token)
 
 returns : tie.Need-returns
-returns c = meeting.meets-same reading.clause _ _ (c .before .before .before .before .before .before .before .before .before .pre) _ _ _ _ ((meeting.peeked _ _ ((c .before .before .before .before .before .before .peek) .ensures) ((c .before .before .before .before .t) .given .1)) .here) (passed-over _ _ _ (sym ((c .before .ident-eq) .ensures) ∙ not-true _ ((c .if1) .taken))) tt
+returns c =
+    let pre = c .before .before .before .before .before .before .before .before .before .pre in
+    let peek = c .before .before .before .before .before .before .peek in
+    let t = c .before .before .before .before .t in
+    meeting.meets-same reading.clause _ _ pre _ _ _ _ ((meeting.peeked _ _ (peek .ensures) (t .given .1)) .here)
+    (passed-over _ _ _ (sym ((c .before .ident-eq) .ensures) ∙ not-true _ ((c .if1) .taken))) tt
 
 take-token-requires : tie.Need-take-token-requires
-take-token-requires c κs = ((c .before .before .before .before .before .before .before .before .before .before .pre), (meeting.peeked _ _ ((c .before .before .before .before .before .before .before .peek) .ensures) ((c .before .before .before .before .before .t) .given .1)) .token)
+take-token-requires c κs =
+    let pre = c .before .before .before .before .before .before .before .before .before .before .pre in
+    let peek = c .before .before .before .before .before .before .before .peek in
+    let t = c .before .before .before .before .before .t in
+    (pre, (meeting.peeked _ _ (peek .ensures) (t .given .1)) .token)
 
 read-tokens-until-punct-requires : tie.Need-read-tokens-until-punct-requires
-read-tokens-until-punct-requires c κs = meeting.past-in-of _ _ _ _ ((c .before .before .before .take-token) .ensures .0) (c .before .before .before .before .before .before .before .before .before .before .before .before .before .before .pre) ((meeting.peeked _ _ ((c .before .before .before .before .before .before .before .before .before .before .before .peek) .ensures) ((c .before .before .before .before .before .before .before .before .before .t) .given .1)) .token)
+read-tokens-until-punct-requires c κs =
+    let pre = c .before .before .before .before .before .before .before .before .before .before .before .before .before .before .pre in
+    let peek = c .before .before .before .before .before .before .before .before .before .before .before .peek in
+    let t = c .before .before .before .before .before .before .before .before .before .t in
+    meeting.past-in-of _ _ _ _ ((c .before .before .before .take-token) .ensures .0) pre
+    ((meeting.peeked _ _ (peek .ensures) (t .given .1)) .token)
 
 enum-known-d : tie.Need-enum-known-d
 enum-known-d c = search needs
@@ -45,22 +58,54 @@ enum-known-r : tie.Need-enum-known-r
 enum-known-r c = search needs
 
 returns-2 : tie.Need-returns-2
-returns-2 c = meeting.meets-same reading.clause _ _ (c .before .before .before .before .before .pre) _ _ _ _ (meeting.peeked _ _ ((c .before .before .peek) .ensures) ((c .enum-told) .given .1)) refl tt
+returns-2 c =
+    let pre = c .before .before .before .before .before .pre in
+    meeting.meets-same reading.clause _ _ pre _ _ _ _
+    (meeting.peeked _ _ ((c .before .before .peek) .ensures) ((c .enum-told) .given .1)) refl tt
 
 returns-3 : tie.Need-returns-3
-returns-3 c = meeting.meets-same reading.clause _ _ (c .before .before .before .before .before .pre) _ _ _ _ ((meeting.peeked _ _ ((c .before .before .peek) .ensures) ((c .enum-told2) .given .1)) .here) refl tt
+returns-3 c =
+    let pre = c .before .before .before .before .before .pre in
+    meeting.meets-same reading.clause _ _ pre _ _ _ _
+    ((meeting.peeked _ _ ((c .before .before .peek) .ensures) ((c .enum-told2) .given .1)) .here) refl tt
 
 same-length : tie.Need-same-length
 same-length c = search needs
 
 returns-4 : tie.Need-returns-4
-returns-4 c = meeting.meets-from reading.clause _ _ (c .before .before .before .before .before .before .before .before .before .before .before .before .before .before .before .before .before .before .before .before .pre) _ _ (meeting.peeked _ _ ((c .before .before .before .before .before .before .before .before .before .before .before .before .before .before .before .before .before .peek) .ensures) ((c .before .before .before .before .before .before .before .before .before .before .before .before .before .before .before .t) .given .1)) _ _ _ _ ((c .before .before .before .before .before .before .before .before .before .take-token) .ensures .0) ((c .before .before .before .before .before .before .before .before .before .take-token) .ensures .1) _ _ (reading.run reading.clauseStops 13) (chosen _ _ _ (sym ((c .before .before .before .before .before .before .before .before .before .before .before .before .ident-eq) .ensures) ∙ not-false _ ((c .before .before .before .before .before .before .before .before .before .before .before .if1) .left))) (meeting.meets-kept (contract.stream ((c .before .before .before .before .before .before .before .before .before .before .before .before .before .before .before .before .before .before .before .before .args) .s .now) ((c .before .before .before .before .before .before .before .before .before .take-token) .result)) (meeting.say contract.ranShown contract.ranSaid ((c .before .d) .given .1) ((c .before .before .before .before .before .read-tokens-until-punct) .ensures)))
+returns-4 c =
+    let args = c .before .before .before .before .before .before .before .before .before .before .before .before .before .before .before .before .before .before .before .before .args in
+    let pre = c .before .before .before .before .before .before .before .before .before .before .before .before .before .before .before .before .before .before .before .before .pre in
+    let peek = c .before .before .before .before .before .before .before .before .before .before .before .before .before .before .before .before .before .peek in
+    let t = c .before .before .before .before .before .before .before .before .before .before .before .before .before .before .before .t in
+    let ident-eq = c .before .before .before .before .before .before .before .before .before .before .before .before .ident-eq in
+    let if1 = c .before .before .before .before .before .before .before .before .before .before .before .if1 in
+    let take-token = c .before .before .before .before .before .before .before .before .before .take-token in
+    let read-tokens-until-punct = c .before .before .before .before .before .read-tokens-until-punct in
+    meeting.meets-from reading.clause _ _ pre _ _ (meeting.peeked _ _ (peek .ensures) (t .given .1)) _ _ _ _
+    (take-token .ensures .0) (take-token .ensures .1) _ _ (reading.run reading.clauseStops 13)
+    (chosen _ _ _ (sym (ident-eq .ensures) ∙ not-false _ (if1 .left)))
+    (meeting.meets-kept (contract.stream (args .s .now) (take-token .result))
+    (meeting.say contract.ranShown contract.ranSaid ((c .before .d) .given .1) (read-tokens-until-punct .ensures)))
 
 same-length-2 : tie.Need-same-length-2
 same-length-2 c = search needs
 
 returns-5 : tie.Need-returns-5
-returns-5 c = meeting.meets-from reading.clause _ _ (c .before .before .before .before .before .before .before .before .before .before .before .before .before .before .before .before .before .before .before .before .pre) _ _ (meeting.peeked _ _ ((c .before .before .before .before .before .before .before .before .before .before .before .before .before .before .before .before .before .peek) .ensures) ((c .before .before .before .before .before .before .before .before .before .before .before .before .before .before .before .t) .given .1)) _ _ _ _ ((c .before .before .before .before .before .before .before .before .before .take-token) .ensures .0) ((c .before .before .before .before .before .before .before .before .before .take-token) .ensures .1) _ _ (reading.run reading.clauseStops 13) (chosen _ _ _ (sym ((c .before .before .before .before .before .before .before .before .before .before .before .before .ident-eq) .ensures) ∙ not-false _ ((c .before .before .before .before .before .before .before .before .before .before .before .if1) .left))) (meeting.meets-kept (contract.stream ((c .before .before .before .before .before .before .before .before .before .before .before .before .before .before .before .before .before .before .before .before .args) .s .now) ((c .before .before .before .before .before .before .before .before .before .take-token) .result)) (meeting.say contract.ranShown contract.ranSaid ((c .before .r) .given .1) ((c .before .before .before .before .before .read-tokens-until-punct) .ensures)))
+returns-5 c =
+    let args = c .before .before .before .before .before .before .before .before .before .before .before .before .before .before .before .before .before .before .before .before .args in
+    let pre = c .before .before .before .before .before .before .before .before .before .before .before .before .before .before .before .before .before .before .before .before .pre in
+    let peek = c .before .before .before .before .before .before .before .before .before .before .before .before .before .before .before .before .before .peek in
+    let t = c .before .before .before .before .before .before .before .before .before .before .before .before .before .before .before .t in
+    let ident-eq = c .before .before .before .before .before .before .before .before .before .before .before .before .ident-eq in
+    let if1 = c .before .before .before .before .before .before .before .before .before .before .before .if1 in
+    let take-token = c .before .before .before .before .before .before .before .before .before .take-token in
+    let read-tokens-until-punct = c .before .before .before .before .before .read-tokens-until-punct in
+    meeting.meets-from reading.clause _ _ pre _ _ (meeting.peeked _ _ (peek .ensures) (t .given .1)) _ _ _ _
+    (take-token .ensures .0) (take-token .ensures .1) _ _ (reading.run reading.clauseStops 13)
+    (chosen _ _ _ (sym (ident-eq .ensures) ∙ not-false _ (if1 .left)))
+    (meeting.meets-kept (contract.stream (args .s .now) (take-token .result))
+    (meeting.say contract.ranShown contract.ranSaid ((c .before .r) .given .1) (read-tokens-until-punct .ensures)))
 
 pub try-take-constraints-spec : {M : Type 1} → statement M
 try-take-constraints-spec =

@@ -22,13 +22,25 @@ same-length : tie.Need-same-length
 same-length c = search needs
 
 returns : tie.Need-returns
-returns c = meets-as (ap (λ k. reading.bodyOf (contract.kindOf k) ((c .before .before .before .before .before .before .before .before .args) .c .row) (contract.stream ((c .before .before .before .before .before .before .before .before .args) .s .now) ((c .before .before .before .before .before .before .before .before .args) .c))) ((c .before .before .before .before .enum-told) .given .1)) ((c .before .before .take-struct) .ensures)
+returns c =
+    let args = c .before .before .before .before .before .before .before .before .args in
+    let enum-told = c .before .before .before .before .enum-told in
+    meets-as
+    (ap (λ k. reading.bodyOf (contract.kindOf k) (args .c .row) (contract.stream (args .s .now) (args .c)))
+    (enum-told .given .1))
+    ((c .before .before .take-struct) .ensures)
 
 same-length-2 : tie.Need-same-length-2
 same-length-2 c = search needs
 
 returns-2 : tie.Need-returns-2
-returns-2 c = meets-as (ap (λ k. reading.bodyOf (contract.kindOf k) ((c .before .before .before .before .before .before .before .before .args) .c .row) (contract.stream ((c .before .before .before .before .before .before .before .before .args) .s .now) ((c .before .before .before .before .before .before .before .before .args) .c))) ((c .before .before .before .before .enum-told2) .given .1)) ((c .before .before .take-enum) .ensures)
+returns-2 c =
+    let args = c .before .before .before .before .before .before .before .before .args in
+    let enum-told2 = c .before .before .before .before .enum-told2 in
+    meets-as
+    (ap (λ k. reading.bodyOf (contract.kindOf k) (args .c .row) (contract.stream (args .s .now) (args .c)))
+    (enum-told2 .given .1))
+    ((c .before .before .take-enum) .ensures)
 
 pub body-spec : {M : Type 1} → statement M
 body-spec =

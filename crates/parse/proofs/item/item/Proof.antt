@@ -16,7 +16,10 @@ enum-known-d : tie.Need-enum-known-d
 enum-known-d c = search needs
 
 try-take-requires-2 : tie.Need-try-take-requires-2
-try-take-requires-2 c κs = meeting.landed (meeting.say (λ x. contract.any) contract.stepSaid ((c .before .before .d) .given .1) ((c .before .before .before .before .before .before .try-take) .ensures))
+try-take-requires-2 c κs =
+    let try-take = c .before .before .before .before .before .before .try-take in
+    meeting.landed
+    (meeting.say (λ x. contract.any) contract.stepSaid ((c .before .before .d) .given .1) (try-take .ensures))
 
 take-requires : tie.Need-take-requires
 take-requires c κs = meeting.landed ((c .before .before .before .try-take2) .ensures)
@@ -28,25 +31,68 @@ enum-known-h : tie.Need-enum-known-h
 enum-known-h c = search needs
 
 parts-requires : tie.Need-parts-requires
-parts-requires c κs = meeting.landed (meeting.say (contract.headShown ((c .before .before .before .before .before .before .before .before .before .before .before .before .before .before .before .before .before .before .before .before .before .before .before .args) .s .now)) contract.headSaid ((c .before .before .before .before .h) .given .1) ((c .before .before .before .before .before .before .before .before .take) .ensures))
+parts-requires c κs =
+    let args = c .before .before .before .before .before .before .before .before .before .before .before .before .before .before .before .before .before .before .before .before .before .before .before .args in
+    let take = c .before .before .before .before .before .before .before .before .take in
+    let h = c .before .before .before .before .h in
+    meeting.landed (meeting.say (contract.headShown (args .s .now)) contract.headSaid (h .given .1) (take .ensures))
 
 same-length : tie.Need-same-length
 same-length c = search needs
 
 returns : tie.Need-returns
-returns c = meeting.meets-no _ (meeting.say (λ x. contract.any) contract.stepSaid ((c .before .r) .given .1) ((c .before .before .before .before .before .try-take) .ensures))
+returns c =
+    let try-take = c .before .before .before .before .before .try-take in
+    meeting.meets-no _
+    (meeting.say (λ x. contract.any) contract.stepSaid ((c .before .r) .given .1) (try-take .ensures))
 
 same-length-2 : tie.Need-same-length-2
 same-length-2 c = search needs
 
 returns-2 : tie.Need-returns-2
-returns-2 c = meeting.meets-then _ (meeting.say (λ x. contract.any) contract.stepSaid ((c .before .before .before .before .before .before .before .before .before .before .before .before .d) .given .1) ((c .before .before .before .before .before .before .before .before .before .before .before .before .before .before .before .before .try-take) .ensures)) (λ a _. meeting.meets-then _ ((c .before .before .before .before .before .before .before .before .before .try-take2) .ensures) (λ v _. meeting.meets-no _ (meeting.say (contract.headShown ((c .before .before .before .before .before .before .before .before .before .before .before .before .before .before .before .before .before .before .before .before .args) .s .now)) contract.headSaid ((c .before .r2) .given .1) ((c .before .before .before .before .before .take) .ensures))))
+returns-2 c =
+    let args = c .before .before .before .before .before .before .before .before .before .before .before .before .before .before .before .before .before .before .before .before .args in
+    let try-take = c .before .before .before .before .before .before .before .before .before .before .before .before .before .before .before .before .try-take in
+    let d = c .before .before .before .before .before .before .before .before .before .before .before .before .d in
+    let try-take2 = c .before .before .before .before .before .before .before .before .before .try-take2 in
+    let take = c .before .before .before .before .before .take in
+    meeting.meets-then _ (meeting.say (λ x. contract.any) contract.stepSaid (d .given .1) (try-take .ensures))
+    (λ a _.
+    meeting.meets-then _ (try-take2 .ensures)
+    (λ v _.
+    meeting.meets-no _
+    (meeting.say (contract.headShown (args .s .now)) contract.headSaid ((c .before .r2) .given .1)
+    (take .ensures))))
 
 same-length-3 : tie.Need-same-length-3
-same-length-3 c = (c .before .before .parts) .kept .1 .1 .0 ∙ (c .before .before .before .before .before .before .before .before .before .before .before .take) .kept .1 .1 .0 ∙ (c .before .before .before .before .before .before .before .before .before .before .before .before .before .before .before .try-take2) .kept .1 .1 .0 ∙ (c .before .before .before .before .before .before .before .before .before .before .before .before .before .before .before .before .before .before .before .before .before .before .try-take) .kept .1 .1 .0
+same-length-3 c =
+    let try-take = c .before .before .before .before .before .before .before .before .before .before .before .before .before .before .before .before .before .before .before .before .before .before .try-take in
+    let try-take2 = c .before .before .before .before .before .before .before .before .before .before .before .before .before .before .before .try-take2 in
+    let take = c .before .before .before .before .before .before .before .before .before .before .before .take in
+    (c .before .before .parts) .kept .1 .1 .0 ∙ take .kept .1 .1 .0 ∙ try-take2 .kept .1 .1 .0 ∙ try-take .kept .1 .1 .0
 
 returns-3 : tie.Need-returns-3
-returns-3 c = meeting.meets-then _ (meeting.say (λ x. contract.any) contract.stepSaid ((c .before .before .before .before .before .before .before .before .before .before .before .before .before .before .before .before .before .before .d) .given .1) ((c .before .before .before .before .before .before .before .before .before .before .before .before .before .before .before .before .before .before .before .before .before .before .try-take) .ensures)) (λ a _. meeting.meets-then _ ((c .before .before .before .before .before .before .before .before .before .before .before .before .before .before .before .try-take2) .ensures) (λ v _. meeting.meets-then (λ x. partsAfter (x .kind) (x .name)) (meeting.say (contract.headShown ((c .before .before .before .before .before .before .before .before .before .before .before .before .before .before .before .before .before .before .before .before .before .before .before .before .before .before .args) .s .now)) contract.headSaid ((c .before .before .before .before .before .before .before .h) .given .1) ((c .before .before .before .before .before .before .before .before .before .before .before .take) .ensures)) (λ x k. meeting.meets-as (ap (λ kd. partsAfter kd (x .name) ((c .before .before .before .before .before .before .before .h) .given .0 .0 .next .row) (contract.stream ((c .before .before .before .before .before .before .before .before .before .before .before .before .before .before .before .before .before .before .before .before .before .before .before .before .before .before .args) .s .now) ((c .before .before .before .before .before .before .before .h) .given .0 .0 .next))) (sym (k .0))) ((c .before .before .parts) .ensures (x .name) (k .1)))))
+returns-3 c =
+    let args = c .before .before .before .before .before .before .before .before .before .before .before .before .before .before .before .before .before .before .before .before .before .before .before .before .before .before .args in
+    let try-take = c .before .before .before .before .before .before .before .before .before .before .before .before .before .before .before .before .before .before .before .before .before .before .try-take in
+    let d = c .before .before .before .before .before .before .before .before .before .before .before .before .before .before .before .before .before .before .d in
+    let try-take2 = c .before .before .before .before .before .before .before .before .before .before .before .before .before .before .before .try-take2 in
+    let take = c .before .before .before .before .before .before .before .before .before .before .before .take in
+    let h = c .before .before .before .before .before .before .before .h in
+    meeting.meets-then _ (meeting.say (λ x. contract.any) contract.stepSaid (d .given .1) (try-take .ensures))
+    (λ a _.
+    meeting.meets-then _ (try-take2 .ensures)
+    (λ v _.
+    meeting.meets-then (λ x. partsAfter (x .kind) (x .name))
+    (meeting.say (contract.headShown (args .s .now)) contract.headSaid (h .given .1) (take .ensures))
+    (λ x k.
+    meeting.meets-as
+    (ap
+    (λ kd.
+    partsAfter kd (x .name) (h .given .0 .0 .next .row)
+    (contract.stream (args .s .now) (h .given .0 .0 .next)))
+    (sym (k .0)))
+    ((c .before .before .parts) .ensures (x .name) (k .1)))))
 
 pub item-spec : {M : Type 1} → statement M
 item-spec =

@@ -9,12 +9,7 @@ use mathlib.Core.List.{List}
 use Rattle.parse.proofs.Meeting as meeting
 use Rattle.parse.specs.Contract as contract
 use Rattle.reading.specs.Reading as reading
-use Rattle.token_list.proofs.Texts.{chosen, passed-over, and-last, and-fails}
-use Rattle.token_list.specs.Contract.{InList}
-use borrow.Author.Tests.{eq-eqb, ne-eqb, not-true, not-false}
-use native.Mathlib.Omega.{arith}
-use mathlib.Core.Bool.{true, false}
-use mathlib.Core.Path.{_≡_, refl, sym, _∙_, ap, subst, subst⁻¹}
+use mathlib.Core.Path.{sym, _∙_, ap}
 use borrow.Author.Needs.{needs}
 use Rattle.parse.proofs.item.new.Statement.{statement}
 use Rattle.parse.proofs.item.new.Tie as tie
@@ -45,16 +40,36 @@ same-length : tie.Need-same-length
 same-length c = search needs
 
 returns : tie.Need-returns
-returns c = both (items.answered-refused ((c .before .before .before .before .before .before .before .before .before .before .before .args) .s .now) ((c .before .before .before .before .before .before .before .before .before .before .before .args) .roles .now) _ ((c .before .before .refuse2) .ensures .0) (items.answer-short ((c .before .before .before .before .before .before .before .before .before .before .before .args) .s .now) _ ((c .before .before .before .before .before .before .rows) .given .0 .0) (sym ((c .before .before .before .before .before .before .before .before .check) .ensures) ∙ ap listed.checked ((c .before .before .before .before .before .before .rows) .given .1)) ((c .before .before .before .before .if1) .taken)) ((c .before .before .refuse2) .ensures .1))
+returns c =
+    let args = c .before .before .before .before .before .before .before .before .before .before .before .args in
+    let check = c .before .before .before .before .before .before .before .before .check in
+    let rows = c .before .before .before .before .before .before .rows in
+    let if1 = c .before .before .before .before .if1 in
+    let refuse2 = c .before .before .refuse2 in
+    both
+    (items.answered-refused (args .s .now) (args .roles .now) _ (refuse2 .ensures .0)
+    (items.answer-short (args .s .now) _ (rows .given .0 .0)
+    (sym (check .ensures) ∙ ap listed.checked (rows .given .1)) (if1 .taken))
+    (refuse2 .ensures .1))
 
 read-requires : tie.Need-read-requires
-read-requires c κs = (sym ((c .before .before .before .before .before .check) .ensures) ∙ ap listed.checked ((c .before .before .before .rows) .given .1), (c .before .if1) .left)
+read-requires c κs =
+    let check = c .before .before .before .before .before .check in
+    (sym (check .ensures) ∙ ap listed.checked ((c .before .before .before .rows) .given .1), (c .before .if1) .left)
 
 same-length-2 : tie.Need-same-length-2
 same-length-2 c = search needs
 
 returns-2 : tie.Need-returns-2
-returns-2 c = both (items.answered-refused ((c .before .before .before .before .before .before .before .before .before .before .args) .s .now) ((c .before .before .before .before .before .before .before .before .before .before .args) .roles .now) _ ((c .before .before .refuse) .ensures .0) (items.answer-refused ((c .before .before .before .before .before .before .before .before .before .before .args) .s .now) _ _ _ (sym ((c .before .before .before .before .before .before .before .check) .ensures) ∙ ap listed.checked ((c .before .before .before .before .before .r) .given .1))) ((c .before .before .refuse) .ensures .1))
+returns-2 c =
+    let args = c .before .before .before .before .before .before .before .before .before .before .args in
+    let check = c .before .before .before .before .before .before .before .check in
+    let r = c .before .before .before .before .before .r in
+    let refuse = c .before .before .refuse in
+    both
+    (items.answered-refused (args .s .now) (args .roles .now) _ (refuse .ensures .0)
+    (items.answer-refused (args .s .now) _ _ _ (sym (check .ensures) ∙ ap listed.checked (r .given .1)))
+    (refuse .ensures .1))
 
 same-length-3 : tie.Need-same-length-3
 same-length-3 c = search needs

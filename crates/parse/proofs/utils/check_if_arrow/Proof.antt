@@ -1,6 +1,5 @@
 use Rattle.token_list.proofs.Texts.{and-last, and-fails}
-use mathlib.Core.Path.{_≡_, sym}
-use borrow.Author.Needs.{needs}
+use mathlib.Core.Path.{sym}
 use Rattle.parse.proofs.utils.check_if_arrow.Statement.{statement}
 use Rattle.parse.proofs.utils.check_if_arrow.Tie as tie
 

@@ -15,7 +15,10 @@ returns : tie.Need-returns
 returns c =
     let d = c .before .before .before .before in
     let a = d .args in
-    meets-same (punctIf (a .punct) (a .role)) (a .s .now) (a .c) (d .pre) _ _ _ _ refl (no-punct (a .punct) (a .role) (a .c .row) (stream (a .s .now) (a .c)) (sym (c .before .stands-punct .ensures) ∙ not-true _ (c .if1 .taken))) refl
+    meets-same (punctIf (a .punct) (a .role)) (a .s .now) (a .c) (d .pre) _ _ _ _ refl
+    (no-punct (a .punct) (a .role) (a .c .row) (stream (a .s .now) (a .c))
+    (sym (c .before .stands-punct .ensures) ∙ not-true _ (c .if1 .taken)))
+    refl
 
 take-punct-requires : tie.Need-take-punct-requires
 take-punct-requires c κs = search needs

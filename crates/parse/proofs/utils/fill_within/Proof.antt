@@ -8,7 +8,8 @@ use Rattle.parse.proofs.utils.fill_within.Statement.{statement}
 use Rattle.parse.proofs.utils.fill_within.Tie as tie
 
 abbrev Inv-loop : tie.InvT-loop
-Inv-loop roles₀ from to role i₀ roles i = (from ≤ i) × (roles ≡ sets roles₀ from (replicate (i - from) role)) × (i - from ≤ to - from)
+Inv-loop roles₀ from to role i₀ roles i =
+    (from ≤ i) × (roles ≡ sets roles₀ from (replicate (i - from) role)) × (i - from ≤ to - from)
 
 abbrev μ-loop : tie.MeasureT-loop
 μ-loop roles₀ from to role i₀ roles i = to - i
@@ -18,8 +19,9 @@ loop-holds c = (omega arith, fill-start (c .args .roles .now) (c .args .from) (c
 
 slice-write-roles : tie.Need-slice-write-roles Inv-loop μ-loop
 slice-write-roles c =
+    let args = c .before .before .args in
     let l = c .before .loop in
-    omega (arith, ap length (l .inv .1), length-sets (c .before .before .args .roles .now) (c .before .before .args .from) (replicate (l .i - c .before .before .args .from) (c .before .before .args .role)), c .before .before .pre)
+    omega (arith, ap length (l .inv .1), length-sets (args .roles .now) (args .from) (replicate (l .i - args .from) (args .role)), c .before .before .pre)
 
 add-i : tie.Need-add-i Inv-loop μ-loop
 add-i c = omega arith

@@ -1,6 +1,6 @@
 use Rattle.token_list.proofs.Texts.{and-last, and-fails}
 use borrow.Author.Tests.{eq-eqb, ne-eqb}
-use mathlib.Core.Path.{_≡_, sym, _∙_}
+use mathlib.Core.Path.{sym, _∙_}
 use borrow.Author.Needs.{needs}
 use Rattle.parse.proofs.utils.ident_eq.Statement.{statement}
 use Rattle.parse.proofs.utils.ident_eq.Tie as tie

@@ -1,6 +1,6 @@
 use Rattle.token_list.proofs.Texts.{and-last, and-fails}
 use borrow.Author.Tests.{eq-eqb, ne-eqb}
-use mathlib.Core.Path.{_≡_, sym}
+use mathlib.Core.Path.{sym}
 use Rattle.parse.proofs.utils.is_punct.Statement.{statement}
 use Rattle.parse.proofs.utils.is_punct.Tie as tie
 

@@ -1,6 +1,6 @@
 use Rattle.token_list.proofs.Texts.{chosen, passed-over}
 use borrow.Author.Tests.{eq-eqb, ne-eqb}
-use mathlib.Core.Path.{_≡_, sym, _∙_}
+use mathlib.Core.Path.{sym, _∙_}
 use borrow.Author.Needs.{needs}
 use Rattle.parse.proofs.utils.judge.Statement.{statement}
 use Rattle.parse.proofs.utils.judge.Tie as tie

@@ -1,6 +1,6 @@
 use Rattle.token_list.proofs.Texts.{chosen, passed-over, and-last, and-both, and-fails}
 use borrow.Author.Tests.{eq-eqb, ne-eqb}
-use mathlib.Core.Path.{_≡_, sym, _∙_}
+use mathlib.Core.Path.{sym, _∙_}
 use Rattle.parse.proofs.utils.judge_comma.Statement.{statement}
 use Rattle.parse.proofs.utils.judge_comma.Tie as tie
 

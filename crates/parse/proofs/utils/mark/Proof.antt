@@ -1,5 +1,5 @@
 use lib.Seq.{set-out}
-use mathlib.Core.Path.{_≡_, sym}
+use mathlib.Core.Path.{sym}
 use borrow.Author.Needs.{needs}
 use Rattle.parse.proofs.utils.mark.Statement.{statement}
 use Rattle.parse.proofs.utils.mark.Tie as tie

@@ -1,7 +1,6 @@
 use Rattle.parse.proofs.Meeting.{peeked}
 use Rattle.reading.specs.Took.{placeOf}
-use Rattle.token_list.specs.Contract.{stands as standsAt}
-use mathlib.Core.Path.{_≡_, sym, ap, subst}
+use mathlib.Core.Path.{sym, ap}
 use borrow.Author.Needs.{needs}
 use Rattle.parse.proofs.utils.place.Statement.{statement}
 use Rattle.parse.proofs.utils.place.Tie as tie
@@ -19,17 +18,21 @@ enum-told-3 : tie.Need-enum-told-3
 enum-told-3 c = search needs
 
 returns : tie.Need-returns
-returns c = sym (ap (placeOf (c .before .before .before .before .args .c .row)) (peeked _ _ (c .before .before .peek .ensures) (c .enum-told .given .1)))
+returns c =
+    let args = c .before .before .before .before .args in
+    sym (ap (placeOf (args .c .row)) (peeked _ _ (c .before .before .peek .ensures) (c .enum-told .given .1)))
 
 returns-2 : tie.Need-returns-2
 returns-2 c =
+    let args = c .before .before .before .before .args in
     let t = c .enum-told2 .given in
-    sym (ap (placeOf (c .before .before .before .before .args .c .row)) (peeked _ _ (c .before .before .peek .ensures) (t .1) .here))
+    sym (ap (placeOf (args .c .row)) (peeked _ _ (c .before .before .peek .ensures) (t .1) .here))
 
 returns-3 : tie.Need-returns-3
 returns-3 c =
+    let args = c .before .before .before .before .args in
     let t = c .enum-told3 .given in
-    sym (ap (placeOf (c .before .before .before .before .args .c .row)) (peeked _ _ (c .before .before .peek .ensures) (t .1) .here))
+    sym (ap (placeOf (args .c .row)) (peeked _ _ (c .before .before .peek .ensures) (t .1) .here))
 
 pub place-spec : {M : Type 1} → statement M
 place-spec =

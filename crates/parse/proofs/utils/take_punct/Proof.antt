@@ -1,12 +1,9 @@
 use Rattle.parse.proofs.Meeting as meeting
 use Rattle.parse.specs.Contract as contract
 use Rattle.reading.specs.Reading as reading
-use Rattle.token_list.proofs.Texts.{chosen, passed-over, and-last, and-fails}
-use Rattle.token_list.specs.Contract.{InList}
-use borrow.Author.Tests.{eq-eqb, ne-eqb, not-true, not-false}
-use native.Mathlib.Omega.{arith}
-use mathlib.Core.Bool.{true, false}
-use mathlib.Core.Path.{_≡_, refl, sym, _∙_, ap, subst, subst⁻¹}
+use Rattle.token_list.proofs.Texts.{chosen, passed-over}
+use borrow.Author.Tests.{not-true, not-false}
+use mathlib.Core.Path.{refl, sym, _∙_}
 use borrow.Author.Needs.{needs}
 use Rattle.parse.proofs.utils.take_punct.Statement.{statement}
 use Rattle.parse.proofs.utils.take_punct.Tie as tie
@@ -28,25 +25,52 @@ is-punct-requires c κs = search needs
 
 returns : tie.Need-returns
 returns c =
-    let l = meeting.peeked _ _ ((c .before .before .before .before .before .peek) .ensures) ((c .before .before .before .t) .given .1) in
-    meeting.meets-same (reading.punctIf ((c .before .before .before .before .before .before .before .before .args) .punct) ((c .before .before .before .before .before .before .before .before .args) .role)) _ _ (c .before .before .before .before .before .before .before .before .pre) _ _ _ _ (l .here) (passed-over _ _ _ (meeting.punct-of _ _ _ _ (l .token) ∙ sym ((c .before .is-punct) .ensures) ∙ not-true _ ((c .if1) .taken))) refl
+    let args = c .before .before .before .before .before .before .before .before .args in
+    let pre = c .before .before .before .before .before .before .before .before .pre in
+    let peek = c .before .before .before .before .before .peek in
+    let l = meeting.peeked _ _ (peek .ensures) ((c .before .before .before .t) .given .1) in
+    meeting.meets-same (reading.punctIf (args .punct) (args .role)) _ _ pre _ _ _ _ (l .here)
+    (passed-over _ _ _
+    (meeting.punct-of _ _ _ _ (l .token) ∙ sym ((c .before .is-punct) .ensures) ∙ not-true _ ((c .if1) .taken)))
+    refl
 
 take-token-requires : tie.Need-take-token-requires
-take-token-requires c κs = ((c .before .before .before .before .before .before .before .before .before .pre), meeting.peeked _ _ ((c .before .before .before .before .before .before .peek) .ensures) ((c .before .before .before .before .t) .given .1) .token)
+take-token-requires c κs =
+    let pre = c .before .before .before .before .before .before .before .before .before .pre in
+    let peek = c .before .before .before .before .before .before .peek in
+    let t = c .before .before .before .before .t in
+    (pre, meeting.peeked _ _ (peek .ensures) (t .given .1) .token)
 
 returns-2 : tie.Need-returns-2
-returns-2 c = meeting.meets-same (reading.punctIf ((c .before .before .before .before .before .args) .punct) ((c .before .before .before .before .before .args) .role)) _ _ (c .before .before .before .before .before .pre) _ _ _ _ (meeting.peeked _ _ ((c .before .before .peek) .ensures) ((c .enum-told) .given .1)) refl refl
+returns-2 c =
+    let args = c .before .before .before .before .before .args in
+    let pre = c .before .before .before .before .before .pre in
+    meeting.meets-same (reading.punctIf (args .punct) (args .role)) _ _ pre _ _ _ _
+    (meeting.peeked _ _ ((c .before .before .peek) .ensures) ((c .enum-told) .given .1)) refl refl
 
 returns-3 : tie.Need-returns-3
-returns-3 c = meeting.meets-same (reading.punctIf ((c .before .before .before .before .before .args) .punct) ((c .before .before .before .before .before .args) .role)) _ _ (c .before .before .before .before .before .pre) _ _ _ _ (meeting.peeked _ _ ((c .before .before .peek) .ensures) ((c .enum-told2) .given .1) .here) refl refl
+returns-3 c =
+    let args = c .before .before .before .before .before .args in
+    let pre = c .before .before .before .before .before .pre in
+    meeting.meets-same (reading.punctIf (args .punct) (args .role)) _ _ pre _ _ _ _
+    (meeting.peeked _ _ ((c .before .before .peek) .ensures) ((c .enum-told2) .given .1) .here) refl refl
 
 same-length : tie.Need-same-length
 same-length c = search needs
 
 returns-4 : tie.Need-returns-4
 returns-4 c =
-    let l = meeting.peeked _ _ ((c .before .before .before .before .before .before .before .before .before .peek) .ensures) ((c .before .before .before .before .before .before .before .t) .given .1) in
-    meeting.meets-leaf (reading.punctIf ((c .before .before .before .before .before .before .before .before .before .before .before .before .args) .punct) ((c .before .before .before .before .before .before .before .before .before .before .before .before .args) .role)) _ _ (c .before .before .before .before .before .before .before .before .before .before .before .before .pre) _ _ l _ _ _ _ ((c .before .before .take-token) .ensures .0) ((c .before .before .take-token) .ensures .1) _ (chosen _ _ _ (meeting.punct-of _ _ _ _ (l .token) ∙ sym ((c .before .before .before .before .before .is-punct) .ensures) ∙ not-false _ ((c .before .before .before .before .if1) .left))) refl
+    let args = c .before .before .before .before .before .before .before .before .before .before .before .before .args in
+    let pre = c .before .before .before .before .before .before .before .before .before .before .before .before .pre in
+    let peek = c .before .before .before .before .before .before .before .before .before .peek in
+    let t = c .before .before .before .before .before .before .before .t in
+    let is-punct = c .before .before .before .before .before .is-punct in
+    let if1 = c .before .before .before .before .if1 in
+    let take-token = c .before .before .take-token in
+    let l = meeting.peeked _ _ (peek .ensures) (t .given .1) in
+    meeting.meets-leaf (reading.punctIf (args .punct) (args .role)) _ _ pre _ _ l _ _ _ _ (take-token .ensures .0)
+    (take-token .ensures .1) _
+    (chosen _ _ _ (meeting.punct-of _ _ _ _ (l .token) ∙ sym (is-punct .ensures) ∙ not-false _ (if1 .left))) refl
 
 pub take-punct-spec : {M : Type 1} → statement M
 take-punct-spec =

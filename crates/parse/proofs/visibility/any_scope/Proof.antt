@@ -1,12 +1,7 @@
 use Rattle.parse.proofs.Meeting as meeting
 use Rattle.parse.specs.Contract as contract
 use Rattle.reading.specs.Reading as reading
-use Rattle.token_list.proofs.Texts.{chosen, passed-over, and-last, and-fails}
-use Rattle.token_list.specs.Contract.{InList}
-use borrow.Author.Tests.{eq-eqb, ne-eqb, not-true, not-false}
-use native.Mathlib.Omega.{arith}
-use mathlib.Core.Bool.{true, false}
-use mathlib.Core.Path.{_≡_, refl, sym, _∙_, ap, subst, subst⁻¹}
+use mathlib.Core.Path.{refl}
 use borrow.Author.Needs.{needs}
 use Rattle.parse.proofs.visibility.any_scope.Statement.{statement}
 use Rattle.parse.proofs.visibility.any_scope.Tie as tie
@@ -24,19 +19,33 @@ enum-known-t : tie.Need-enum-known-t
 enum-known-t c = search needs
 
 take-group-requires : tie.Need-take-group-requires
-take-group-requires c κs = ((c .before .before .before .before .before .before .before .pre), (meeting.peeked _ _ ((c .before .before .before .before .peek) .ensures) ((c .before .before .t) .given .1)))
+take-group-requires c κs =
+    let pre = c .before .before .before .before .before .before .before .pre in
+    let peek = c .before .before .before .before .peek in
+    (pre, (meeting.peeked _ _ (peek .ensures) ((c .before .before .t) .given .1)))
 
 returns : tie.Need-returns
-returns c = meeting.meets-same reading.anyScope _ _ (c .before .before .before .before .before .pre) _ _ _ _ (meeting.peeked _ _ ((c .before .before .peek) .ensures) ((c .enum-told) .given .1)) refl tt
+returns c =
+    let pre = c .before .before .before .before .before .pre in
+    meeting.meets-same reading.anyScope _ _ pre _ _ _ _
+    (meeting.peeked _ _ ((c .before .before .peek) .ensures) ((c .enum-told) .given .1)) refl tt
 
 returns-2 : tie.Need-returns-2
-returns-2 c = meeting.meets-same reading.anyScope _ _ (c .before .before .before .before .before .pre) _ _ _ _ ((meeting.peeked _ _ ((c .before .before .peek) .ensures) ((c .enum-told2) .given .1)) .here) refl tt
+returns-2 c =
+    let pre = c .before .before .before .before .before .pre in
+    meeting.meets-same reading.anyScope _ _ pre _ _ _ _
+    ((meeting.peeked _ _ ((c .before .before .peek) .ensures) ((c .enum-told2) .given .1)) .here) refl tt
 
 same-length : tie.Need-same-length
 same-length c = search needs
 
 returns-3 : tie.Need-returns-3
-returns-3 c = meeting.meets-group reading.anyScope _ _ (c .before .before .before .before .before .before .before .before .before .before .pre) _ _ (meeting.peeked _ _ ((c .before .before .before .before .before .before .before .peek) .ensures) ((c .before .before .before .before .before .t) .given .1)) _ _ _ _ ((c .before .before .take-group) .ensures) _ refl tt
+returns-3 c =
+    let pre = c .before .before .before .before .before .before .before .before .before .before .pre in
+    let peek = c .before .before .before .before .before .before .before .peek in
+    let t = c .before .before .before .before .before .t in
+    meeting.meets-group reading.anyScope _ _ pre _ _ (meeting.peeked _ _ (peek .ensures) (t .given .1)) _ _ _ _
+    ((c .before .before .take-group) .ensures) _ refl tt
 
 pub any-scope-spec : {M : Type 1} → statement M
 any-scope-spec =

@@ -3,11 +3,7 @@ use Rattle.parse.proofs.Meeting as meeting
 use Rattle.parse.specs.Contract as contract
 use Rattle.reading.specs.Reading as reading
 use Rattle.token_list.proofs.Texts.{chosen, passed-over, and-last, and-fails}
-use Rattle.token_list.specs.Contract.{InList}
-use borrow.Author.Tests.{eq-eqb, ne-eqb, not-true, not-false}
-use native.Mathlib.Omega.{arith}
-use mathlib.Core.Bool.{true, false}
-use mathlib.Core.Path.{_≡_, refl, sym, _∙_, ap, subst, subst⁻¹}
+use mathlib.Core.Path.{sym, _∙_}
 use borrow.Author.Needs.{needs}
 use Rattle.parse.proofs.visibility.is_scope_word.Statement.{statement}
 use Rattle.parse.proofs.visibility.is_scope_word.Tie as tie
@@ -28,7 +24,11 @@ ident-eq-requires-2 : tie.Need-ident-eq-requires-2
 ident-eq-requires-2 c κs = search needs
 
 returns-2 : tie.Need-returns-2
-returns-2 c = sym (or-last _ _ (sym ((c .before .before .before .before .ident-eq) .ensures) ∙ (c .before .before .before .if1) .left) ∙ or-holds _ _ (sym ((c .before .ident-eq2) .ensures) ∙ (c .if2) .taken))
+returns-2 c =
+    let ident-eq = c .before .before .before .before .ident-eq in
+    sym
+    (or-last _ _ (sym (ident-eq .ensures) ∙ (c .before .before .before .if1) .left) ∙ or-holds _ _
+    (sym ((c .before .ident-eq2) .ensures) ∙ (c .if2) .taken))
 
 slice-aggregate-ident-eq-3 : tie.Need-slice-aggregate-ident-eq-3
 slice-aggregate-ident-eq-3 c = search needs
@@ -37,7 +37,14 @@ ident-eq-requires-3 : tie.Need-ident-eq-requires-3
 ident-eq-requires-3 c κs = search needs
 
 returns-3 : tie.Need-returns-3
-returns-3 c = sym (or-last _ _ (sym ((c .before .before .before .before .before .before .before .ident-eq) .ensures) ∙ (c .before .before .before .before .before .before .if1) .left) ∙ or-last _ _ (sym ((c .before .before .before .before .ident-eq2) .ensures) ∙ (c .before .before .before .if2) .left) ∙ or-holds _ _ (sym ((c .before .ident-eq3) .ensures) ∙ (c .if3) .taken))
+returns-3 c =
+    let ident-eq = c .before .before .before .before .before .before .before .ident-eq in
+    let if1 = c .before .before .before .before .before .before .if1 in
+    let ident-eq2 = c .before .before .before .before .ident-eq2 in
+    sym
+    (or-last _ _ (sym (ident-eq .ensures) ∙ if1 .left) ∙ or-last _ _
+    (sym (ident-eq2 .ensures) ∙ (c .before .before .before .if2) .left) ∙ or-holds _ _
+    (sym ((c .before .ident-eq3) .ensures) ∙ (c .if3) .taken))
 
 slice-aggregate-ident-eq-4 : tie.Need-slice-aggregate-ident-eq-4
 slice-aggregate-ident-eq-4 c = search needs
@@ -46,7 +53,14 @@ ident-eq-requires-4 : tie.Need-ident-eq-requires-4
 ident-eq-requires-4 c κs = search needs
 
 returns-4 : tie.Need-returns-4
-returns-4 c = (c .ident-eq4) .ensures ∙ sym (or-last _ _ (sym ((c .before .before .before .before .before .before .before .before .before .ident-eq) .ensures) ∙ (c .before .before .before .before .before .before .before .before .if1) .left) ∙ or-last _ _ (sym ((c .before .before .before .before .before .before .ident-eq2) .ensures) ∙ (c .before .before .before .before .before .if2) .left) ∙ or-last _ _ (sym ((c .before .before .before .ident-eq3) .ensures) ∙ (c .before .before .if3) .left))
+returns-4 c =
+    let ident-eq = c .before .before .before .before .before .before .before .before .before .ident-eq in
+    let if1 = c .before .before .before .before .before .before .before .before .if1 in
+    let ident-eq2 = c .before .before .before .before .before .before .ident-eq2 in
+    let if2 = c .before .before .before .before .before .if2 in
+    (c .ident-eq4) .ensures ∙ sym
+    (or-last _ _ (sym (ident-eq .ensures) ∙ if1 .left) ∙ or-last _ _ (sym (ident-eq2 .ensures) ∙ if2 .left) ∙ or-last
+    _ _ (sym ((c .before .before .before .ident-eq3) .ensures) ∙ (c .before .before .if3) .left))
 
 pub is-scope-word-spec : {M : Type 1} → statement M
 is-scope-word-spec =

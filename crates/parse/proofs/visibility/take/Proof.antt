@@ -10,12 +10,9 @@ use mathlib.Core.List.{List}
 use Rattle.parse.proofs.Meeting as meeting
 use Rattle.parse.specs.Contract as contract
 use Rattle.reading.specs.Reading as reading
-use Rattle.token_list.proofs.Texts.{chosen, passed-over, and-last, and-fails}
-use Rattle.token_list.specs.Contract.{InList}
-use borrow.Author.Tests.{eq-eqb, ne-eqb, not-true, not-false}
-use native.Mathlib.Omega.{arith}
-use mathlib.Core.Bool.{true, false}
-use mathlib.Core.Path.{_≡_, refl, sym, _∙_, ap, subst, subst⁻¹}
+use Rattle.token_list.proofs.Texts.{chosen, passed-over, and-last}
+use borrow.Author.Tests.{eq-eqb, not-true, not-false}
+use mathlib.Core.Path.{_≡_, refl, sym, _∙_, ap, subst}
 use borrow.Author.Needs.{needs}
 use Rattle.parse.proofs.visibility.take.Statement.{statement}
 use Rattle.parse.proofs.visibility.take.Tie as tie
@@ -39,25 +36,49 @@ slice-aggregate-ident-eq : tie.Need-slice-aggregate-ident-eq
 slice-aggregate-ident-eq c = search needs
 
 ident-eq-requires : tie.Need-ident-eq-requires
-ident-eq-requires c κs = meeting.token-within _ _ _ ((meeting.peeked _ _ ((c .before .before .before .before .peek) .ensures) ((c .before .before .t) .given .1)) .token)
+ident-eq-requires c κs =
+    let peek = c .before .before .before .before .peek in
+    meeting.token-within _ _ _ ((meeting.peeked _ _ (peek .ensures) ((c .before .before .t) .given .1)) .token)
 
 returns : tie.Need-returns
-returns c = meeting.meets-same reading.visibility _ _ (c .before .before .before .before .before .before .before .before .before .pre) _ _ _ _ ((meeting.peeked _ _ ((c .before .before .before .before .before .before .peek) .ensures) ((c .before .before .before .before .t) .given .1)) .here) (passed-over _ _ _ (sym ((c .before .ident-eq) .ensures) ∙ not-true _ ((c .if1) .taken))) tt
+returns c =
+    let pre = c .before .before .before .before .before .before .before .before .before .pre in
+    let peek = c .before .before .before .before .before .before .peek in
+    let t = c .before .before .before .before .t in
+    meeting.meets-same reading.visibility _ _ pre _ _ _ _ ((meeting.peeked _ _ (peek .ensures) (t .given .1)) .here)
+    (passed-over _ _ _ (sym ((c .before .ident-eq) .ensures) ∙ not-true _ ((c .if1) .taken))) tt
 
 take-token-requires : tie.Need-take-token-requires
-take-token-requires c κs = ((c .before .before .before .before .before .before .before .before .before .before .pre), (meeting.peeked _ _ ((c .before .before .before .before .before .before .before .peek) .ensures) ((c .before .before .before .before .before .t) .given .1)) .token)
+take-token-requires c κs =
+    let pre = c .before .before .before .before .before .before .before .before .before .before .pre in
+    let peek = c .before .before .before .before .before .before .before .peek in
+    let t = c .before .before .before .before .before .t in
+    (pre, (meeting.peeked _ _ (peek .ensures) (t .given .1)) .token)
 
 scope-after-requires : tie.Need-scope-after-requires
-scope-after-requires c κs = meeting.past-in-of _ _ _ _ ((c .before .before .before .take-token) .ensures .0) (c .before .before .before .before .before .before .before .before .before .before .before .before .before .before .pre) ((meeting.peeked _ _ ((c .before .before .before .before .before .before .before .before .before .before .before .peek) .ensures) ((c .before .before .before .before .before .before .before .before .before .t) .given .1)) .token)
+scope-after-requires c κs =
+    let pre = c .before .before .before .before .before .before .before .before .before .before .before .before .before .before .pre in
+    let peek = c .before .before .before .before .before .before .before .before .before .before .before .peek in
+    let t = c .before .before .before .before .before .before .before .before .before .t in
+    meeting.past-in-of _ _ _ _ ((c .before .before .before .take-token) .ensures .0) pre
+    ((meeting.peeked _ _ (peek .ensures) (t .given .1)) .token)
 
 enum-known-t-2 : tie.Need-enum-known-t-2
 enum-known-t-2 c = search needs
 
 past-requires : tie.Need-past-requires
-past-requires c κs = ((c .before .before .before .before .before .before .pre), (meeting.peeked _ _ ((c .before .before .before .peek) .ensures) ((c .before .t2) .given .1)) .token)
+past-requires c κs =
+    let pre = c .before .before .before .before .before .before .pre in
+    (pre, (meeting.peeked _ _ ((c .before .before .before .peek) .ensures) ((c .before .t2) .given .1)) .token)
 
 lone-ident-requires : tie.Need-lone-ident-requires
-lone-ident-requires c κs = (meeting.past-in-of _ _ _ _ ((c .past) .ensures) (c .before .before .before .before .before .before .before .pre) ((meeting.peeked _ _ ((c .before .before .before .before .peek) .ensures) ((c .before .before .t2) .given .1)) .token), meeting.follows-of _ _ _ _ ((c .past) .ensures) (c .before .before .before .before .before .before .before .pre) (meeting.peeked _ _ ((c .before .before .before .before .peek) .ensures) ((c .before .before .t2) .given .1)))
+lone-ident-requires c κs =
+    let pre = c .before .before .before .before .before .before .before .pre in
+    let peek = c .before .before .before .before .peek in
+    let t2 = c .before .before .t2 in (
+      meeting.past-in-of _ _ _ _ ((c .past) .ensures) pre ((meeting.peeked _ _ (peek .ensures) (t2 .given .1)) .token),
+      meeting.follows-of _ _ _ _ ((c .past) .ensures) pre (meeting.peeked _ _ (peek .ensures) (t2 .given .1)),
+    )
 
 enum-told-2 : tie.Need-enum-told-2
 enum-told-2 c = search needs
@@ -69,44 +90,95 @@ slice-aggregate-ident-eq-2 : tie.Need-slice-aggregate-ident-eq-2
 slice-aggregate-ident-eq-2 c = search needs
 
 ident-eq-requires-2 : tie.Need-ident-eq-requires-2
-ident-eq-requires-2 c κs = subst (contract.loneShown _ _) ((c .before .before .before .w) .given .1) ((c .before .before .before .before .before .lone-ident) .ensures) .1 .within
+ident-eq-requires-2 c κs =
+    let lone-ident = c .before .before .before .before .before .lone-ident in
+    subst (contract.loneShown _ _) ((c .before .before .before .w) .given .1) (lone-ident .ensures) .1 .within
 
 returns-2 : tie.Need-returns-2
 returns-2 c =
-    let w = lone-shown _ _ _ _ _ ((c .before .before .before .before .before .before .before .before .past) .ensures) ((c .before .before .before .before .before .w) .given .1) ((c .before .before .before .before .before .before .before .lone-ident) .ensures) in
-    let ins = at ((c .before .before .before .before .before .before .before .before .before .before .before .before .before .before .before .args) .s .now) ((c .before .before .before .before .before .before .before .before .before .before .t2) .given .0 .0 .next) .here in
-    meeting.meets-same reading.visibility _ _ (c .before .before .before .before .before .before .before .before .before .before .before .before .before .before .before .pre) _ _ _ _ (meeting.group-stream _ _ _ (c .before .before .before .before .before .before .before .before .before .before .before .before .before .before .before .pre) (meeting.peeked _ _ ((c .before .before .before .before .before .before .before .before .before .before .before .before .peek) .ensures) ((c .before .before .before .before .before .before .before .before .before .before .t2) .given .1))) (passed-over _ _ _ (meeting.lone-word reading.PUB ins (w .0) ∙ ap (λ x. same x reading.PUB) (w .1 .bytes) ∙ sym (and-last _ _ (eq-eqb _ _ (w .2))) ∙ sym ((c .before .ident-eq2) .ensures) ∙ not-true _ ((c .if2) .taken))) tt
+    let args = c .before .before .before .before .before .before .before .before .before .before .before .before .before .before .before .args in
+    let pre = c .before .before .before .before .before .before .before .before .before .before .before .before .before .before .before .pre in
+    let peek = c .before .before .before .before .before .before .before .before .before .before .before .before .peek in
+    let t2 = c .before .before .before .before .before .before .before .before .before .before .t2 in
+    let past = c .before .before .before .before .before .before .before .before .past in
+    let lone-ident = c .before .before .before .before .before .before .before .lone-ident in
+    let w-2 = c .before .before .before .before .before .w in
+    let w = lone-shown _ _ _ _ _ (past .ensures) (w-2 .given .1) (lone-ident .ensures) in
+    let ins = at (args .s .now) (t2 .given .0 .0 .next) .here in
+    meeting.meets-same reading.visibility _ _ pre _ _ _ _
+    (meeting.group-stream _ _ _ pre (meeting.peeked _ _ (peek .ensures) (t2 .given .1)))
+    (passed-over _ _ _
+    (meeting.lone-word reading.PUB ins (w .0) ∙ ap (λ x. same x reading.PUB) (w .1 .bytes) ∙ sym
+    (and-last _ _ (eq-eqb _ _ (w .2))) ∙ sym ((c .before .ident-eq2) .ensures) ∙ not-true _ ((c .if2) .taken)))
+    tt
 
 take-group-requires : tie.Need-take-group-requires
-take-group-requires c κs = ((c .before .before .before .before .before .before .before .before .before .before .before .before .before .before .before .before .pre), (meeting.peeked _ _ ((c .before .before .before .before .before .before .before .before .before .before .before .before .before .peek) .ensures) ((c .before .before .before .before .before .before .before .before .before .before .before .t2) .given .1)))
+take-group-requires c κs =
+    let pre = c .before .before .before .before .before .before .before .before .before .before .before .before .before .before .before .before .pre in
+    let peek = c .before .before .before .before .before .before .before .before .before .before .before .before .before .peek in
+    let t2 = c .before .before .before .before .before .before .before .before .before .before .before .t2 in
+    (pre, (meeting.peeked _ _ (peek .ensures) (t2 .given .1)))
 
 any-scope-requires : tie.Need-any-scope-requires
 any-scope-requires c κs = (c .before .before .before .take-group) .ensures .inList
 
 returns-3 : tie.Need-returns-3
-returns-3 c = meeting.meets-same reading.visibility _ _ (c .before .before .before .before .before .pre) _ _ _ _ (meeting.peeked _ _ ((c .before .before .peek) .ensures) ((c .enum-told) .given .1)) refl tt
+returns-3 c =
+    let pre = c .before .before .before .before .before .pre in
+    meeting.meets-same reading.visibility _ _ pre _ _ _ _
+    (meeting.peeked _ _ ((c .before .before .peek) .ensures) ((c .enum-told) .given .1)) refl tt
 
 same-length : tie.Need-same-length
 same-length c = search needs
 
 returns-4 : tie.Need-returns-4
-returns-4 c = meeting.meets-from reading.visibility _ _ (c .before .before .before .before .before .before .before .before .before .before .before .before .before .before .before .before .before .pre) _ _ (meeting.peeked _ _ ((c .before .before .before .before .before .before .before .before .before .before .before .before .before .before .peek) .ensures) ((c .before .before .before .before .before .before .before .before .before .before .before .before .t) .given .1)) _ _ _ _ ((c .before .before .before .before .before .before .take-token) .ensures .0) ((c .before .before .before .before .before .before .take-token) .ensures .1) _ _ reading.scopeAfter (chosen _ _ _ (sym ((c .before .before .before .before .before .before .before .before .before .ident-eq) .ensures) ∙ not-false _ ((c .before .before .before .before .before .before .before .before .if1) .left))) ((c .before .before .scope-after) .ensures)
+returns-4 c =
+    let pre = c .before .before .before .before .before .before .before .before .before .before .before .before .before .before .before .before .before .pre in
+    let peek = c .before .before .before .before .before .before .before .before .before .before .before .before .before .before .peek in
+    let t = c .before .before .before .before .before .before .before .before .before .before .before .before .t in
+    let ident-eq = c .before .before .before .before .before .before .before .before .before .ident-eq in
+    let if1 = c .before .before .before .before .before .before .before .before .if1 in
+    let take-token = c .before .before .before .before .before .before .take-token in
+    meeting.meets-from reading.visibility _ _ pre _ _ (meeting.peeked _ _ (peek .ensures) (t .given .1)) _ _ _ _
+    (take-token .ensures .0) (take-token .ensures .1) _ _ reading.scopeAfter
+    (chosen _ _ _ (sym (ident-eq .ensures) ∙ not-false _ (if1 .left))) ((c .before .before .scope-after) .ensures)
 
 returns-5 : tie.Need-returns-5
 returns-5 c =
+    let args = c .before .before .before .before .before .before .before .before .before .before .args in
+    let pre = c .before .before .before .before .before .before .before .before .before .before .pre in
+    let peek = c .before .before .before .before .before .before .before .peek in
+    let t2 = c .before .before .before .before .before .t2 in
     let w = lone-shown _ _ _ _ _ ((c .before .before .before .past) .ensures) ((c .enum-told2) .given .1) ((c .before .before .lone-ident) .ensures) in
-    let ins = at ((c .before .before .before .before .before .before .before .before .before .before .args) .s .now) ((c .before .before .before .before .before .t2) .given .0 .0 .next) .here in
-    meeting.meets-same reading.visibility _ _ (c .before .before .before .before .before .before .before .before .before .before .pre) _ _ _ _ (meeting.group-stream _ _ _ (c .before .before .before .before .before .before .before .before .before .before .pre) (meeting.peeked _ _ ((c .before .before .before .before .before .before .before .peek) .ensures) ((c .before .before .before .before .before .t2) .given .1))) (passed-over _ _ _ (meeting.lone-no-word reading.PUB ins w)) tt
+    let ins = at (args .s .now) (t2 .given .0 .0 .next) .here in
+    meeting.meets-same reading.visibility _ _ pre _ _ _ _
+    (meeting.group-stream _ _ _ pre (meeting.peeked _ _ (peek .ensures) (t2 .given .1)))
+    (passed-over _ _ _ (meeting.lone-no-word reading.PUB ins w)) tt
 
 same-length-2 : tie.Need-same-length-2
 same-length-2 c = search needs
 
 returns-6 : tie.Need-returns-6
 returns-6 c =
-    let w = lone-shown _ _ _ _ _ ((c .before .before .before .before .before .before .before .before .before .before .before .before .before .before .before .before .past) .ensures) ((c .before .before .before .before .before .before .before .before .before .before .before .before .before .w) .given .1) ((c .before .before .before .before .before .before .before .before .before .before .before .before .before .before .before .lone-ident) .ensures) in
-    let ins = at ((c .before .before .before .before .before .before .before .before .before .before .before .before .before .before .before .before .before .before .before .before .before .before .before .args) .s .now) ((c .before .before .before .before .before .before .before .before .before .before .before .before .before .before .before .before .before .before .t2) .given .0 .0 .next) .here in
-    let aft = head (at ((c .before .before .before .before .before .before .before .before .before .before .before .before .before .before .before .before .before .before .before .before .before .before .before .args) .s .now) ((c .before .before .before .before .before .before .before .before .before .before .before .before .before .before .before .before .before .before .t2) .given .0 .0 .next) .outer) in
-    meeting.meets-group-from reading.visibility _ _ (c .before .before .before .before .before .before .before .before .before .before .before .before .before .before .before .before .before .before .before .before .before .before .before .pre) _ _ (meeting.peeked _ _ ((c .before .before .before .before .before .before .before .before .before .before .before .before .before .before .before .before .before .before .before .before .peek) .ensures) ((c .before .before .before .before .before .before .before .before .before .before .before .before .before .before .before .before .before .before .t2) .given .1)) _ _ _ _ ((c .before .before .before .before .before .before .take-group) .ensures) _ _ reading.anyScope (chosen _ _ _ (meeting.lone-word reading.PUB ins (w .0) ∙ ap (λ x. same x reading.PUB) (w .1 .bytes) ∙ sym (and-last _ _ (eq-eqb _ _ (w .2))) ∙ sym ((c .before .before .before .before .before .before .before .before .before .ident-eq2) .ensures) ∙ not-false _ ((c .before .before .before .before .before .before .before .before .if2) .left)) ∙ copied-row reading.anyScope 4 ((c .before .before .before .before .before .before .before .before .before .before .before .before .before .before .before .before .before .before .before .before .before .before .before .args) .c .row) ins aft) ((c .before .before .any-scope) .ensures)
+    let args = c .before .before .before .before .before .before .before .before .before .before .before .before .before .before .before .before .before .before .before .before .before .before .before .args in
+    let pre = c .before .before .before .before .before .before .before .before .before .before .before .before .before .before .before .before .before .before .before .before .before .before .before .pre in
+    let peek = c .before .before .before .before .before .before .before .before .before .before .before .before .before .before .before .before .before .before .before .before .peek in
+    let t2 = c .before .before .before .before .before .before .before .before .before .before .before .before .before .before .before .before .before .before .t2 in
+    let past = c .before .before .before .before .before .before .before .before .before .before .before .before .before .before .before .before .past in
+    let lone-ident = c .before .before .before .before .before .before .before .before .before .before .before .before .before .before .before .lone-ident in
+    let w-2 = c .before .before .before .before .before .before .before .before .before .before .before .before .before .w in
+    let ident-eq2 = c .before .before .before .before .before .before .before .before .before .ident-eq2 in
+    let if2 = c .before .before .before .before .before .before .before .before .if2 in
+    let take-group = c .before .before .before .before .before .before .take-group in
+    let w = lone-shown _ _ _ _ _ (past .ensures) (w-2 .given .1) (lone-ident .ensures) in
+    let ins = at (args .s .now) (t2 .given .0 .0 .next) .here in
+    let aft = head (at (args .s .now) (t2 .given .0 .0 .next) .outer) in
+    meeting.meets-group-from reading.visibility _ _ pre _ _ (meeting.peeked _ _ (peek .ensures) (t2 .given .1)) _ _ _ _
+    (take-group .ensures) _ _ reading.anyScope
+    (chosen _ _ _
+    (meeting.lone-word reading.PUB ins (w .0) ∙ ap (λ x. same x reading.PUB) (w .1 .bytes) ∙ sym (and-last _ _ (eq-eqb _ _ (w .2))) ∙ sym (ident-eq2 .ensures) ∙ not-false _ (if2 .left)) ∙ copied-row
+    reading.anyScope 4 (args .c .row) ins aft)
+    ((c .before .before .any-scope) .ensures)
 
 pub take-spec : {M : Type 1} → statement M
 take-spec =

@@ -30,10 +30,15 @@ returns-2 c = search needs
 
 returns-3 : tie.Need-returns-3
 returns-3 c =
-    let d = c .before .before .before .before .before .before .before in
+    let before = c .before .before .before .before .before .before .before in
+    let look = c .before .before .before .before .look in
+    let d = before in
     let a = d .args in
-    let l = c .before .before .before .before .look .ensures in
-    meets-same visibility (a .s .now) (a .c) (d .pre) _ _ _ _ refl (no-visibility (a .c .row) (stream (a .s .now) (a .c)) (λ e. c .before .before .if1 .left (l .kind ∙ e)) (λ e. c .if2 .left (l .mark ∙ e))) tt
+    let l = look .ensures in
+    meets-same visibility (a .s .now) (a .c) (d .pre) _ _ _ _ refl
+    (no-visibility (a .c .row) (stream (a .s .now) (a .c)) (λ e. c .before .before .if1 .left (l .kind ∙ e))
+    (λ e. c .if2 .left (l .mark ∙ e)))
+    tt
 
 pub try-take-spec : {M : Type 1} → statement M
 try-take-spec =

@@ -1,7 +1,7 @@
 use Rattle.token_list.proofs.Walks as walks
 use borrow.Author.Needs.{needs}
 use native.Mathlib.Omega.{arith}
-use mathlib.Core.Path.{_≡_, refl, sym, _∙_}
+use mathlib.Core.Path.{refl, sym, _∙_}
 use Rattle.token_list.proofs.Walks.{Reached}
 use Prim.Native.Nat.{_-_}
 use lib.ListN.{length}
@@ -42,7 +42,8 @@ walk-returns : (t : ℕ) → walk-lts.Need-returns (line-shape-reads.Asked, line
 walk-returns t c =
     let l = c .before .before .loop in
     let a = c .before .before .before .before .args in
-    walks.at-limit (a .s .now) (a .levels) (a .from) (l .at) (l .row) (l .inv) (c .before .loop-test .taken) (c .if1 .taken)
+    walks.at-limit (a .s .now) (a .levels) (a .from) (l .at) (l .row) (l .inv) (c .before .loop-test .taken)
+    (c .if1 .taken)
 
 -- src/check.rt:52:13
 walk-line-shape-requires : (t : ℕ) → walk-lts.Need-line-shape-requires (line-shape-reads.Asked, line-shape-reads.Learnt, walk-below t, walk.Post, closer-reads.Asked, closer-reads.Learnt) (walk-at t) walk.Post walk-Inv-loop walk-μ-loop
@@ -50,7 +51,8 @@ walk-line-shape-requires t c κs = search needs
 
 -- src/check.rt:54:21
 walk-add-below : (t : ℕ) → walk-lts.Need-add-below (line-shape-reads.Asked, line-shape-reads.Learnt, walk-below t, walk.Post, closer-reads.Asked, closer-reads.Learnt) (walk-at t) walk.Post walk-Inv-loop walk-μ-loop
-walk-add-below t c = omega (arith, c .before .before .before .loop .inv .counted, c .before .before .before .loop .inv .within)
+walk-add-below t c =
+    omega (arith, c .before .before .before .loop .inv .counted, c .before .before .before .loop .inv .within)
 
 -- src/check.rt:58:42
 walk-enum-told : (t : ℕ) → walk-lts.Need-enum-told (line-shape-reads.Asked, line-shape-reads.Learnt, walk-below t, walk.Post, closer-reads.Asked, closer-reads.Learnt) (walk-at t) walk.Post walk-Inv-loop walk-μ-loop
@@ -62,7 +64,9 @@ walk-returns-2 t c =
     let l = c .before .before .before .before .before .loop in
     let a = c .before .before .before .before .before .before .before .args in
     let p = c .before .before .line-shape in
-    walks.at-wrong (a .s .now) (a .levels) (a .from) (l .at) (l .row) (l .inv) (p .result) (p .ensures) (c .before .before .before .before .loop-test .taken) (c .before .before .before .if1 .left) (c .enum-told .given .1)
+    walks.at-wrong (a .s .now) (a .levels) (a .from) (l .at) (l .row) (l .inv) (p .result) (p .ensures)
+    (c .before .before .before .before .loop-test .taken) (c .before .before .before .if1 .left)
+    (c .enum-told .given .1)
 
 -- src/check.rt:61:17
 walk-enum-told-2 : (t : ℕ) → walk-lts.Need-enum-told-2 (line-shape-reads.Asked, line-shape-reads.Learnt, walk-below t, walk.Post, closer-reads.Asked, closer-reads.Learnt) (walk-at t) walk.Post walk-Inv-loop walk-μ-loop
@@ -83,7 +87,9 @@ walk-loop-again t c =
     let l = c .before .before .before .before .before .loop in
     let a = c .before .before .before .before .before .before .before .args in
     let p = c .before .before .line-shape in
-    walks.at-plain (a .s .now) (a .levels) (a .from) (l .at) (l .row) (l .inv) (p .result) (p .ensures) (c .before .before .before .before .loop-test .taken) (c .before .before .before .if1 .left) (c .enum-told2 .given .1)
+    walks.at-plain (a .s .now) (a .levels) (a .from) (l .at) (l .row) (l .inv) (p .result) (p .ensures)
+    (c .before .before .before .before .loop-test .taken) (c .before .before .before .if1 .left)
+    (c .enum-told2 .given .1)
 
 -- src/check.rt:64:27
 walk-enum-known-shape : (t : ℕ) → walk-lts.Need-enum-known-shape (line-shape-reads.Asked, line-shape-reads.Learnt, walk-below t, walk.Post, closer-reads.Asked, closer-reads.Learnt) (walk-at t) walk.Post walk-Inv-loop walk-μ-loop
@@ -95,7 +101,9 @@ walk-returns-3 t c =
     let l = c .before .before .before .before .before .before .loop in
     let a = c .before .before .before .before .before .before .before .before .args in
     let p = c .before .before .before .line-shape in
-    walks.at-close (a .s .now) (a .levels) (a .from) (l .at) (l .row) (l .inv) (p .result) (p .ensures) (c .before .before .before .before .before .loop-test .taken) (c .before .before .before .before .if1 .left) (c .before .shape .given .0 .0) (c .before .shape .given .1)
+    walks.at-close (a .s .now) (a .levels) (a .from) (l .at) (l .row) (l .inv) (p .result) (p .ensures)
+    (c .before .before .before .before .before .loop-test .taken) (c .before .before .before .before .if1 .left)
+    (c .before .shape .given .0 .0) (c .before .shape .given .1)
 
 -- src/check.rt:67:26
 walk-enum-known-shape-2 : (t : ℕ) → walk-lts.Need-enum-known-shape-2 (line-shape-reads.Asked, line-shape-reads.Learnt, walk-below t, walk.Post, closer-reads.Asked, closer-reads.Learnt) (walk-at t) walk.Post walk-Inv-loop walk-μ-loop
@@ -107,7 +115,10 @@ walk-returns-4 t c =
     let l = c .before .before .before .before .before .before .before .loop in
     let a = c .before .before .before .before .before .before .before .before .before .args in
     let p = c .before .before .before .before .line-shape in
-    walks.too-deep (a .s .now) (a .levels) (a .from) (l .at) (l .row) (l .inv) (p .result) (p .ensures) (c .before .before .before .before .before .before .loop-test .taken) (c .before .before .before .before .before .if1 .left) (c .before .before .shape2 .given .0 .0) (c .before .before .shape2 .given .1) (c .if2 .taken)
+    walks.too-deep (a .s .now) (a .levels) (a .from) (l .at) (l .row) (l .inv) (p .result) (p .ensures)
+    (c .before .before .before .before .before .before .loop-test .taken)
+    (c .before .before .before .before .before .if1 .left) (c .before .before .shape2 .given .0 .0)
+    (c .before .before .shape2 .given .1) (c .if2 .taken)
 
 -- src/check.rt:71:71
 walk-sub-walk : (t : ℕ) → walk-lts.Need-sub-walk (line-shape-reads.Asked, line-shape-reads.Learnt, walk-below t, walk.Post, closer-reads.Asked, closer-reads.Learnt) (walk-at t) walk.Post walk-Inv-loop walk-μ-loop
@@ -133,7 +144,12 @@ walk-returns-5 t c =
     let a = c .before .before .before .before .before .before .before .before .before .before .before .before .args in
     let p = c .before .before .before .before .before .before .before .line-shape in
     let w = c .before .before .walk in
-    walks.unclosed (a .s .now) (a .levels) (a .from) (l .at) (l .row) (l .inv) (p .result) (p .ensures) (c .before .before .before .before .before .before .before .before .before .loop-test .taken) (c .before .before .before .before .before .before .before .before .if1 .left) (c .before .before .before .before .before .shape2 .given .0 .0) (c .before .before .before .before .before .shape2 .given .1) (c .before .before .before .if2 .left) (w .result) (w .ensures) (c .enum-told3 .given .0 .0) (c .enum-told3 .given .1)
+    walks.unclosed (a .s .now) (a .levels) (a .from) (l .at) (l .row) (l .inv) (p .result) (p .ensures)
+    (c .before .before .before .before .before .before .before .before .before .loop-test .taken)
+    (c .before .before .before .before .before .before .before .before .if1 .left)
+    (c .before .before .before .before .before .shape2 .given .0 .0)
+    (c .before .before .before .before .before .shape2 .given .1) (c .before .before .before .if2 .left) (w .result)
+    (w .ensures) (c .enum-told3 .given .0 .0) (c .enum-told3 .given .1)
 
 -- src/check.rt:76:39
 walk-enum-known-inside : (t : ℕ) → walk-lts.Need-enum-known-inside (line-shape-reads.Asked, line-shape-reads.Learnt, walk-below t, walk.Post, closer-reads.Asked, closer-reads.Learnt) (walk-at t) walk.Post walk-Inv-loop walk-μ-loop
@@ -146,7 +162,13 @@ walk-returns-6 t c =
     let a = c .before .before .before .before .before .before .before .before .before .before .before .before .before .args in
     let p = c .before .before .before .before .before .before .before .before .line-shape in
     let w = c .before .before .before .walk in
-    walks.refused-inside (a .s .now) (a .levels) (a .from) (l .at) (l .row) (l .inv) (p .result) (p .ensures) (c .before .before .before .before .before .before .before .before .before .before .loop-test .taken) (c .before .before .before .before .before .before .before .before .before .if1 .left) (c .before .before .before .before .before .before .shape2 .given .0 .0) (c .before .before .before .before .before .before .shape2 .given .1) (c .before .before .before .before .if2 .left) (w .result) (w .ensures) (c .before .inside .given .0 .0) (c .before .inside .given .1)
+    walks.refused-inside (a .s .now) (a .levels) (a .from) (l .at) (l .row) (l .inv) (p .result) (p .ensures)
+    (c .before .before .before .before .before .before .before .before .before .before .loop-test .taken)
+    (c .before .before .before .before .before .before .before .before .before .if1 .left)
+    (c .before .before .before .before .before .before .shape2 .given .0 .0)
+    (c .before .before .before .before .before .before .shape2 .given .1)
+    (c .before .before .before .before .if2 .left) (w .result) (w .ensures) (c .before .inside .given .0 .0)
+    (c .before .inside .given .1)
 
 -- src/check.rt:79:37
 walk-enum-known-inside-2 : (t : ℕ) → walk-lts.Need-enum-known-inside-2 (line-shape-reads.Asked, line-shape-reads.Learnt, walk-below t, walk.Post, closer-reads.Asked, closer-reads.Learnt) (walk-at t) walk.Post walk-Inv-loop walk-μ-loop
@@ -164,7 +186,13 @@ walk-returns-7 t c =
     let p = c .before .before .before .before .before .before .before .before .before .before .line-shape in
     let w = c .before .before .before .before .before .walk in
     let i = c .before .before .before .inside2 .given in
-    walks.mismatched (a .s .now) (a .levels) (a .from) (l .at) (l .row) (l .inv) (p .result) (p .ensures) (c .before .before .before .before .before .before .before .before .before .before .before .before .loop-test .taken) (c .before .before .before .before .before .before .before .before .before .before .before .if1 .left) (c .before .before .before .before .before .before .before .before .shape2 .given .0 .0) (c .before .before .before .before .before .before .before .before .shape2 .given .1) (c .before .before .before .before .before .before .if2 .left) (w .result) (w .ensures) (i .0 .0) (i .0 .1 .0) (i .0 .1 .1 .0) (i .1) (λ q. c .if3 .taken (c .before .closer .ensures ∙ q))
+    walks.mismatched (a .s .now) (a .levels) (a .from) (l .at) (l .row) (l .inv) (p .result) (p .ensures)
+    (c .before .before .before .before .before .before .before .before .before .before .before .before .loop-test .taken)
+    (c .before .before .before .before .before .before .before .before .before .before .before .if1 .left)
+    (c .before .before .before .before .before .before .before .before .shape2 .given .0 .0)
+    (c .before .before .before .before .before .before .before .before .shape2 .given .1)
+    (c .before .before .before .before .before .before .if2 .left) (w .result) (w .ensures) (i .0 .0) (i .0 .1 .0)
+    (i .0 .1 .1 .0) (i .1) (λ q. c .if3 .taken (c .before .closer .ensures ∙ q))
 
 -- src/check.rt:84:31
 walk-add-row : (t : ℕ) → walk-lts.Need-add-row (line-shape-reads.Asked, line-shape-reads.Learnt, walk-below t, walk.Post, closer-reads.Asked, closer-reads.Learnt) (walk-at t) walk.Post walk-Inv-loop walk-μ-loop
@@ -196,7 +224,13 @@ walk-loop-again-2 t c =
     let p = c .before .before .before .before .before .before .before .before .before .before .line-shape in
     let w = c .before .before .before .before .before .walk in
     let i = c .before .before .before .inside2 .given in
-    walks.matched (a .s .now) (a .levels) (a .from) (l .at) (l .row) (l .inv) (p .result) (p .ensures) (c .before .before .before .before .before .before .before .before .before .before .before .before .loop-test .taken) (c .before .before .before .before .before .before .before .before .before .before .before .if1 .left) (c .before .before .before .before .before .before .before .before .shape2 .given .0 .0) (c .before .before .before .before .before .before .before .before .shape2 .given .1) (c .before .before .before .before .before .before .if2 .left) (w .result) (w .ensures) (i .0 .0) (i .0 .1 .0) (i .0 .1 .1 .0) (i .1) (sym (c .before .closer .ensures) ∙ c .if3 .left)
+    walks.matched (a .s .now) (a .levels) (a .from) (l .at) (l .row) (l .inv) (p .result) (p .ensures)
+    (c .before .before .before .before .before .before .before .before .before .before .before .before .loop-test .taken)
+    (c .before .before .before .before .before .before .before .before .before .before .before .if1 .left)
+    (c .before .before .before .before .before .before .before .before .shape2 .given .0 .0)
+    (c .before .before .before .before .before .before .before .before .shape2 .given .1)
+    (c .before .before .before .before .before .before .if2 .left) (w .result) (w .ensures) (i .0 .0) (i .0 .1 .0)
+    (i .0 .1 .1 .0) (i .1) (sym (c .before .closer .ensures) ∙ c .if3 .left)
 
 -- src/check.rt:42:1
 walk-returns-8 : (t : ℕ) → walk-lts.Need-returns-8 (line-shape-reads.Asked, line-shape-reads.Learnt, walk-below t, walk.Post, closer-reads.Asked, closer-reads.Learnt) (walk-at t) walk.Post walk-Inv-loop walk-μ-loop
@@ -206,7 +240,9 @@ walk-returns-8 t c =
     walks.at-end (a .s .now) (a .levels) (a .from) (l .at) (l .row) (l .inv) (c .loop-test .left)
 
 pub +walk-spec : {M : Type 1} → statement M
-+walk-spec = close μ-walk λ t. walk-lts.spec (line-shape-reads.Asked, line-shape-reads.Learnt, walk-below t, walk.Post, closer-reads.Asked, closer-reads.Learnt)
++walk-spec =
+    close μ-walk λ t. walk-lts.spec
+    (line-shape-reads.Asked, line-shape-reads.Learnt, walk-below t, walk.Post, closer-reads.Asked, closer-reads.Learnt)
     (walk-at t)
     walk.Post
     walk-Inv-loop

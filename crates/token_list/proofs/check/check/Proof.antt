@@ -1,12 +1,10 @@
 use Rattle.token_list.proofs.Walks as walks
-use Rattle.token_list.proofs.Texts.{chosen, passed-over, same-fits}
+use Rattle.token_list.proofs.Texts.{same-fits}
 use Rattle.token_list.specs.Contract.{resumed}
-use Rattle.token_list.specs.Check.{Answer, NAMES, check}
-use lib.ListN.{length}
-use borrow.Author.Tests.{lt-ltb, le-ltb, not-true, not-false}
-use Prim.Native.Nat.{ℕ}
+use Rattle.token_list.specs.Check.{NAMES}
+use borrow.Author.Tests.{not-true, not-false}
 use mathlib.Core.List.{[]}
-use mathlib.Core.Path.{_≡_, refl, sym, _∙_, ap}
+use mathlib.Core.Path.{sym, _∙_, ap}
 use native.Mathlib.Omega.{arith}
 use borrow.Author.Needs.{needs}
 use Rattle.token_list.proofs.check.check.Statement.{statement}
@@ -19,10 +17,14 @@ has-names-requires : tie.Need-has-names-requires
 has-names-requires c κs = search needs
 
 returns-2 : tie.Need-returns-2
-returns-2 c = sym (walks.unnamed _ (c .before .before .if1 .left) (sym (c .before .has-names .ensures) ∙ not-true _ (c .if2 .taken)))
+returns-2 c =
+    sym
+    (walks.unnamed _ (c .before .before .if1 .left) (sym (c .before .has-names .ensures) ∙ not-true _ (c .if2 .taken)))
 
 walk-requires : tie.Need-walk-requires
-walk-requires c κs = record { counted = omega arith; within = same-fits (c .before .before .before .before .args .s .now) NAMES 10 (sym (c .before .has-names .ensures) ∙ not-false _ (c .if2 .left)) }
+walk-requires c κs =
+    let args = c .before .before .before .before .args in
+    record { counted = omega arith; within = same-fits (args .s .now) NAMES 10 (sym (c .before .has-names .ensures) ∙ not-false _ (c .if2 .left)) }
 
 enum-known-rows : tie.Need-enum-known-rows
 enum-known-rows c = search needs
@@ -34,13 +36,34 @@ enum-known-r : tie.Need-enum-known-r
 enum-known-r c = search needs
 
 returns-3 : tie.Need-returns-3
-returns-3 c = sym (walks.named _ (c .before .before .before .before .before .before .if1 .left) (sym (c .before .before .before .before .before .has-names .ensures) ∙ not-false _ (c .before .before .before .before .if2 .left)) ∙ c .before .before .before .walk .ensures .right [] (omega arith) ∙ ap (resumed _ []) (c .before .rows .given .1))
+returns-3 c =
+    let if1 = c .before .before .before .before .before .before .if1 in
+    let has-names = c .before .before .before .before .before .has-names in
+    let if2 = c .before .before .before .before .if2 in
+    sym
+    (walks.named _ (if1 .left)
+    (sym (has-names .ensures) ∙ not-false _ (if2 .left)) ∙ c .before .before .before .walk .ensures .right []
+    (omega arith) ∙ ap (resumed _ []) (c .before .rows .given .1))
 
 returns-4 : tie.Need-returns-4
-returns-4 c = sym (walks.named _ (c .before .before .before .before .before .before .if1 .left) (sym (c .before .before .before .before .before .has-names .ensures) ∙ not-false _ (c .before .before .before .before .if2 .left)) ∙ c .before .before .before .walk .ensures .right [] (omega arith) ∙ ap (resumed _ []) (c .before .row .given .1))
+returns-4 c =
+    let if1 = c .before .before .before .before .before .before .if1 in
+    let has-names = c .before .before .before .before .before .has-names in
+    let if2 = c .before .before .before .before .if2 in
+    sym
+    (walks.named _ (if1 .left)
+    (sym (has-names .ensures) ∙ not-false _ (if2 .left)) ∙ c .before .before .before .walk .ensures .right []
+    (omega arith) ∙ ap (resumed _ []) (c .before .row .given .1))
 
 returns-5 : tie.Need-returns-5
-returns-5 c = sym (walks.named _ (c .before .before .before .before .before .before .if1 .left) (sym (c .before .before .before .before .before .has-names .ensures) ∙ not-false _ (c .before .before .before .before .if2 .left)) ∙ c .before .before .before .walk .ensures .right [] (omega arith) ∙ ap (resumed _ []) (c .before .r .given .1))
+returns-5 c =
+    let if1 = c .before .before .before .before .before .before .if1 in
+    let has-names = c .before .before .before .before .before .has-names in
+    let if2 = c .before .before .before .before .if2 in
+    sym
+    (walks.named _ (if1 .left)
+    (sym (has-names .ensures) ∙ not-false _ (if2 .left)) ∙ c .before .before .before .walk .ensures .right []
+    (omega arith) ∙ ap (resumed _ []) (c .before .r .given .1))
 
 pub check-spec : {M : Type 1} → statement M
 check-spec =

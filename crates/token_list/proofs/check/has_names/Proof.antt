@@ -1,6 +1,6 @@
 use Rattle.token_list.proofs.Texts.{same-longer}
 use Rattle.token_list.specs.Check.{NAMES}
-use mathlib.Core.Path.{_≡_, sym}
+use mathlib.Core.Path.{sym}
 use native.Mathlib.Omega.{arith}
 use borrow.Author.Needs.{needs}
 use Rattle.token_list.proofs.check.has_names.Statement.{statement}

@@ -1,6 +1,5 @@
 use mathlib.Core.Path.{sym, _∙_, ap}
 use mathlib.Core.Bool.{Bool, cond}
-use mathlib.Core.List.{[], _∷_}
 use Rattle.token_list.specs.Row.{plain, wrong}
 use Rattle.token_list.proofs.Forms.{ident-form, literal-form, mark-form, name-byte, literal-byte}
 use borrow.Author.Needs.{needs}
@@ -20,10 +19,14 @@ starts-literal-requires : tie.Need-starts-literal-requires
 starts-literal-requires c κs = search needs
 
 returns-3 : tie.Need-returns-3
-returns-3 c = sym (literal-form _ _ (c .before .before .if3 .taken) ∙ ap (λ (x : Bool). cond x plain wrong) (literal-byte (c .before .before .before .before .args .b) ∙ sym (c .before .starts-literal .ensures) ∙ c .if4 .taken))
+returns-3 c =
+    let args = c .before .before .before .before .args in
+    sym (literal-form _ _ (c .before .before .if3 .taken) ∙ ap (λ (x : Bool). cond x plain wrong) (literal-byte (args .b) ∙ sym (c .before .starts-literal .ensures) ∙ c .if4 .taken))
 
 returns-4 : tie.Need-returns-4
-returns-4 c = sym (literal-form _ _ (c .before .before .if3 .taken) ∙ ap (λ (x : Bool). cond x plain wrong) (literal-byte (c .before .before .before .before .args .b) ∙ sym (c .before .starts-literal .ensures) ∙ c .if4 .left))
+returns-4 c =
+    let args = c .before .before .before .before .args in
+    sym (literal-form _ _ (c .before .before .if3 .taken) ∙ ap (λ (x : Bool). cond x plain wrong) (literal-byte (args .b) ∙ sym (c .before .starts-literal .ensures) ∙ c .if4 .left))
 
 mark-shape-requires : tie.Need-mark-shape-requires
 mark-shape-requires c κs = search needs

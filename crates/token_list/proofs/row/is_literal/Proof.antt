@@ -1,9 +1,7 @@
-use Rattle.token_list.proofs.Texts.{slice-none, slice-next, and-last, and-fails, literal-parts}
-use Rattle.token_list.specs.Text.{literal, literalStart, all, printable}
+use Rattle.token_list.proofs.Texts.{slice-none, and-last, and-fails, literal-parts}
+use Rattle.token_list.specs.Text.{literal}
 use borrow.Author.Tests.{not-true, not-false}
-use lib.Seq.{slice}
-use mathlib.Core.Bool.{_&&_}
-use mathlib.Core.Path.{_≡_, sym, _∙_, ap}
+use mathlib.Core.Path.{sym, _∙_, ap}
 use native.Mathlib.Omega.{arith}
 use borrow.Author.Needs.{needs}
 use Rattle.token_list.proofs.row.is_literal.Statement.{statement}
@@ -22,16 +20,22 @@ starts-literal-requires c κs = search needs
 
 returns-2 : tie.Need-returns-2
 returns-2 c =
-    let a = c .before .before .before .before .before .args in
-    sym (literal-parts (a .s .now) (a .start) (a .end) (omega arith) (omega arith) ∙ and-fails _ _ (sym (c .before .starts-literal .ensures) ∙ not-true _ (c .if2 .taken)))
+    let args = c .before .before .before .before .before .args in
+    let a = args in
+    sym
+    (literal-parts (a .s .now) (a .start) (a .end) (omega arith) (omega arith) ∙ and-fails _ _
+    (sym (c .before .starts-literal .ensures) ∙ not-true _ (c .if2 .taken)))
 
 all-fit-requires : tie.Need-all-fit-requires
 all-fit-requires c κs = search needs
 
 returns-3 : tie.Need-returns-3
 returns-3 c =
-    let a = c .before .before .before .before .before .before .args in
-    c .all-fit .ensures ∙ sym (literal-parts (a .s .now) (a .start) (a .end) (omega arith) (omega arith) ∙ and-last _ _ (sym (c .before .before .starts-literal .ensures) ∙ not-false _ (c .before .if2 .left)))
+    let args = c .before .before .before .before .before .before .args in
+    let a = args in
+    c .all-fit .ensures ∙ sym
+    (literal-parts (a .s .now) (a .start) (a .end) (omega arith) (omega arith) ∙ and-last _ _
+    (sym (c .before .before .starts-literal .ensures) ∙ not-false _ (c .before .if2 .left)))
 
 pub is-literal-spec : {M : Type 1} → statement M
 is-literal-spec =

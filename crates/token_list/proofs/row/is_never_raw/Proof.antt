@@ -1,5 +1,4 @@
-use mathlib.Core.Path.{_≡_, sym, _∙_}
-use mathlib.Core.Bool.{_||_}
+use mathlib.Core.Path.{sym, _∙_}
 use Rattle.token_list.proofs.Texts.{or-last, or-holds}
 use mathlib.Core.Path.{_≡_, sym, _∙_, ap}
 use borrow.Author.Needs.{needs}
@@ -24,7 +23,9 @@ text-is-requires-2 c κs = search needs
 returns-2 : tie.Need-returns-2
 returns-2 c =
     let e1 = c .before .before .before in
-    sym (or-last _ _ (sym (e1 .before .text-is .ensures) ∙ e1 .if1 .left) ∙ or-holds _ _ (sym (c .before .text-is2 .ensures) ∙ c .if2 .taken))
+    sym
+    (or-last _ _ (sym (e1 .before .text-is .ensures) ∙ e1 .if1 .left) ∙ or-holds _ _
+    (sym (c .before .text-is2 .ensures) ∙ c .if2 .taken))
 
 slice-aggregate-text-is-3 : tie.Need-slice-aggregate-text-is-3
 slice-aggregate-text-is-3 c = search needs
@@ -36,7 +37,10 @@ returns-3 : tie.Need-returns-3
 returns-3 c =
     let e2 = c .before .before .before in
     let e1 = e2 .before .before .before in
-    sym (or-last _ _ (sym (e1 .before .text-is .ensures) ∙ e1 .if1 .left) ∙ or-last _ _ (sym (e2 .before .text-is2 .ensures) ∙ e2 .if2 .left) ∙ or-holds _ _ (sym (c .before .text-is3 .ensures) ∙ c .if3 .taken))
+    sym
+    (or-last _ _ (sym (e1 .before .text-is .ensures) ∙ e1 .if1 .left) ∙ or-last _ _
+    (sym (e2 .before .text-is2 .ensures) ∙ e2 .if2 .left) ∙ or-holds _ _
+    (sym (c .before .text-is3 .ensures) ∙ c .if3 .taken))
 
 slice-aggregate-text-is-4 : tie.Need-slice-aggregate-text-is-4
 slice-aggregate-text-is-4 c = search needs
@@ -49,7 +53,11 @@ returns-4 c =
     let e3 = c .before .before .before in
     let e2 = e3 .before .before .before in
     let e1 = e2 .before .before .before in
-    sym (or-last _ _ (sym (e1 .before .text-is .ensures) ∙ e1 .if1 .left) ∙ or-last _ _ (sym (e2 .before .text-is2 .ensures) ∙ e2 .if2 .left) ∙ or-last _ _ (sym (e3 .before .text-is3 .ensures) ∙ e3 .if3 .left) ∙ or-holds _ _ (sym (c .before .text-is4 .ensures) ∙ c .if4 .taken))
+    sym
+    (or-last _ _ (sym (e1 .before .text-is .ensures) ∙ e1 .if1 .left) ∙ or-last _ _
+    (sym (e2 .before .text-is2 .ensures) ∙ e2 .if2 .left) ∙ or-last _ _
+    (sym (e3 .before .text-is3 .ensures) ∙ e3 .if3 .left) ∙ or-holds _ _
+    (sym (c .before .text-is4 .ensures) ∙ c .if4 .taken))
 
 slice-aggregate-text-is-5 : tie.Need-slice-aggregate-text-is-5
 slice-aggregate-text-is-5 c = search needs
@@ -63,7 +71,11 @@ returns-5 c =
     let e3 = e4 .before .before .before in
     let e2 = e3 .before .before .before in
     let e1 = e2 .before .before .before in
-    c .text-is5 .ensures ∙ sym (or-last _ _ (sym (e1 .before .text-is .ensures) ∙ e1 .if1 .left) ∙ or-last _ _ (sym (e2 .before .text-is2 .ensures) ∙ e2 .if2 .left) ∙ or-last _ _ (sym (e3 .before .text-is3 .ensures) ∙ e3 .if3 .left) ∙ or-last _ _ (sym (e4 .before .text-is4 .ensures) ∙ e4 .if4 .left))
+    c .text-is5 .ensures ∙ sym
+    (or-last _ _ (sym (e1 .before .text-is .ensures) ∙ e1 .if1 .left) ∙ or-last _ _
+    (sym (e2 .before .text-is2 .ensures) ∙ e2 .if2 .left) ∙ or-last _ _
+    (sym (e3 .before .text-is3 .ensures) ∙ e3 .if3 .left) ∙ or-last _ _
+    (sym (e4 .before .text-is4 .ensures) ∙ e4 .if4 .left))
 
 pub is-never-raw-spec : {M : Type 1} → statement M
 is-never-raw-spec =

@@ -1,7 +1,7 @@
 use borrow.Author.Tests.{not-true, not-false}
 use Rattle.token_list.proofs.Texts.{slice-none, slice-next, and-last, and-fails}
 use Rattle.token_list.specs.Text.{plainName}
-use mathlib.Core.Path.{_≡_, sym, _∙_, ap}
+use mathlib.Core.Path.{sym, _∙_, ap}
 use native.Mathlib.Omega.{arith}
 use borrow.Author.Needs.{needs}
 use Rattle.token_list.proofs.row.is_plain_name.Statement.{statement}
@@ -20,8 +20,11 @@ is-name-start-requires c κs = search needs
 
 returns-2 : tie.Need-returns-2
 returns-2 c =
-    let a = c .before .before .before .before .before .args in
-    sym (ap plainName (slice-next (a .s .now) (a .start) (a .end) (omega arith) (omega arith)) ∙ and-fails _ _ (sym (c .before .is-name-start .ensures) ∙ not-true _ (c .if2 .taken)))
+    let args = c .before .before .before .before .before .args in
+    let a = args in
+    sym
+    (ap plainName (slice-next (a .s .now) (a .start) (a .end) (omega arith) (omega arith)) ∙ and-fails _ _
+    (sym (c .before .is-name-start .ensures) ∙ not-true _ (c .if2 .taken)))
 
 add-second : tie.Need-add-second
 add-second c = search needs
@@ -31,8 +34,11 @@ all-fit-requires c κs = search needs
 
 returns-3 : tie.Need-returns-3
 returns-3 c =
-    let a = c .before .before .before .before .before .before .args in
-    c .all-fit .ensures ∙ sym (ap plainName (slice-next (a .s .now) (a .start) (a .end) (omega arith) (omega arith)) ∙ and-last _ _ (sym (c .before .before .is-name-start .ensures) ∙ not-false _ (c .before .if2 .left)))
+    let args = c .before .before .before .before .before .before .args in
+    let a = args in
+    c .all-fit .ensures ∙ sym
+    (ap plainName (slice-next (a .s .now) (a .start) (a .end) (omega arith) (omega arith)) ∙ and-last _ _
+    (sym (c .before .before .is-name-start .ensures) ∙ not-false _ (c .before .if2 .left)))
 
 pub is-plain-name-spec : {M : Type 1} → statement M
 is-plain-name-spec =

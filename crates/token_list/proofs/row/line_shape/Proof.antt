@@ -63,7 +63,9 @@ enum-told-4 : tie.Need-enum-told-4
 enum-told-4 c = search needs
 
 whole-shape-requires : tie.Need-whole-shape-requires
-whole-shape-requires c κs = sym (c .before .before .before .before .one-byte .ensures) ∙ c .before .before .before .if1 .left
+whole-shape-requires c κs =
+    let one-byte = c .before .before .before .before .one-byte in
+    sym (one-byte .ensures) ∙ c .before .before .before .if1 .left
 
 returns-2 : tie.Need-returns-2
 returns-2 c = c .before .before .quick-token .ensures (λ e. no-wrong e (ap (λ (x : Shape). isRow (shape x)) (c .enum-told .given .1)))

@@ -44,11 +44,13 @@ token-line-requires c κs = search needs
 
 returns-4 : tie.Need-returns-4
 returns-4 c =
-    let d = c .before .before .before .before .before in
+    let before = c .before .before .before .before .before in
+    let d = before in
     let a = d .before .before .before .before .before .before .args in
     let n = sym (c .before .before .is-name-start .ensures) ∙ c .before .if5 .taken in
     let k = c .before .before .before .if4 .taken in
-    quick-token (a .s .now) (a .at) (c .token-line .result) (d .if3 .left) true (λ e. absurd (omega (arith, k, e))) (or-holds _ _ n) (λ t f. name-fits _ _ t k n f) (c .token-line .ensures)
+    quick-token (a .s .now) (a .at) (c .token-line .result) (d .if3 .left) true (λ e. absurd (omega (arith, k, e)))
+    (or-holds _ _ n) (λ t f. name-fits _ _ t k n f) (c .token-line .ensures)
 
 starts-literal-requires : tie.Need-starts-literal-requires
 starts-literal-requires c κs = search needs
@@ -58,11 +60,15 @@ token-line-requires-2 c κs = search needs
 
 returns-5 : tie.Need-returns-5
 returns-5 c =
-    let d = c .before .before .before .before .before .before in
+    let before = c .before .before .before .before .before .before in
+    let d = before in
     let a = d .before .before .before .before .before .before .args in
     let n = sym (c .before .before .starts-literal .ensures) ∙ c .before .if7 .taken in
     let k = c .before .before .before .if6 .taken in
-    quick-token (a .s .now) (a .at) (c .token-line2 .result) (d .if3 .left) false (λ e. absurd (omega (arith, k, e))) (literal-shown (getD (a .s .now) (a .at + 2) 0) n) (λ t f. literal-fits (getD (a .s .now) (a .at) 0) (getD (a .s .now) (a .at + 2) 0) t k n f) (c .token-line2 .ensures)
+    quick-token (a .s .now) (a .at) (c .token-line2 .result) (d .if3 .left) false (λ e. absurd (omega (arith, k, e)))
+    (literal-shown (getD (a .s .now) (a .at + 2) 0) n)
+    (λ t f. literal-fits (getD (a .s .now) (a .at) 0) (getD (a .s .now) (a .at + 2) 0) t k n f)
+    (c .token-line2 .ensures)
 
 returns-6 : tie.Need-returns-6
 returns-6 c h = absurd (h refl)

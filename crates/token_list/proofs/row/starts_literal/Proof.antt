@@ -1,5 +1,5 @@
 use Rattle.token_list.proofs.Texts.{or-last, or-holds}
-use mathlib.Core.Path.{_≡_, sym, _∙_}
+use mathlib.Core.Path.{sym, _∙_}
 use borrow.Author.Needs.{needs}
 use Rattle.token_list.proofs.row.starts_literal.Statement.{statement}
 use Rattle.token_list.proofs.row.starts_literal.Tie as tie
@@ -17,7 +17,9 @@ is-one-of-requires : tie.Need-is-one-of-requires
 is-one-of-requires c κs = search needs
 
 returns-2 : tie.Need-returns-2
-returns-2 c = c .is-one-of .ensures ∙ sym (or-last _ _ (sym (c .before .before .before .is-digit .ensures) ∙ c .before .before .if1 .left))
+returns-2 c =
+    c .is-one-of .ensures ∙ sym
+    (or-last _ _ (sym (c .before .before .before .is-digit .ensures) ∙ c .before .before .if1 .left))
 
 pub starts-literal-spec : {M : Type 1} → statement M
 starts-literal-spec =

@@ -1,11 +1,11 @@
 use Rattle.token_list.proofs.Forms.{form-short, form-space, form-long, form-right, not-one-byte}
 use Rattle.token_list.specs.declared.row.Line.{Line}
 use Rattle.token_list.specs.Row.{wrong, lines}
-use Rattle.token_list.specs.Contract.{formed, Shaped, LineEnd, shape}
+use Rattle.token_list.specs.Contract.{formed, Shaped, shape}
 use lib.Seq.{slice}
-use lib.ListN.{length, drop}
+use lib.ListN.{drop}
 use native.Mathlib.Omega.{arith}
-use Prim.Native.Nat.{ℕ, _<_, _≤_}
+use Prim.Native.Nat.{ℕ}
 use mathlib.Core.List.{List}
 use mathlib.Core.Path.{_≡_, refl, sym, _∙_, ap}
 use borrow.Author.Needs.{needs}
@@ -31,9 +31,12 @@ sub-if2 c = search needs
 
 returns-2 : tie.Need-returns-2
 returns-2 c =
+    let args = c .before .before .before .before .args in
     let l = c .before .before .line-end in
-    let a = c .before .before .before .before .args in
-    no-row _ _ _ refl (ap formed (l .ensures .found (omega arith)) ∙ form-short (a .s .now) (a .at) (l .result) (omega arith) (omega arith) (omega arith))
+    let a = args in
+    no-row _ _ _ refl
+    (ap formed (l .ensures .found (omega arith)) ∙ form-short (a .s .now) (a .at) (l .result) (omega arith)
+    (omega arith) (omega arith))
 
 add-space : tie.Need-add-space
 add-space c = search needs
@@ -46,32 +49,44 @@ shared-slice-read-if3 c = search needs
 
 returns-3 : tie.Need-returns-3
 returns-3 c =
-    let l = c .before .before .before .before .line-end in
-    let a = c .before .before .before .before .before .before .args in
-    no-row _ _ _ refl (ap formed (l .ensures .found (omega arith)) ∙ form-space (a .s .now) (a .at) (l .result) (omega arith) (omega arith) (c .if3 .taken))
+    let args = c .before .before .before .before .before .before .args in
+    let line-end = c .before .before .before .before .line-end in
+    let l = line-end in
+    let a = args in
+    no-row _ _ _ refl
+    (ap formed (l .ensures .found (omega arith)) ∙ form-space (a .s .now) (a .at) (l .result) (omega arith)
+    (omega arith) (c .if3 .taken))
 
 sub-if4 : tie.Need-sub-if4
 sub-if4 c = search needs
 
 returns-4 : tie.Need-returns-4
 returns-4 c =
-    let l = c .before .before .before .before .before .line-end in
-    let a = c .before .before .before .before .before .before .before .args in
-    no-row _ _ _ refl (ap formed (l .ensures .found (omega arith)) ∙ form-long (a .s .now) (a .at) (l .result) (omega arith) (omega arith) (c .before .if3 .left) (omega arith))
+    let args = c .before .before .before .before .before .before .before .args in
+    let line-end = c .before .before .before .before .before .line-end in
+    let l = line-end in
+    let a = args in
+    no-row _ _ _ refl
+    (ap formed (l .ensures .found (omega arith)) ∙ form-long (a .s .now) (a .at) (l .result) (omega arith)
+    (omega arith) (c .before .if3 .left) (omega arith))
 
 shared-slice-read-kind : tie.Need-shared-slice-read-kind
 shared-slice-read-kind c = search needs
 
 text-shape-requires : tie.Need-text-shape-requires
 text-shape-requires c κs =
-    let l = c .before .before .before .before .before .before .line-end in
-    let d = c .before .before .before .before .before .before .before .before in
+    let before = c .before .before .before .before .before .before .before .before in
+    let line-end = c .before .before .before .before .before .before .line-end in
+    let l = line-end in
+    let d = before in
     (omega arith, not-one-byte (d .args .s .now) (d .args .at) (l .result) (d .pre) (c .before .before .if3 .left) (omega arith) (l .ensures .lf (omega arith)))
 
 returns-5 : tie.Need-returns-5
 returns-5 c =
-    let l = c .before .before .before .before .before .before .before .line-end in
-    let a = c .before .before .before .before .before .before .before .before .before .args in
+    let args = c .before .before .before .before .before .before .before .before .before .args in
+    let line-end = c .before .before .before .before .before .before .before .line-end in
+    let l = line-end in
+    let a = args in
     let f = l .ensures .found (omega arith) in
     record { right = c .text-shape .ensures ∙ sym (ap formed f ∙ form-right (a .s .now) (a .at) (l .result) (omega arith) (omega arith) (c .before .before .before .if3 .left) (omega arith)); past = λ h. (omega arith, omega arith); rest = λ h. (slice (a .at) (l .result) (a .s .now), f) }
 

@@ -10,7 +10,10 @@ shared-slice-read-kind : tie.Need-shared-slice-read-kind
 shared-slice-read-kind c = search needs
 
 returns-2 : tie.Need-returns-2
-returns-2 c = laws.close-here _ (c .before .before .before .before .args .c) (c .before .before .before .before .pre) (c .before .before .if1 .left) (c .if2 .taken)
+returns-2 c =
+    let args = c .before .before .before .before .args in
+    let pre = c .before .before .before .before .pre in
+    laws.close-here _ (args .c) pre (c .before .before .if1 .left) (c .if2 .taken)
 
 row-end-requires : tie.Need-row-end-requires
 row-end-requires c κs = search needs
@@ -25,10 +28,19 @@ shared-slice-read-mark : tie.Need-shared-slice-read-mark
 shared-slice-read-mark c = search needs
 
 returns-3 : tie.Need-returns-3
-returns-3 c = laws.group-here _ (c .before .before .before .before .before .before .before .args .c) (c .before .before .before .before .before .before .before .pre) (c .before .before .row-end .result) (c .before .before .row-end .ensures) (c .if3 .taken)
+returns-3 c =
+    let args = c .before .before .before .before .before .before .before .args in
+    let pre = c .before .before .before .before .before .before .before .pre in
+    let row-end = c .before .before .row-end in
+    laws.group-here _ (args .c) pre (row-end .result) (row-end .ensures) (c .if3 .taken)
 
 returns-4 : tie.Need-returns-4
-returns-4 c = laws.leaf-here _ (c .before .before .before .before .before .before .before .args .c) (c .before .before .before .before .before .before .before .pre) (c .before .before .row-end .result) (c .before .before .row-end .ensures) (c .if3 .left) (c .before .before .before .if2 .left)
+returns-4 c =
+    let args = c .before .before .before .before .before .before .before .args in
+    let pre = c .before .before .before .before .before .before .before .pre in
+    let row-end = c .before .before .row-end in
+    laws.leaf-here _ (args .c) pre (row-end .result) (row-end .ensures) (c .if3 .left)
+    (c .before .before .before .if2 .left)
 
 pub peek-spec : {M : Type 1} → statement M
 peek-spec =

@@ -17,8 +17,9 @@ loop-holds c = inside-start _ _ (c .before .pre)
 
 returns : tie.Need-returns Inv-loop μ-loop
 returns c =
+    let args = c .before .before .before .before .args in
     let l = c .before .before .loop in
-    inside-none _ (c .before .before .before .before .args .c) (l .i) (l .row) (l .depth) (c .before .loop-test .taken) (c .if1 .taken) (l .inv)
+    inside-none _ (args .c) (l .i) (l .row) (l .depth) (c .before .loop-test .taken) (c .if1 .taken) (l .inv)
 
 shared-slice-read-kind : tie.Need-shared-slice-read-kind Inv-loop μ-loop
 shared-slice-read-kind c = omega (arith, c .before .if1 .left)
@@ -28,14 +29,21 @@ row-end-requires c κs = (c .before .before .before .loop .inv .whole, omega (ar
 
 deeper-requires : tie.Need-deeper-requires Inv-loop μ-loop
 deeper-requires c κs =
-    let l = c .before .before .before .before .loop in
-    (c .before .before .before .loop-test .taken, omega (arith, l .inv .deep, l .inv .within, c .before .before .before .before .before .before .good))
+    let good = c .before .before .before .before .before .before .good in
+    let loop = c .before .before .before .before .loop in
+    let l = loop in
+    (c .before .before .before .loop-test .taken, omega (arith, l .inv .deep, l .inv .within, good))
 
 add-i : tie.Need-add-i Inv-loop μ-loop
-add-i c = omega (arith, c .before .row-end .ensures .within, c .before .before .before .before .before .before .before .good)
+add-i c =
+    let good = c .before .before .before .before .before .before .before .good in
+    omega (arith, c .before .row-end .ensures .within, good)
 
 add-row : tie.Need-add-row Inv-loop μ-loop
-add-row c = omega (arith, c .before .before .before .before .before .loop .inv .counted, c .before .before .before .if1 .left, c .before .before .before .before .before .before .before .good)
+add-row c =
+    let good = c .before .before .before .before .before .before .before .good in
+    let loop = c .before .before .before .before .before .loop in
+    omega (arith, loop .inv .counted, c .before .before .before .if1 .left, good)
 
 loop-less : tie.Need-loop-less Inv-loop μ-loop
 loop-less c =
@@ -44,10 +52,14 @@ loop-less c =
 
 loop-again : tie.Need-loop-again Inv-loop μ-loop
 loop-again c =
-    let l = c .before .before .before .before .before .loop in
-    let a = c .before .before .before .before .before .before .before .args in
+    let args = c .before .before .before .before .before .before .before .args in
+    let loop = c .before .before .before .before .before .loop in
+    let loop-test = c .before .before .before .before .loop-test in
+    let l = loop in
+    let a = args in
     subst (λ (d : ℕ). Inside (a .s .now) (a .c) (c .before .row-end .result + 1) (l .row + 1) d) (sym (c .deeper .ensures))
-    (inside-step (a .s .now) (a .c) (l .i) (l .row) (l .depth) (c .before .row-end .result) (c .before .before .before .before .loop-test .taken) (l .inv) (c .before .row-end .ensures))
+    (inside-step (a .s .now) (a .c) (l .i) (l .row) (l .depth) (c .before .row-end .result) (loop-test .taken) (l .inv)
+    (c .before .row-end .ensures))
 
 returns-2 : tie.Need-returns-2 Inv-loop μ-loop
 returns-2 c =

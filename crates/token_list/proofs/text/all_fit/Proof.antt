@@ -1,6 +1,5 @@
 -- `all_fit` meets its contract: the test of the part is the test of what is left of it, while each byte passed.
 use mathlib.Core.Path.{_≡_, refl, sym, _∙_}
-use mathlib.Core.Bool.{true, false}
 use Prim.Native.Nat.{_-_}
 use native.Mathlib.Omega.{arith}
 use borrow.Author.Needs.{needs}
@@ -31,7 +30,9 @@ returns : tie.Need-returns Inv-loop μ-loop
 returns c =
     let d = c .before .before .before .before in
     let a = d .before .before .args in
-    sym (d .loop .inv ∙ all-fails (inText (a .names)) (a .s .now) (a .end) (omega arith) (d .loop .i) (omega arith) (sym (c .before .in-text .ensures) ∙ not-true _ (c .if1 .taken)))
+    sym
+    (d .loop .inv ∙ all-fails (inText (a .names)) (a .s .now) (a .end) (omega arith) (d .loop .i) (omega arith)
+    (sym (c .before .in-text .ensures) ∙ not-true _ (c .if1 .taken)))
 
 add-i : tie.Need-add-i Inv-loop μ-loop
 add-i c = omega arith
@@ -43,7 +44,8 @@ loop-again : tie.Need-loop-again Inv-loop μ-loop
 loop-again c =
     let d = c .before .before .before .before in
     let a = d .before .before .args in
-    d .loop .inv ∙ all-next (inText (a .names)) (a .s .now) (a .end) (omega arith) (d .loop .i) (omega arith) (sym (c .before .in-text .ensures) ∙ not-false _ (c .if1 .left))
+    d .loop .inv ∙ all-next (inText (a .names)) (a .s .now) (a .end) (omega arith) (d .loop .i) (omega arith)
+    (sym (c .before .in-text .ensures) ∙ not-false _ (c .if1 .left))
 
 returns-2 : tie.Need-returns-2 Inv-loop μ-loop
 returns-2 c =

@@ -1,4 +1,4 @@
-use mathlib.Core.Path.{sym, _∙_}
+use mathlib.Core.Path.{sym}
 use borrow.Author.Tests.{le-leb, lt-leb}
 use Rattle.token_list.proofs.Texts.{and-last, and-fails}
 use Rattle.token_list.proofs.text.between.Statement.{statement}

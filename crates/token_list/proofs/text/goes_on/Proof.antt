@@ -2,17 +2,16 @@ use Rattle.token_list.proofs.Texts.{same-next, same-fails, same-end}
 use Rattle.token_list.specs.Text.{same}
 use lib.Seq.{slice}
 use lib.ListN.{length, drop}
-use lib.Dec.{leb}
 use borrow.Author.Tests.{le-leb}
 use Prim.Native.Nat.{ℕ, _+_, _-_}
-use mathlib.Core.Path.{_≡_, refl, sym, _∙_, ap}
-use mathlib.Core.List.{List}
+use mathlib.Core.Path.{_≡_, sym, _∙_, ap}
 use native.Mathlib.Omega.{arith}
 use Rattle.token_list.proofs.text.goes_on.Statement.{statement}
 use Rattle.token_list.proofs.text.goes_on.Tie as tie
 
 abbrev Inv-loop : tie.InvT-loop
-Inv-loop s at name i₀ i = same (slice at (at + length name) s) name ≡ same (slice (at + i) (at + length name) s) (drop i name)
+Inv-loop s at name i₀ i =
+    same (slice at (at + length name) s) name ≡ same (slice (at + i) (at + length name) s) (drop i name)
 
 abbrev μ-loop : tie.MeasureT-loop
 μ-loop s at name i₀ i = length name - i
@@ -36,7 +35,9 @@ returns : tie.Need-returns Inv-loop μ-loop
 returns c =
     let d = c .before .before .before .before in
     let a = d .before .args in
-    sym (d .loop .inv ∙ same-fails (a .s .now) (a .name .now) (a .at + length (a .name .now)) (omega arith) (a .at + d .loop .i) (d .loop .i) (omega arith) (omega arith) (c .if1 .taken))
+    sym
+    (d .loop .inv ∙ same-fails (a .s .now) (a .name .now) (a .at + length (a .name .now)) (omega arith)
+    (a .at + d .loop .i) (d .loop .i) (omega arith) (omega arith) (c .if1 .taken))
 
 add-i : tie.Need-add-i Inv-loop μ-loop
 add-i c = omega arith
@@ -54,7 +55,10 @@ loop-again c =
 returns-2 : tie.Need-returns-2 Inv-loop μ-loop
 returns-2 c =
     let a = c .before .before .args in
-    sym (c .before .loop .inv ∙ same-end (a .s .now) (a .name .now) (a .at + length (a .name .now)) (omega arith) (a .at + c .before .loop .i) (c .before .loop .i) (omega arith) ∙ le-leb (a .at + length (a .name .now)) (a .at + c .before .loop .i) (omega arith))
+    sym
+    (c .before .loop .inv ∙ same-end (a .s .now) (a .name .now) (a .at + length (a .name .now)) (omega arith)
+    (a .at + c .before .loop .i) (c .before .loop .i) (omega arith) ∙ le-leb (a .at + length (a .name .now))
+    (a .at + c .before .loop .i) (omega arith))
 
 pub goes-on-spec : {M : Type 1} → statement M
 goes-on-spec =

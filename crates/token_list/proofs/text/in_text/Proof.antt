@@ -16,7 +16,9 @@ is-digit-requires : tie.Need-is-digit-requires
 is-digit-requires c κs = search needs
 
 returns-2 : tie.Need-returns-2
-returns-2 c = c .is-digit .ensures ∙ sym (ap (λ (n : Bool). inText n (c .before .before .before .before .args .b)) (c .before .before .before .if1 .taken) ∙ or-last _ _ (sym (c .before .before .is-name-start .ensures) ∙ c .before .if2 .left))
+returns-2 c =
+    let args = c .before .before .before .before .args in
+    c .is-digit .ensures ∙ sym (ap (λ (n : Bool). inText n (args .b)) (c .before .before .before .if1 .taken) ∙ or-last _ _ (sym (c .before .before .is-name-start .ensures) ∙ c .before .if2 .left))
 
 between-requires : tie.Need-between-requires
 between-requires c κs = search needs

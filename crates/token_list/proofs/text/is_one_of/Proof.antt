@@ -22,7 +22,9 @@ shared-slice-read-if1 c = omega arith
 returns : tie.Need-returns Inv-loop μ-loop
 returns c =
     let d = c .before .before .before in
-    sym (d .loop .inv ∙ member-found (d .before .args .b) (d .before .args .set .now) (d .loop .i) (omega arith) (c .if1 .taken))
+    sym
+    (d .loop .inv ∙ member-found (d .before .args .b) (d .before .args .set .now) (d .loop .i) (omega arith)
+    (c .if1 .taken))
 
 add-i : tie.Need-add-i Inv-loop μ-loop
 add-i c = omega arith
@@ -33,10 +35,13 @@ loop-less c = omega arith
 loop-again : tie.Need-loop-again Inv-loop μ-loop
 loop-again c =
     let d = c .before .before .before in
-    d .loop .inv ∙ member-next (d .before .args .b) (d .before .args .set .now) (d .loop .i) (omega arith) (c .if1 .left)
+    d .loop .inv ∙ member-next (d .before .args .b) (d .before .args .set .now) (d .loop .i) (omega arith)
+    (c .if1 .left)
 
 returns-2 : tie.Need-returns-2 Inv-loop μ-loop
-returns-2 c = sym (c .before .loop .inv ∙ member-none (c .before .before .args .b) (c .before .before .args .set .now) (c .before .loop .i) (omega arith))
+returns-2 c =
+    let args = c .before .before .args in
+    sym (c .before .loop .inv ∙ member-none (args .b) (args .set .now) (c .before .loop .i) (omega arith))
 
 pub is-one-of-spec : {M : Type 1} → statement M
 is-one-of-spec =

@@ -53,11 +53,13 @@ loop-again c =
     let a = d .before .before .args in
     let fits = sym (c .before .in-text .ensures) ∙ not-false _ (c .if1 .left) in (
       scan-more (a .s .now) (a .from) (d .loop .i) (omega arith) (in-text-no-lf (a .names) _ fits) (d .loop .inv .0),
-      all-more (inText (a .names)) (a .s .now) (a .from) (d .loop .i) (d .loop .inv .0 .start) (omega arith) (d .loop .inv .1) fits,
+      all-more (inText (a .names)) (a .s .now) (a .from) (d .loop .i) (d .loop .inv .0 .start) (omega arith)
+          (d .loop .inv .1) fits,
     )
 
 returns-2 : tie.Need-returns-2 Inv-loop μ-loop
-returns-2 c = record { start = c .before .loop .inv .0 .start; fits = c .before .loop .inv .1; stops = λ h. absurd (omega arith); line = λ h. absurd (omega arith) }
+returns-2 c =
+    record { start = c .before .loop .inv .0 .start; fits = c .before .loop .inv .1; stops = λ h. absurd (omega arith); line = λ h. absurd (omega arith) }
 
 pub text-end-spec : {M : Type 1} → statement M
 text-end-spec =

@@ -3,7 +3,7 @@ use mathlib.Core.List.{List}
 use Prim.Native.Nat.{ℕ}
 use native.Mathlib.Omega.{arith}
 use lib.ListN.{length, take, drop}
-use lib.Seq.{slice, take-all}
+use lib.Seq.{take-all}
 use Rattle.token_list.specs.Text.{same}
 use borrow.Author.Needs.{needs}
 use Rattle.token_list.proofs.text.text_is.Statement.{statement}
@@ -14,7 +14,8 @@ text-within-requires c κs = search needs
 
 returns : tie.Need-returns
 returns c =
-    let a = c .before .before .before .before .args in
+    let args = c .before .before .before .before .args in
+    let a = args in
     let e : take (length (a .s .now)) (a .s .now) ≡ take (a .end) (a .s .now) = take-all (length (a .s .now)) (a .s .now) (omega arith) ∙ sym (take-all (a .end) (a .s .now) (omega arith)) in
     c .text-within .ensures ∙ ap (λ (x : List ℕ). same (drop (a .start) x) (a .name .now)) e
 

@@ -1,6 +1,6 @@
 use mathlib.Core.Path.{sym, _∙_, ap, _≡_}
 use mathlib.Core.List.{List}
-use Prim.Native.Nat.{ℕ, _+_, _-_}
+use Prim.Native.Nat.{ℕ, _+_}
 use native.Mathlib.Omega.{arith}
 use lib.ListN.{length}
 use lib.Seq.{slice, length-slice}
@@ -17,15 +17,19 @@ returns c =
 
 returns-2 : tie.Need-returns-2
 returns-2 c =
-    let a = c .before .before .before .before .args in
-    sym (same-length (slice (a .start) (a .end) (a .s .now)) (a .name .now) (λ e. c .if2 .taken (sym (length-slice (a .start) (a .end) (a .s .now) (omega arith)) ∙ e)))
+    let args = c .before .before .before .before .args in
+    let a = args in
+    sym
+    (same-length (slice (a .start) (a .end) (a .s .now)) (a .name .now)
+    (λ e. c .if2 .taken (sym (length-slice (a .start) (a .end) (a .s .now) (omega arith)) ∙ e)))
 
 goes-on-requires : tie.Need-goes-on-requires
 goes-on-requires c κs = search needs
 
 returns-3 : tie.Need-returns-3
 returns-3 c =
-    let a = c .before .before .before .before .before .args in
+    let args = c .before .before .before .before .before .args in
+    let a = args in
     let e : a .start + length (a .name .now) ≡ a .end = omega arith in
     c .goes-on .ensures ∙ ap (λ (n : ℕ). same (slice (a .start) n (a .s .now)) (a .name .now)) e
 
