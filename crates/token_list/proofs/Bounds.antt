@@ -1,15 +1,20 @@
--- How much a list that passes the check may hold: its bytes, its rows, and the texts of its stream; the numbers of refusals.
-use mathlib.Core.Path.{_≡_, refl, ap}
+-- How much a list that passes the check may hold: its bytes, its rows, and the texts of its stream; the numbers and places of
+-- refusals.
+use mathlib.Core.Path.{_≡_, refl, ap, _∙_, sym, subst}
+use mathlib.Core.Logic.{inl, inr}
 use mathlib.Core.Bool.{Bool, true, false, cond}
 use mathlib.Core.List.{List, [], _∷_}
-use Prim.Native.Nat.{ℕ, _+_, _≤_}
+use Prim.Native.Nat.{ℕ, _+_, _≤_, _<_}
 use native.Mathlib.Omega.{arith}
 use borrow.Author.Tests.{eqb-true, eqb-false, leb-true, leb-false, ltb-false}
 use lib.Dec.{eqb, leb, ltb}
 use lib.ListN.{length, take, drop, length-append, length-drop}
 use Rattle.token_list.specs.Text.{LF, same, closer}
-use Rattle.token_list.specs.Row.{Row, Lines, tail, line, lines, written, Form, plain, opens, closed, wrong, form}
+use Rattle.token_list.specs.Row.{Row, Lines, tail, line, lines, written, begun, Form, plain, opens, closed, wrong, form}
 use Rattle.token_list.specs.Check.{Answer, passed, refused, END, Open, step, walk, NAMES, check}
+use Rattle.token_list.specs.Place.{OneRefusal, checkNumber}
+use Rattle.token_list.specs.Contract.{checked, CheckedAs}
+use Rattle.token_list.specs.declared.check.Checked.{Checked}
 use Rattle.token_list.specs.Stream.{Trees, end, leaf, group, Streams, head, others, before, streams, rowsAt, at}
 use Rattle.token_list.proofs.Streams.{before-close, before-open, before-leaf}
 use Rattle.token_list.proofs.Passed.{passed-list}
@@ -24,48 +29,77 @@ texts (group d ts us) = texts ts + texts us
 pub record Bounded (s : List ℕ) (n : ℕ) : Type 0 where
   pub bytes : length s ≤ 65536
   pub rows : n ≤ 4096
+  pub begun : begun (lines (drop 10 s)) ≡ n
   pub texts : texts (at s 10 .here) ≤ length s
 
--- ## Rows, and the numbers of refusals
+-- ## Rows, and the numbers and places of refusals
 
-data Limited : Answer → Type 0 where
-  few : {n : ℕ} → n ≤ 4096 → Limited (passed n)
-  low : {n p : ℕ} → leb n 7 ≡ true → Limited (refused n p)
+-- an answer of lines in which b rows begin
+data Limited (b : ℕ) : Answer → Type 0 where
+  few : {n : ℕ} → b ≡ n → n ≤ 4096 → Limited b (passed n)
+  ended : {n : ℕ} → checkNumber n ≡ true → Limited b (refused n END)
+  low : {n p : ℕ} → checkNumber n ≡ true → p < b → p ≤ 4096 → Limited b (refused n p)
 
-choice : (b : Bool) {a c : Answer} → Limited a → Limited c → Limited (cond b a c)
+choice : {b : ℕ} (t : Bool) {a c : Answer} → Limited b a → Limited b c → Limited b (cond t a c)
 choice true h k = h
 choice false h k = k
 
-step-limited : (r : ℕ) (gs : List Open) (f : Form) (go : List Open → Answer) → ((hs : List Open) → Limited (go hs)) → Limited (step r gs f go)
-step-limited r gs wrong go k = low refl
-step-limited r gs plain go k = k gs
-step-limited r gs (opens d) go k = choice (leb 32 (length gs)) (low refl) (k _)
-step-limited r [] (closed d) go k = low refl
-step-limited r (g ∷ gs) (closed d) go k = choice (eqb (closer (g .delimiter)) d) (k gs) (low refl)
+-- the open groups stand in rows below r
+abbrev Below : ℕ → List Open → Type 0
+Below r [] = Unit {0}
+Below r (g ∷ gs) = (g .row < r) × Below r gs
 
-walk-limited : (ls : Lines) (r : ℕ) (gs : List Open) → r ≤ 4096 → Limited (walk r gs ls)
-walk-limited (tail []) r [] h = few h
-walk-limited (tail []) r (g ∷ gs) h = low refl
-walk-limited (tail (b ∷ bs)) r gs h = choice (leb 4096 r) (low refl) (low refl)
-walk-limited (line l ls) r gs h = go (walk-limited ls) (leb 4096 r) refl
+below-next : (r : ℕ) (gs : List Open) → Below r gs → Below (r + 1) gs
+below-next r [] h = tt
+below-next r (g ∷ gs) h = (omega (arith, h .0), below-next r gs (h .1))
+
+step-limited : {b : ℕ} (r : ℕ) (gs : List Open) (f : Form) (go : List Open → Answer) → r < b → r ≤ 4096 → Below r gs
+    → ((hs : List Open) → Below (r + 1) hs → Limited b (go hs)) → Limited b (step r gs f go)
+step-limited r gs wrong go l h o k = low refl l h
+step-limited r gs plain go l h o k = k gs (below-next r gs o)
+step-limited r gs (opens d) go l h o k = choice (leb 32 (length gs)) (low refl l h) (k _ (omega arith, below-next r gs o))
+step-limited r [] (closed d) go l h o k = low refl l h
+step-limited r (g ∷ gs) (closed d) go l h o k = choice (eqb (closer (g .delimiter)) d) (k gs (below-next r gs (o .1))) (low refl l h)
+
+-- row r begins: at most 4,096 rows stand before it, and a further one is refused
+begin-limited : {b : ℕ} (r : ℕ) (a : Answer) → r ≤ 4096 → r < b → (r < 4096 → Limited b a) → Limited b (cond (leb 4096 r) (refused 4 4096) a)
+begin-limited {b} r a h l k = go (leb 4096 r) refl
   where
-    go : ((r : ℕ) (gs : List Open) → r ≤ 4096 → Limited (walk r gs ls)) → (b : Bool) → leb 4096 r ≡ b
-        → Limited (cond b (refused 4 4096) (step r gs (form l) (λ hs. walk (r + 1) hs ls)))
-    go ih true e = low refl
-    go ih false e = step-limited r gs (form l) (λ hs. walk (r + 1) hs ls)
-        (λ hs. ih (r + 1) hs (omega (arith, leb-false 4096 r e)))
+    go : (t : Bool) → leb 4096 r ≡ t → Limited b (cond t (refused 4 4096) a)
+    go true e = low {p = 4096} refl (omega (arith, leb-true 4096 r e)) (omega arith)
+    go false e = k (omega (arith, leb-false 4096 r e))
 
-check-limited : (s : List ℕ) → Limited (check s)
+walk-limited : {b : ℕ} (ls : Lines) (r : ℕ) (gs : List Open) → r ≤ 4096 → Below r gs → r + begun ls ≡ b → Limited b (walk r gs ls)
+walk-limited (tail []) r [] h o e = few {n = r} (omega arith) h
+walk-limited (tail []) r (g ∷ gs) h o e = low {p = g .row} refl (omega (arith, o .0)) (omega (arith, o .0))
+walk-limited (tail (x ∷ xs)) r gs h o e = begin-limited r _ h (omega arith) (λ i. low {p = r} refl (omega arith) h)
+walk-limited (line l ls) r gs h o e =
+    begin-limited r _ h (omega arith)
+    (λ i. step-limited r gs (form l) (λ hs. walk (r + 1) hs ls) (omega arith) h o
+    (λ hs p. walk-limited ls (r + 1) hs (omega arith) p (omega arith)))
+
+check-limited : (s : List ℕ) → Limited (begun (lines (drop 10 s))) (check s)
 unfolding check
 check-limited s =
-    choice (ltb 65536 (length s)) (low refl)
-    (choice (same (take 10 s) NAMES) (walk-limited (lines (drop 10 s)) 0 [] (omega arith)) (low refl))
+    choice (ltb 65536 (length s)) (ended refl)
+    (choice (same (take 10 s) NAMES) (walk-limited (lines (drop 10 s)) 0 [] (omega arith) tt (omega arith)) (ended refl))
 
-pub refusal-number : (s : List ℕ) {n p : ℕ} → check s ≡ refused n p → n ≤ 7
-refusal-number s {n} {p} e = go (rw e at (check-limited s))
+pub check-refusal : (s : List ℕ) (n p : ℕ) → check s ≡ refused n p → OneRefusal checkNumber s n p
+check-refusal s n p e = go refl (rw e at (check-limited s))
   where
-    go : Limited (refused n p) → n ≤ 7
-    go (low h) = leb-true n 7 h
+    go : {a : Answer} → a ≡ refused n p → Limited (begun (lines (drop 10 s))) a → OneRefusal checkNumber s n p
+    go q (few h k) = let z : _≡_ {A = ℕ} 0 1 = cc in absurd (omega arith)
+    go q (ended {n = m} k) =
+        let number : m ≡ n = cc in
+        let place : END ≡ p = cc in
+        record { one = subst (λ (i : ℕ). checkNumber i ≡ true) number k; stands = inl (sym place) }
+    go q (low {n = m} {p = o} k l h) =
+        let number : m ≡ n = cc in
+        let place : o ≡ p = cc in
+        record { one = subst (λ (i : ℕ). checkNumber i ≡ true) number k; stands = inr (record { begins = omega (arith, place); low = omega (arith, place) }) }
+
+pub checked-as : (s : List ℕ) (r : Checked) → checked r ≡ check s → CheckedAs s r
+checked-as s r e = record { answer = e; refusal = λ n p q. check-refusal s n p (sym e ∙ q) }
 
 -- ## Texts
 
@@ -115,9 +149,10 @@ unfolding at around
 bounds s {n} e =
     record {
       bytes = short s e;
-      rows = go (rw e at (check-limited s));
+      rows = go (rw e at (check-limited s)) .1;
+      begun = go (rw e at (check-limited s)) .0;
       texts = omega (arith, streams-texts (rowsAt s 10), ap length (passed-list s n e .written), length-drop 10 s);
     }
   where
-    go : Limited (passed n) → n ≤ 4096
-    go (few h) = h
+    go : {b : ℕ} → Limited b (passed n) → (b ≡ n) × (n ≤ 4096)
+    go (few e h) = (e, h)

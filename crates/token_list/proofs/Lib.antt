@@ -2,6 +2,7 @@
 pub mod Table
 pub mod Texts
 pub mod Lines
+pub mod Starts
 pub mod Forms
 pub mod Walks
 pub mod Rows

@@ -9,11 +9,12 @@ use lib.Dec.{eqb}
 use lib.ListN.{length, getD, drop}
 use lib.Seq.{slice, drop-nil}
 use Rattle.token_list.specs.Row.{Row, line, rows, first}
-use Rattle.token_list.specs.Stream.{Trees, end, leaf, group, Streams, head, others, before, streams, size, firstKind, firstMark, follows, allClosed, rowsAt, at}
+use Rattle.token_list.specs.Stream.{Trees, end, leaf, group, Streams, head, others, before, streams, size, firstKind, firstMark, follows, allClosed, rowsAt, at, rowStart}
 use Rattle.token_list.specs.Contract.{RowEnd, Whole, InList, Looked, TokenAt, LeafAt, GroupAt, Skipped, skipped, deeper}
 use Rattle.token_list.specs.declared.check.Cursor.{Cursor}
 use Rattle.token_list.specs.declared.stream.Token.{Token}
 use Rattle.token_list.proofs.Texts.{and-parts, chosen, passed-over, slice-next}
+use Rattle.token_list.proofs.Starts.{next-start}
 use Rattle.token_list.proofs.Rows.{rows-none, FirstRow, first-row, first-kind, first-mark, some-kind, whole-next}
 
 -- ## The row at an offset
@@ -124,7 +125,9 @@ module _ (s : List ℕ) (c : Cursor) (inList : InList s c) (e : ℕ) (l : RowEnd
   token-at : TokenAt s (c .at) theToken
   token-at =
       record {
+        kind = refl;
         start = refl;
+        end = l;
         text = omega (arith, l .text);
         next = refl;
         within = omega (arith, l .within);
@@ -162,6 +165,7 @@ pending (suc n) (t ∷ ts) = size t + 1 + pending n ts
 
 -- on the way from c past the end of its group: at i, in row, `depth` groups deep
 pub record Inside (s : List ℕ) (c : Cursor) (i row depth : ℕ) : Type 0 where
+  pub starts : i ≡ rowStart s row
   pub counted : row ≤ i
   pub deep : depth ≤ i + 1
   pub within : i ≤ length s
@@ -173,6 +177,7 @@ pub record Inside (s : List ℕ) (c : Cursor) (i row depth : ℕ) : Type 0 where
 pub inside-start : (s : List ℕ) (c : Cursor) → InList s c → Inside s c (c .at) (c .row) 1
 inside-start s c i =
     record {
+      starts = i .starts;
       counted = i .counted;
       deep = omega arith;
       within = i .within;
@@ -200,6 +205,7 @@ module _ (s : List ℕ) (c : Cursor) (i row : ℕ) where
         let p = l .within in
         let q = l .text in
         record {
+          starts = next-start s row i e (n .starts) l;
           counted = omega (arith, n .counted, q);
           deep = omega (arith, n .deep, q);
           within = omega (arith, p);
@@ -261,7 +267,7 @@ module _ (s : List ℕ) (c : Cursor) (i row : ℕ) where
   there = record { at = i; row = row }
 
   there-in : {depth : ℕ} → Inside s c i row depth → InList s there
-  there-in n = record { counted = n .counted; within = n .within; whole = n .whole }
+  there-in n = record { starts = n .starts; counted = n .counted; within = n .within; whole = n .whole }
 
   pub inside-done : (depth : ℕ) → depth ≤ 0 → Inside s c i row depth → skipped (at s (c .at) .outer) s c there
   inside-done zero h n =

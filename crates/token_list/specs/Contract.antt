@@ -7,13 +7,14 @@ use lib.Dec.{leb, ltb, eqb}
 use lib.ListN.{length, getD, take, drop}
 use lib.Seq.{slice}
 use Rattle.token_list.specs.Row.{Lines, tail, line, lines, Form, plain, opens, closed, wrong, form, first, Row, written}
-use Rattle.token_list.specs.Check.{Answer, passed, refused, Open, ended, close, walk, NAMES, allRight, nested}
+use Rattle.token_list.specs.Check.{Answer, passed, refused, Open, ended, close, walk, NAMES, check, allRight, nested}
+use Rattle.token_list.specs.Place.{OneRefusal, checkNumber}
 use Rattle.token_list.specs.declared.check.Cursor.{Cursor}
 use Rattle.token_list.specs.declared.check.Checked.{Checked}
 use Rattle.token_list.specs.declared.check.Checked.the-variants.{Passed, Refused}
 use Rattle.token_list.specs.declared.check.LevelEnd.{LevelEnd}
 use Rattle.token_list.specs.declared.check.LevelEnd.the-variants.{End, Close, Refused as Stopped}
-use Rattle.token_list.specs.Stream.{Trees, end, leaf, group, size, firstKind, firstMark, follows, allClosed, rowsAt, at}
+use Rattle.token_list.specs.Stream.{Trees, end, leaf, group, size, firstKind, firstMark, follows, allClosed, rowsAt, at, rowStart}
 use Rattle.token_list.specs.declared.stream.Token.{Token}
 use Rattle.token_list.specs.declared.stream.Glance.{Glance}
 use Rattle.token_list.specs.declared.stream.Peeked.{Peeked}
@@ -87,8 +88,9 @@ pub record Whole (s : List ℕ) (i : ℕ) : Type 0 where
   pub right : allRight (rowsAt s i) ≡ true
   pub closed : allClosed (rowsAt s i) ≡ true
 
--- a cursor's own bounds: the rows before it have a byte each, it is in the list, and rows stand from it on
+-- a cursor of the list: its offset is where its row starts, the rows before it have a byte each, and rows stand from it on
 pub record InList (s : List ℕ) (c : Cursor) : Type 0 where
+  pub starts : c .at ≡ rowStart s (c .row)
   pub counted : c .row ≤ c .at
   pub within : c .at ≤ length s
   pub whole : Whole s (c .at)
@@ -107,7 +109,9 @@ pub record RowEnd (s : List ℕ) (i e : ℕ) : Type 0 where
 
 -- the token t at i: where its parts stand, its first byte of text, and the next row
 pub record TokenAt (s : List ℕ) (i : ℕ) (t : Token) : Type 0 where
+  pub kind : t .kind ≡ getD s i 0
   pub start : t .start ≡ i + 2
+  pub end : RowEnd s i (t .end)
   pub text : t .start ≤ t .end
   pub next : t .next ≡ t .end + 1
   pub within : t .next ≤ length s
@@ -165,6 +169,11 @@ skipped (t ∷ ts) s c d = Skipped s c d
 abbrev pub checked : Checked → Answer
 checked (Passed n) = passed n
 checked (Refused r) = refused (r .number) (r .place)
+
+-- the list check's whole answer, and what holds of a refusal
+pub record CheckedAs (s : List ℕ) (r : Checked) : Type 0 where
+  pub answer : checked r ≡ check s
+  pub refusal : (n p : ℕ) → checked r ≡ refused n p → OneRefusal checkNumber s n p
 
 -- where the list check stands
 pub record Within (s : List ℕ) (c : Cursor) : Type 0 where

@@ -1,6 +1,8 @@
--- What the token_list crate's contracts say. Text, Row, Check and Stream state the meaning, from document 01; Contract ties the code's answers to it.
+-- What the token_list crate's contracts say. Text, Row, Check, Place and Stream state the meaning, from document 01; Contract ties the
+-- code's answers to it.
 pub mod Text
 pub mod Row
 pub mod Check
+pub mod Place
 pub mod Stream
 pub mod Contract

@@ -1,7 +1,7 @@
 -- The lines of a text and the rows that they are (document 01, "The token list").
 use mathlib.Core.Bool.{Bool, true, false, cond, _&&_}
 use mathlib.Core.List.{List, [], _∷_, _++_}
-use Prim.Native.Nat.{ℕ}
+use Prim.Native.Nat.{ℕ, zero, suc, _+_}
 use lib.Dec.{leb, eqb}
 use lib.ListN.{length}
 use Rattle.token_list.specs.Text.{LF, name, literal, single, punctuation, opening, closing}
@@ -67,3 +67,15 @@ rows (line l ls) = rowOf l (rows ls)
 abbrev pub written : List Row → List ℕ
 written [] = []
 written (r ∷ rs) = r .kind ∷ 32 ∷ r .text ++ LF ∷ written rs
+
+-- how many rows begin: one a line, and one more where bytes stand after the last LF
+abbrev pub begun : Lines → ℕ
+begun (tail []) = 0
+begun (tail (b ∷ bs)) = 1
+begun (line l ls) = 1 + begun ls
+
+-- how many bytes stand before row r, counted from row 0
+abbrev pub bytesBefore : ℕ → Lines → ℕ
+bytesBefore zero ls = 0
+bytesBefore (suc r) (tail t) = 0
+bytesBefore (suc r) (line l ls) = length l + 1 + bytesBefore r ls

@@ -5,7 +5,7 @@ use mathlib.Core.List.{List, [], _∷_}
 use Prim.Native.Nat.{ℕ, _+_}
 use lib.Dec.{eqb}
 use lib.ListN.{drop}
-use Rattle.token_list.specs.Row.{Row, rows, lines, first}
+use Rattle.token_list.specs.Row.{Row, rows, lines, first, bytesBefore}
 
 -- What is left of a stream: nothing; a token and the rest; a group with its delimiter, its inside and the rest after its close.
 pub data Trees : Type 0 where
@@ -68,3 +68,7 @@ rowsAt s i = rows (lines (drop i s))
 
 unfoldable pub at : List ℕ → ℕ → Streams
 at s i = streams (rowsAt s i)
+
+-- where row r of a list starts, after the line of names
+unfoldable pub rowStart : List ℕ → ℕ → ℕ
+rowStart s r = 10 + bytesBefore r (lines (drop 10 s))

@@ -5,9 +5,9 @@ use crate::row::line_shape;
 use crate::text::text_is;
 ghost use mathlib.Core.Path.{_≡_};
 ghost use lib.ListN.{take};
-ghost use Rattle.token_list.specs.Check.{check, NAMES};
+ghost use Rattle.token_list.specs.Check.{NAMES};
 ghost use Rattle.token_list.specs.Text.{same};
-ghost use Rattle.token_list.specs.Contract.{Within, Walked, checked};
+ghost use Rattle.token_list.specs.Contract.{Within, Walked, CheckedAs};
 
 // The end mark: the place of a refusal that has no row.
 pub const END: usize = 65535;
@@ -124,7 +124,7 @@ fn has_names(s: &[u8]) -> bool
 
 // Checks a list: the number of its rows, or the first refusal.
 pub fn check(s: &[u8]) -> Checked
-    ensures { λ r. ⌜ checked r ≡ check (now (s .entry)) ⌝ }
+    ensures { λ r. ⌜ CheckedAs (now (s .entry)) r ⌝ }
 {
     if 65536 < s.len() {
         return Checked::Refused(Refusal {
