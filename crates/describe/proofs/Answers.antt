@@ -40,7 +40,7 @@ pub meets-tells : {A : Type 0} {s : List ℕ} {c d : Cursor} {b0 b1 : List ℕ} 
 meets-tells (stands {a = a} {rs = rs} {us = us} m h) = (a, rs, us, refl, h)
 
 pub meets-refusal : {A : Type 0} {s : List ℕ} {c : Cursor} {b0 b1 : List ℕ} {sh : A → Type 0} {n p : ℕ} {t : Took A} → Meets s c b0 b1 sh (no n p) t → t ≡ refuse n p
-meets-refusal refuses = refl
+meets-refusal (refuses qs q) = refl
 
 -- ## A value
 

@@ -34,7 +34,7 @@ pub inside-stands : {A B : Type 0} (m : Reader A) {s : List ℕ} {c : Cursor} {a
 inside-stands {A} {B} m {s} {c} {a} {b0} {b1} {sh} {n} {p} k w = go refl w
   where
     go : {t : Took A} → m (c .row) (stream s c) ≡ t → Meets s c b0 b1 sh (no n p) t → B
-    go e refuses = took-not-refuse (sym e ∙ k .gives)
+    go e (refuses qs q) = took-not-refuse (sym e ∙ k .gives)
 
 -- ## A reader that goes round
 
@@ -79,7 +79,7 @@ module _ {A : Type 0} (m : Reader (Maybe A)) (rd : Rounding m) {s : List ℕ} {c
   inside-refused {B} {xs} {b0} {b1} {sh} {n} {p} k w = go refl w
     where
       go : {t : Took (Maybe A)} → m (c .row) (stream s c) ≡ t → Meets s c b0 b1 sh (no n p) t → B
-      go e refuses = took-not-refuse (again k e)
+      go e (refuses qs q) = took-not-refuse (again k e)
 
 -- a step goes forward
 progress : {A : Type 0} {ts us : Trees} {a : A} {rs : List ℕ} → Round ts (took (one a) rs us) → 0 < length rs

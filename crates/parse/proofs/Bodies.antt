@@ -44,7 +44,7 @@ pub closing-map : {A B : Type 0} {s : List ℕ} {c : Cursor} {b0 b1 : List ℕ} 
     → ((a : A) (rs : List ℕ) (rest : Trees) → t ≡ took a rs rest → sh a → sh2 (f a)) → Meets s c b0 b1 sh x (closing us t) → Meets s c b0 b1 sh2 x (closing us (after row t (λ a. pure (f a))))
 closing-map {s = s} {c} {b0} {b1} {sh2 = sh2} us row (took a rs rest) f g (stands {d = d} m h) =
     subst⁻¹ (λ (qs : List ℕ). Meets s c b0 b1 sh2 (on d) (took (f a) (14 ∷ qs ++ 14 ∷ []) us)) (append-nil rs) (stands m (g a rs rest refl h))
-closing-map us row (refuse n p) f g refuses = refuses
+closing-map us row (refuse n p) f g (refuses qs e) = refuses qs e
 
 module _ (s : List ℕ) (c inside : Cursor) (t : Token) (i : InList s c) (g : GroupAt s (c .at) t) (b0 b1 : List ℕ) (p : inside ≡ pastOf c t) (w : b1 ≡ set b0 (c .row) 14) where
   inside-outer : at s (inside .at) .outer ≡ g .after ∷ at s (c .at) .outer
@@ -54,7 +54,9 @@ module _ (s : List ℕ) (c inside : Cursor) (t : Token) (i : InList s c) (g : Gr
   closing-follows (stands m h) = ap follows (m .outer ∙ inside-outer)
 
   closing-refused : {A : Type 0} {b2 : List ℕ} {sh sh2 : A → Type 0} {n q : ℕ} {x : Took A} (us : Trees) → Meets s inside b1 b2 sh (no n q) x → Meets s c b0 b2 sh2 (no n q) (closing us x)
-  closing-refused us refuses = refuses
+  closing-refused us (refuses qs e) =
+      let below : inside .row ≡ suc (c .row) = omega (arith, ap (λ (y : Cursor). y .row) p) in
+      refuses (14 ∷ qs) (e ∙ (λ j. sets (w j) (below j) qs))
 
   meets-closing : {A : Type 0} {b2 b3 : List ℕ} {sh : A → Type 0} {d e : Cursor} {x : Took A} → Meets s inside b1 b2 sh (on d) x → Ended x → b3 ≡ set b2 (d .row) 14 → Skipped s d e
       → Meets s c b0 b3 sh (on e) (closing (head (at s (t .next) .outer)) x)

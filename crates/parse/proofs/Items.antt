@@ -13,17 +13,25 @@ use Rattle.token_list.specs.declared.check.Cursor.{Cursor}
 use Rattle.token_list.specs.declared.check.Refusal.{Refusal}
 use Rattle.token_list.proofs.Texts.{chosen, passed-over}
 use Rattle.token_list.proofs.Passed.{passed-list}
+use Rattle.token_list.proofs.Starts.{first-start}
 use Rattle.reading.specs.Declaration.{Declaration}
-use Rattle.reading.specs.Took.{Took}
-use Rattle.reading.specs.Reading.{item}
+use Rattle.reading.specs.Took.{Took, Point, beyond}
+use Rattle.reading.specs.Reading.{item, generics, clause}
+use Rattle.reading.specs.Place.{itemNameRow, genericsAt, bodyAt}
 use Rattle.reading.specs.Answer.{Answer, declared, refused, itemAnswer, answer, buffer, accepts}
-use Rattle.parse.specs.Contract.{Meets, stands, refuses, on, no, ItemOf, parsedOf, parsedBy, kindOf, ParsedAs, Answered, accepted}
+use Rattle.parse.specs.Contract.{Meets, stands, refuses, on, no, ItemOf, parsedOf, parsedBy, kindOf, ParsedAs, Answered, accepted, stream, point, TokenIn, CursorAt, itemShown, itemSaid, partsShown}
 use Rattle.parse.specs.declared.data_type.DataType.{DataType}
 use Rattle.parse.specs.declared.data_type.DataType.the-variants as kinds
+use Rattle.token_list.specs.declared.stream.Token.{Token}
 use Rattle.parse.specs.declared.item.ItemAt.{ItemAt}
+use Rattle.parse.specs.declared.item.ItemStep.{ItemStep}
+use Rattle.parse.specs.declared.item.ItemStep.the-variants as itemSteps
 use Rattle.parse.specs.declared.item.Parse.{Parse}
 use Rattle.parse.specs.declared.item.Parse.the-variants as parses
 use Rattle.parse.proofs.Buffer.{sets-append}
+use Rattle.parse.proofs.Meeting.{meets-show, meets-none}
+use Rattle.parse.proofs.Places.{meets-beyond}
+use Rattle.reading.proofs.Places as places
 use Rattle.reading.proofs.Conserved.{Conserved, conserved, item-conserving}
 
 -- ## The role buffer
@@ -81,7 +89,38 @@ first = record { at = 10; row = 0 }
 pub first-in : (s : List ℕ) (rows : ℕ) → list.check s ≡ list.passed rows → InList s first
 first-in s rows e =
     let p = passed-list s rows e in
-    record { counted = omega arith; within = omega (arith, length-take 10 s, ap length (p .names)); whole = p .whole }
+    record {
+      starts = first-start s;
+      counted = omega arith;
+      within = omega (arith, length-take 10 s, ap length (p .names));
+      whole = p .whole;
+    }
+
+-- ## Where an item's parts stand
+
+-- all but where it ends
+abbrev Placed : List ℕ → Cursor → ItemStep → Declaration → Type 0
+Placed s c (itemSteps.At i) d =
+    ItemOf s i d × TokenIn s (itemNameRow (point s c)) (i .name) × CursorAt s (genericsAt (point s c)) (i .generics)
+    × CursorAt s (bodyAt (point s c)) (i .body)
+Placed s c (itemSteps.Refused r) d = ⊥
+
+pub parts-placed : (s : List ℕ) (c g : Cursor) (name : Token) → TokenIn s (itemNameRow (point s c)) name → CursorAt s (genericsAt (point s c)) g
+    → (r : ItemStep) (d : Declaration) → partsShown s g name r d → Placed s c r d
+parts-placed s c g name n k (itemSteps.At i) d h =
+    let p = h .1 in (
+      h .0,
+      subst⁻¹ (TokenIn s (itemNameRow (point s c))) (p .name) n,
+      subst⁻¹ (CursorAt s (genericsAt (point s c))) (p .generics) k,
+      subst (λ (x : Point). CursorAt s (beyond clause (beyond generics x)) (i .body)) (k .here) (p .body),
+    )
+parts-placed s c g name n k (itemSteps.Refused r) d h = h
+
+pub item-placed : {s : List ℕ} {c : Cursor} {b0 b1 : List ℕ} (r : ItemStep) → Meets s c b0 b1 (Placed s c r) (itemSaid r) (item (c .row) (stream s c))
+    → Meets s c b0 b1 (itemShown s c r) (itemSaid r) (item (c .row) (stream s c))
+item-placed (itemSteps.At i) m =
+    meets-show (λ d h. (h .0, record { name = h .1; generics = h .2; body = h .3; next = meets-beyond item m })) m
+item-placed (itemSteps.Refused r) m = meets-none m
 
 -- ## The code's answers
 
@@ -89,11 +128,11 @@ pub answered-refused : (s b0 : List ℕ) {b1 : List ℕ} {p : Parse} (r : Refusa
     → Answered s p b0 b1
 answered-refused s b0 {b1} r w e q =
     subst⁻¹ (λ (p : Parse). Answered s p b0 b1) w
-    (record { answer = subst⁻¹ (ParsedAs s (parses.Refused r)) e (refl, refl); buffer = q ∙ sym (ap (buffer (length b0)) e) })
+    (record { answer = subst⁻¹ (ParsedAs s (parses.Refused r)) e (refl, refl); refusal = places.answer-read s (length b0); buffer = q ∙ sym (ap (buffer (length b0)) e) })
 
-parsed-as : (s : List ℕ) (i : ItemAt) (k : DataType) (d : Declaration) (rs : List ℕ) → i .kind ≡ k → ItemOf s i d → ParsedAs s (parsedBy k i) (declared d rs)
-parsed-as s i kinds.Struct d rs e o = (o .kind ∙ ap kindOf e, o)
-parsed-as s i kinds.Enum d rs e o = (o .kind ∙ ap kindOf e, o)
+parsed-as : (s : List ℕ) (i : ItemAt) (k : DataType) (d : Declaration) (rs : List ℕ) → i .kind ≡ k → itemShown s first (itemSteps.At i) d → ParsedAs s (parsedBy k i) (declared d rs)
+parsed-as s i kinds.Struct d rs e o = (o .0 .kind ∙ ap kindOf e, o .0, o .1)
+parsed-as s i kinds.Enum d rs e o = (o .0 .kind ∙ ap kindOf e, o .0, o .1)
 
 module _ (s : List ℕ) (rows : ℕ) (e : list.check s ≡ list.passed rows) (b0 : List ℕ) (room : rows ≤ length b0) where
   pub read-refused : {b1 b2 : List ℕ} {sh : Declaration → Type 0} {p : Parse} (r : Refusal) → Meets s first b0 b1 sh (no (r .number) (r .place)) (item 0 (at s 10 .here))
@@ -101,14 +140,14 @@ module _ (s : List ℕ) (rows : ℕ) (e : list.check s ≡ list.passed rows) (b0
   read-refused {b1} {sh = sh} r m w q = answered-refused s b0 r w (answer-read s (length b0) rows e room ∙ go m) q
     where
       go : {t : Took Declaration} → Meets s first b0 b1 sh (no (r .number) (r .place)) t → itemAnswer t ≡ refused (r .number) (r .place)
-      go refuses = refl
+      go (refuses qs q) = refl
 
-  pub read-accepted : {b1 b2 : List ℕ} {p : Parse} (i : ItemAt) → Meets s first b0 b1 (ItemOf s i) (on (i .next)) (item 0 (at s 10 .here))
+  pub read-accepted : {b1 b2 : List ℕ} {p : Parse} (i : ItemAt) → Meets s first b0 b1 (itemShown s first (itemSteps.At i)) (on (i .next)) (item 0 (at s 10 .here))
       → b2 ≡ sets (sets b1 (i .next .row) (replicate (rows - i .next .row) 0)) rows
       (replicate (length b1 - rows) 255) → p ≡ parsedOf i → Answered s p b0 b2
   read-accepted {b1} {b2} i m q w = subst⁻¹ (λ (p : Parse). Answered s p b0 b2) w (go refl m)
     where
-      go : {t : Took Declaration} → item 0 (at s 10 .here) ≡ t → Meets s first b0 b1 (ItemOf s i) (on (i .next)) t → Answered s (parsedOf i) b0 b2
+      go : {t : Took Declaration} → item 0 (at s 10 .here) ≡ t → Meets s first b0 b1 (itemShown s first (itemSteps.At i)) (on (i .next)) t → Answered s (parsedOf i) b0 b2
       go f (stands {a = d} {rs = rs} {us = us} mv o) =
           let a = answer-read s (length b0) rows e room ∙ ap itemAnswer f in
           let c = conserved (subst (Conserved (at s 10 .here)) f (item-conserving 0 (at s 10 .here))) in
@@ -116,6 +155,7 @@ module _ (s : List ℕ) (rows : ℕ) (e : list.check s ≡ list.passed rows) (b0
           record {
             answer = subst⁻¹ (ParsedAs s (parsedOf i)) a
                 (parsed-as s i (i .kind) d (rs ++ replicate (size us) 0) refl o);
+            refusal = places.answer-read s (length b0);
             buffer = q ∙ filled b0 b1 rs (i .next .row) rows (size us) (mv .roles) n
                 (c .rows ∙ passed-list s rows e .size) room ∙ sym (ap (buffer (length b0)) a);
           }

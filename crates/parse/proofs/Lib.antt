@@ -1,6 +1,7 @@
 -- Laws on the role buffer and the contracts, which the proofs of the functions cite.
 pub mod Buffer
 pub mod Meeting
+pub mod Places
 pub mod Judge
 pub mod Turns
 pub mod Marks

@@ -11,7 +11,7 @@ use Rattle.token_list.specs.declared.check.Cursor.{Cursor}
 use Rattle.reading.specs.Took.{Took, took, refuse, Reader, onward, after, pure}
 use Rattle.reading.specs.Reading.{Maybe, done, one, more, every}
 use Rattle.parse.specs.Contract.{Moved, on, no, Meets, stands, refuses, stream}
-use Rattle.parse.proofs.Meeting.{moved-none, moved-on}
+use Rattle.parse.proofs.Meeting.{marked-on, moved-none, moved-on}
 use Rattle.reading.proofs.Rounds.{Round, another, Rounding, every-step}
 
 -- things that were read before, with their rows
@@ -102,5 +102,6 @@ module _ {A : Type 0} (m : Reader (Maybe A)) (rd : Rounding m) {s : List ℕ} {f
   rounds-refused {b2} {sh} {n} {p} {sh2} x = go refl x
     where
       go : {t : Took (Maybe A)} → m (c .row) (stream s c) ≡ t → Meets s c b1 b2 sh (no n p) t → Meets s from b0 b2 sh2 (no n p) was
-      go e refuses = subst⁻¹ (Meets s from b0 b2 sh2 (no n p)) (k .same ∙ ap (gathered (k .got) (k .taken)) (step e))
-          refuses
+      go e (refuses qs q) =
+          subst⁻¹ (Meets s from b0 b2 sh2 (no n p)) (k .same ∙ ap (gathered (k .got) (k .taken)) (step e))
+          (refuses (k .taken ++ qs) (marked-on qs (k .moved) q))

@@ -15,12 +15,14 @@ use Rattle.token_list.specs.declared.check.Cursor.{Cursor}
 use Rattle.token_list.specs.declared.stream.Token.{Token}
 use Rattle.reading.specs.Took.{Took, took, refuse, Reader, onward, after, _>>=_, placeOf, pure}
 use Rattle.reading.specs.Reading.{copied, whole, lone, isPunct, isIdent, isWord, textOf, Word, missing, found, Ending, kept}
-use Rattle.parse.specs.Contract.{Moved, Said, on, no, Meets, stands, refuses, refusal, any, stream, pastOf, Belonged, TextOf, InsideAt, wordShown, wordSaid}
+use Rattle.parse.specs.Contract.{Moved, Said, on, no, Meets, stands, refuses, refusal, any, stream, pastOf, Belonged, TextOf, InsideAt, point, TokenIn, wordShown, wordSaid}
+use Rattle.reading.specs.Place.{wordRow}
 use Rattle.parse.specs.declared.utils.Word.{Word as WordAt}
 use Rattle.parse.specs.declared.utils.MaybeWord.{MaybeWord}
 use Rattle.parse.specs.declared.utils.MaybeWord.the-variants as words
 use Rattle.token_list.specs.declared.check.Refusal.{Refusal}
 use Rattle.token_list.specs.Text.{same}
+use Rattle.token_list.proofs.Starts.{next-start}
 use Rattle.token_list.proofs.Texts.{and-last, and-fails}
 use Rattle.parse.proofs.Buffer.{sets-append}
 
@@ -30,16 +32,21 @@ pub moved-none : (s : List ℕ) (c : Cursor) (b : List ℕ) → InList s c → M
 moved-none s c b i =
     record { inList = i; row = omega arith; forth = omega arith; here = refl; outer = refl; roles = refl }
 
+-- stores from the row where a reader stopped on follow its own
+pub marked-on : {s : List ℕ} {a b : Cursor} {rs : List ℕ} {us : Trees} {b0 b1 b2 : List ℕ} (qs : List ℕ)
+    → Moved s a b rs us b0 b1 → b2 ≡ sets b1 (b .row) qs → b2 ≡ sets b0 (a .row) (rs ++ qs)
+marked-on {a = a} {rs = rs} {b0 = b0} qs m e = e ∙ (λ i. sets (m .roles i) (m .row i) qs) ∙ sym (sets-append b0 (a .row) rs qs)
+
 pub moved-on : {s : List ℕ} {a b c : Cursor} {rs qs : List ℕ} {us vs : Trees} {b0 b1 b2 : List ℕ}
     → Moved s a b rs us b0 b1 → Moved s b c qs vs b1 b2 → Moved s a c (rs ++ qs) vs b0 b2
-moved-on {s} {a} {b} {c} {rs} {qs} {us} {vs} {b0} {b1} {b2} m n =
+moved-on {rs = rs} {qs} m n =
     record {
       inList = n .inList;
       row = omega (arith, m .row, n .row, length-append rs qs);
       forth = omega (arith, m .forth, n .forth, length-append rs qs);
       here = n .here;
       outer = n .outer ∙ m .outer;
-      roles = n .roles ∙ (λ i. sets (m .roles i) (m .row i) qs) ∙ sym (sets-append b0 (a .row) rs qs);
+      roles = marked-on qs m (n .roles);
     }
 
 module _ (s : List ℕ) (c : Cursor) (t : Token) (i : InList s c) where
@@ -50,6 +57,7 @@ module _ (s : List ℕ) (c : Cursor) (t : Token) (i : InList s c) where
   pub past-in : TokenAt s (c .at) t → InList s (pastOf c t)
   past-in k =
       record {
+        starts = k .next ∙ next-start s (c .row) (c .at) (t .end) (i .starts) (k .end);
         counted = omega (arith, i .counted, k .start, k .text, k .next);
         within = k .within;
         whole = k .whole;
@@ -107,7 +115,7 @@ module _ {A : Type 0} {s : List ℕ} {c : Cursor} {b0 b1 : List ℕ} {sh : A →
 
   pub meets-show : {sh2 : A → Type 0} {x : Said} {t : Took A} → ((a : A) → sh a → sh2 a) → Meets s c b0 b1 sh x t → Meets s c b0 b1 sh2 x t
   meets-show f (stands m h) = stands m (f _ h)
-  meets-show f refuses = refuses
+  meets-show f (refuses qs e) = refuses qs e
 
 pub meets-stay : {A : Type 0} (s : List ℕ) (c : Cursor) (b : List ℕ) (sh : A → Type 0) (a : A) → InList s c → sh a → Meets s c b b sh (on c) (took a [] (stream s c))
 meets-stay s c b sh a i h = stands (moved-none s c b i) h
@@ -115,7 +123,7 @@ meets-stay s c b sh a i h = stands (moved-none s c b i) h
 pub meets-onward : {A : Type 0} {s : List ℕ} {c d : Cursor} {rs : List ℕ} {us : Trees} {b0 b1 b2 : List ℕ} {sh : A → Type 0} {x : Said} {t : Took A}
     → Moved s c d rs us b0 b1 → Meets s d b1 b2 sh x t → Meets s c b0 b2 sh x (onward rs t)
 meets-onward m (stands n h) = stands (moved-on m n) h
-meets-onward m refuses = refuses
+meets-onward {rs = rs} m (refuses qs e) = refuses (rs ++ qs) (marked-on qs m e)
 
 -- a reader, and then another from where it stopped
 pub meets-then : {A B : Type 0} {s : List ℕ} {c d : Cursor} {b0 b1 b2 : List ℕ} {sh : A → Type 0} {sh2 : B → Type 0} {x : Said} {t : Took A}
@@ -127,9 +135,9 @@ meets-then {s = s} {c} {d} {b0} {b1} {b2} {sh} {sh2} {x} f (stands {a = a} {rs =
     (subst (λ r. Meets s d b1 b2 sh2 x (f a r (stream s d))) (m .row) (k a h)))
 
 -- a reader that refuses
-pub meets-no : {A B : Type 0} {s : List ℕ} {c : Cursor} {b0 b1 b2 : List ℕ} {sh : A → Type 0} {sh2 : B → Type 0} {n p : ℕ} {t : Took A}
-    (f : A → Reader B) → Meets s c b0 b1 sh (no n p) t → Meets s c b0 b2 sh2 (no n p) (after (c .row) t f)
-meets-no f refuses = refuses
+pub meets-no : {A B : Type 0} {s : List ℕ} {c : Cursor} {b0 b1 : List ℕ} {sh : A → Type 0} {sh2 : B → Type 0} {n p : ℕ} {t : Took A}
+    (f : A → Reader B) → Meets s c b0 b1 sh (no n p) t → Meets s c b0 b1 sh2 (no n p) (after (c .row) t f)
+meets-no f (refuses qs e) = refuses qs e
 
 -- what stands at a cursor, by the answer that was given
 pub peeked : (s : List ℕ) (i : ℕ) {p q : Peeked} → standsAt s i p → p ≡ q → standsAt s i q
@@ -152,8 +160,9 @@ module _ {A : Type 0} (m : Reader A) (s : List ℕ) (c : Cursor) (inList : InLis
   meets-same b ts a e q h = meets-as (ap (m (c .row)) e ∙ q ∙ ap (took a []) (sym e)) (meets-stay s c b sh a inList h)
 
   -- it refuses
-  pub meets-refused : (b0 b1 : List ℕ) (ts : Trees) (n p : ℕ) → stream s c ≡ ts → m (c .row) ts ≡ refuse n p → Meets s c b0 b1 sh (no n p) (m (c .row) (stream s c))
-  meets-refused b0 b1 ts n p e q = meets-as (ap (m (c .row)) e ∙ q) refuses
+  pub meets-refused : (b : List ℕ) (ts : Trees) (n p : ℕ) → stream s c ≡ ts → m (c .row) ts ≡ refuse n p
+      → Meets s c b b sh (no n p) (m (c .row) (stream s c))
+  meets-refused b ts n p e q = meets-as (ap (m (c .row)) e ∙ q) (refuses [] refl)
 
   module _ (t : Token) (l : LeafAt s (c .at) t) (d : Cursor) (b0 b1 : List ℕ) (r : ℕ) (e : d ≡ pastOf c t) (q : b1 ≡ set b0 (c .row) r) where
     pub leaf-taken : Moved s c d (r ∷ []) (stream s d) b0 b1
@@ -258,19 +267,18 @@ going-length k = ap length (k .moved .roles) ∙ simp length-sets
 -- ## Words
 
 module _ {B : Type 0} (f : Word → Reader B) {s : List ℕ} {c : Cursor} {b0 b1 b2 : List ℕ} {sh : B → Type 0} {x : Said} {t : Took Word} where
-  pub meets-word : (w : WordAt) → Meets s c b0 b1 (wordShown s (words.Found w)) (on (w .next)) t
-      → ((text : List ℕ) → TextOf s (w .token) text → Meets s (w .next) b1 b2 sh x (f (found text (w .row)) (w .next .row) (stream s (w .next))))
+  pub meets-word : (w : WordAt) → Meets s c b0 b1 (wordShown s c (words.Found w)) (on (w .next)) t
+      → ((text : List ℕ) → TextOf s (w .token) text → TokenIn s (wordRow (point s c)) (w .token) → Meets s (w .next) b1 b2 sh x (f (found text (w .row)) (w .next .row) (stream s (w .next))))
       → Meets s c b0 b2 sh x (after (c .row) t f)
-  meets-word w m k = meets-then f m (λ a h. subst⁻¹ (λ (y : Word). Meets s (w .next) b1 b2 sh x (f y (w .next .row) (stream s (w .next)))) (h .2) (k (h .0) (h .1)))
+  meets-word w m k = meets-then f m (λ a h. subst⁻¹ (λ (y : Word). Meets s (w .next) b1 b2 sh x (f y (w .next .row) (stream s (w .next)))) (h .2) (k (h .0) (h .1) (h .3)))
 
-  pub meets-missing : Meets s c b0 b1 (wordShown s words.Missing) (on c) t → Meets s c b1 b2 sh x (f missing (c .row) (stream s c)) → Meets s c b0 b2 sh x (after (c .row) t f)
+  pub meets-missing : Meets s c b0 b1 (wordShown s c words.Missing) (on c) t → Meets s c b1 b2 sh x (f missing (c .row) (stream s c)) → Meets s c b0 b2 sh x (after (c .row) t f)
   meets-missing m k = meets-then f m (λ a h. subst⁻¹ (λ (y : Word). Meets s c b1 b2 sh x (f y (c .row) (stream s c))) h k)
 
 -- a refusal at what stands at the cursor
-pub meets-wrong : {A : Type 0} {s : List ℕ} {c : Cursor} {b0 b1 : List ℕ} {sh : A → Type 0} (r : Refusal) (n : ℕ)
-    → (r .number ≡ n) × (r .place ≡ placeOf (c .row) (stream s c)) → Meets s c b0 b1 sh (refusal r)
-    (refuse n (placeOf (c .row) (stream s c)))
-meets-wrong {s = s} {c} {b0} {b1} {sh} r n e = meets-say (λ i. no (sym (e .0) i) (sym (e .1) i)) refuses
+pub meets-wrong : {A : Type 0} {s : List ℕ} {c : Cursor} {b : List ℕ} {sh : A → Type 0} (r : Refusal) (n : ℕ)
+    → (r .number ≡ n) × (r .place ≡ placeOf (c .row) (stream s c)) → Meets s c b b sh (refusal r) (refuse n (placeOf (c .row) (stream s c)))
+meets-wrong r n e = meets-say (λ i. no (sym (e .0) i) (sym (e .1) i)) (refuses [] refl)
 
 -- ## Readers in a row may be bracketed otherwise
 
@@ -301,10 +309,10 @@ lone-no-word t (leaf r (leaf q us)) e = refl
 lone-no-word t (leaf r (group d ts us)) e = refl
 
 -- what a word's reader answered
-pub say-word : {s : List ℕ} {c : Cursor} {b0 b1 : List ℕ} {t : Took Word} {p q : MaybeWord} → p ≡ q → Meets s c b0 b1 (wordShown s p) (wordSaid c p) t → Meets s c b0 b1 (wordShown s q) (wordSaid c q) t
-say-word {s} {c} {b0} {b1} {t} e m = subst (λ (p : MaybeWord). Meets s c b0 b1 (wordShown s p) (wordSaid c p) t) e m
+pub say-word : {s : List ℕ} {c : Cursor} {b0 b1 : List ℕ} {t : Took Word} {p q : MaybeWord} → p ≡ q → Meets s c b0 b1 (wordShown s c p) (wordSaid c p) t → Meets s c b0 b1 (wordShown s c q) (wordSaid c q) t
+say-word {s} {c} {b0} {b1} {t} e m = subst (λ (p : MaybeWord). Meets s c b0 b1 (wordShown s c p) (wordSaid c p) t) e m
 
-pub word-within : {s : List ℕ} {c : Cursor} {b0 b1 : List ℕ} {t : Took Word} (w : WordAt) → Meets s c b0 b1 (wordShown s (words.Found w)) (on (w .next)) t → w .token .end ≤ length s
+pub word-within : {s : List ℕ} {c : Cursor} {b0 b1 : List ℕ} {t : Took Word} (w : WordAt) → Meets s c b0 b1 (wordShown s c (words.Found w)) (on (w .next)) t → w .token .end ≤ length s
 word-within w (stands m h) = h .1 .within
 
 -- what a reader answered, by its own enum
@@ -317,12 +325,12 @@ pub meets-map : {A B : Type 0} {s : List ℕ} {c : Cursor} {b0 b1 : List ℕ} {s
     → ((a : A) → sh a → sh2 (f a)) → Meets s c b0 b1 sh x t → Meets s c b0 b1 sh2 x (after row t (λ a. pure (f a)))
 meets-map {s = s} {c} {b0} {b1} {sh2 = sh2} row f g (stands {d = d} {a = a} {rs = rs} {us = us} m h) =
     subst⁻¹ (λ (qs : List ℕ). Meets s c b0 b1 sh2 (on d) (took (f a) qs us)) (append-nil rs) (stands m (g a h))
-meets-map row f g refuses = refuses
+meets-map row f g (refuses qs e) = refuses qs e
 
 -- a run with what it holds
 pub meets-kept : {s : List ℕ} {c : Cursor} {b0 b1 : List ℕ} {sh : Ending → Type 0} {x : Said} {t : Took Ending} (ts : Trees) → Meets s c b0 b1 sh x t → Meets s c b0 b1 any x (kept ts t)
 meets-kept ts (stands m h) = stands m tt
-meets-kept ts refuses = refuses
+meets-kept ts (refuses qs e) = refuses qs e
 
 pub leaf-not-end : {r : Row} {us : Trees} → leaf r us ≡ end → ⊥
 leaf-not-end e = let z : _≡_ {A = ℕ} 0 1 = cc in omega arith
@@ -332,7 +340,7 @@ group-not-end e = let z : _≡_ {A = ℕ} 0 1 = cc in omega arith
 
 -- of a refusal nothing is shown
 pub meets-none : {A : Type 0} {s : List ℕ} {c : Cursor} {b0 b1 : List ℕ} {sh sh2 : A → Type 0} {n p : ℕ} {t : Took A} → Meets s c b0 b1 sh (no n p) t → Meets s c b0 b1 sh2 (no n p) t
-meets-none refuses = refuses
+meets-none (refuses qs e) = refuses qs e
 
 -- with the value, that it is read at c
 pub meets-inside : {A : Type 0} (m : Reader A) {s : List ℕ} {c : Cursor} {b0 b1 : List ℕ} {sh : A → Type 0} {x : Said} → InList s c
@@ -341,4 +349,4 @@ meets-inside {A} m {s} {c} {b0} {b1} {sh} i w = go refl w
   where
     go : {x : Said} {t : Took A} → m (c .row) (stream s c) ≡ t → Meets s c b0 b1 sh x t → Meets s c b0 b1 (λ (a : A). sh a × InsideAt m s c a) x t
     go e (stands {rs = rs} {us = us} mv h) = stands mv (h, record { inList = i; roles = rs; rest = us; gives = e })
-    go e refuses = refuses
+    go e (refuses qs q) = refuses qs q

@@ -5,13 +5,15 @@ use mathlib.Core.List.{List, [], _∷_, _++_}
 use Prim.Native.Nat.{ℕ, _+_, _≤_, _<_}
 use lib.ListN.{length}
 use lib.Seq.{slice, sets}
-use Rattle.token_list.specs.Stream.{Trees, head, at}
-use Rattle.token_list.specs.Contract.{InList, Skipped}
+use Rattle.token_list.specs.Stream.{Trees, head, at, rowStart}
+use Rattle.token_list.specs.Place.{OneRefusal}
+use Rattle.token_list.specs.Contract.{InList, TokenAt, Skipped}
 use Rattle.token_list.specs.declared.check.Cursor.{Cursor}
 use Rattle.token_list.specs.declared.check.Refusal.{Refusal}
 use Rattle.token_list.specs.declared.stream.Token.{Token}
-use Rattle.reading.specs.Took.{Took, took, refuse, Reader, onward, pure, _>>=_}
+use Rattle.reading.specs.Took.{Took, took, refuse, Reader, onward, pure, _>>=_, Point, beyond}
 use Rattle.reading.specs.Reading as reading
+use Rattle.reading.specs.Place.{wordRow, startAt, itemNameRow, genericsAt, bodyAt, parameterNameRow, variantNameRow, variantName, groupAt, literalRow, valueRow}
 use Rattle.parse.specs.declared.utils.Step.{Step}
 use Rattle.parse.specs.declared.utils.Step.the-variants as steps
 use Rattle.parse.specs.declared.utils.MaybeWord.{MaybeWord}
@@ -83,8 +85,11 @@ pub data Said : Type 0 where
 
 -- the answer is what the reading says; `shown` is what the answer tells of the value
 pub data Meets {A : Type 0} (s : List ℕ) (c : Cursor) (before after : List ℕ) (shown : A → Type 0) : Said → Took A → Type 0 where
-  stands : {d : Cursor} {a : A} {rs : List ℕ} {us : Trees} → Moved s c d rs us before after → shown a → Meets s c before after shown (on d) (took a rs us)
-  refuses : {n p : ℕ} → Meets s c before after shown (no n p) (refuse n p)
+  stands : {d : Cursor} {a : A} {rs : List ℕ} {us : Trees}
+      → Moved s c d rs us before after → shown a → Meets s c before after shown (on d) (took a rs us)
+  -- Which rows from the cursor's on were marked before the refusal is free, since `new` then fills every byte. The bytes before
+  -- the cursor's row, and past the rows that were marked, are as they were.
+  refuses : {n p : ℕ} (marked : List ℕ) → after ≡ sets before (c .row) marked → Meets s c before after shown (no n p) (refuse n p)
 
 -- nothing is told of the value
 abbrev pub any : {A : Type 0} → A → Type 0
@@ -96,6 +101,20 @@ refusal r = no (r .number) (r .place)
 -- the stream at a cursor
 abbrev pub stream : List ℕ → Cursor → Trees
 stream s c = at s (c .at) .here
+
+-- ## Where cursors and tokens stand
+
+abbrev pub point : List ℕ → Cursor → Point
+point s c = record { row = c .row; stream = stream s c }
+
+-- a cursor at this point, its offset where its row starts
+pub record CursorAt (s : List ℕ) (x : Point) (c : Cursor) : Type 0 where
+  pub inList : InList s c
+  pub here : point s c ≡ x
+
+-- a token in this row
+abbrev pub TokenIn : List ℕ → ℕ → Token → Type 0
+TokenIn s row t = TokenAt s (rowStart s row) t
 
 -- past a token's own row
 abbrev pub pastOf : Cursor → Token → Cursor
@@ -116,9 +135,10 @@ abbrev pub wordSaid : Cursor → MaybeWord → Said
 wordSaid c words.Missing = on c
 wordSaid c (words.Found w) = on (w .next)
 
-abbrev pub wordShown : List ℕ → MaybeWord → reading.Word → Type 0
-wordShown s words.Missing v = v ≡ reading.missing
-wordShown s (words.Found w) v = (t : List ℕ) × TextOf s (w .token) t × (v ≡ reading.found t (w .row))
+abbrev pub wordShown : List ℕ → Cursor → MaybeWord → reading.Word → Type 0
+wordShown s c words.Missing v = v ≡ reading.missing
+wordShown s c (words.Found w) v =
+    (t : List ℕ) × TextOf s (w .token) t × (v ≡ reading.found t (w .row)) × TokenIn s (wordRow (point s c)) (w .token)
 
 abbrev pub stopsOf : Stops → reading.Stops
 stopsOf st = record { comma = st .comma; angle = st .angle; group = st .group }
@@ -147,6 +167,7 @@ abbrev pub loneShown : List ℕ → Cursor → MaybeWord → Type 0
 loneShown s c words.Missing = reading.lone reading.isIdent (stream s c) ≡ false
 loneShown s c (words.Found w) =
     (reading.lone reading.isIdent (stream s c) ≡ true) × TextOf s (w .token) (reading.textOf (stream s c)) × (w .token .kind ≡ 105) × (w .row ≡ c .row) × Skipped s c (w .next)
+    × TokenIn s (c .row) (w .token)
 
 -- a part was taken between c and d, and the reading goes on there
 pub record Belonged {A : Type 0} (s : List ℕ) (c d : Cursor) (before after : List ℕ) (was is : Took A) : Type 0 where
@@ -162,7 +183,7 @@ Turned s c before after st r depth minus (turns.On d e m) =
 Turned s c before after st r depth minus (turns.Ended e) =
     (reading.runFrom (stopsOf st) r depth minus (c .row) (stream s c) ≡ took (endingOf e) [] (stream s c)) × (after ≡ before)
 Turned s c before after st r depth minus (turns.Refused f) =
-    reading.runFrom (stopsOf st) r depth minus (c .row) (stream s c) ≡ refuse (f .number) (f .place)
+    (reading.runFrom (stopsOf st) r depth minus (c .row) (stream s c) ≡ refuse (f .number) (f .place)) × (after ≡ before)
 
 -- ## The answers of attributes
 
@@ -170,7 +191,8 @@ Turned s c before after st r depth minus (turns.Refused f) =
 abbrev pub AttributeRead : List ℕ → Cursor → List ℕ → List ℕ → Marked → Type 0
 AttributeRead s c before after (marks.On d) = Belonged s c d before after (reading.attributes (c .row) (stream s c)) (reading.attributes (d .row) (stream s d))
 AttributeRead s c before after marks.Done = (reading.attributes (c .row) (stream s c) ≡ took tt [] (stream s c)) × (after ≡ before)
-AttributeRead s c before after (marks.Refused r) = reading.attributes (c .row) (stream s c) ≡ refuse (r .number) (r .place)
+AttributeRead s c before after (marks.Refused r) =
+    (reading.attributes (c .row) (stream s c) ≡ refuse (r .number) (r .place)) × (after ≡ before)
 
 -- ## The answers of data_type
 
@@ -194,9 +216,11 @@ abbrev pub headSaid : Headed → Said
 headSaid (heads.At h) = on (h .next)
 headSaid (heads.Refused r) = refusal r
 
-abbrev pub headShown : List ℕ → Headed → reading.Head → Type 0
-headShown s (heads.At h) v = (kindOf (h .kind) ≡ v .kind) × TextOf s (h .name) (v .name)
-headShown s (heads.Refused r) v = ⊥
+abbrev pub headShown : List ℕ → Cursor → Headed → reading.Head → Type 0
+headShown s c (heads.At h) v =
+    (kindOf (h .kind) ≡ v .kind) × TextOf s (h .name) (v .name)
+    × TokenIn s (wordRow (beyond (reading.word role.item-word >>= reading.kindOf) (point s c))) (h .name)
+headShown s c (heads.Refused r) v = ⊥
 
 -- ## The answers of generics
 
@@ -204,9 +228,9 @@ abbrev pub namedSaid : Named → Said
 namedSaid (nameds.At t d) = on d
 namedSaid (nameds.Refused r) = refusal r
 
-abbrev pub namedShown : List ℕ → Named → List ℕ → Type 0
-namedShown s (nameds.At t d) v = TextOf s t v
-namedShown s (nameds.Refused r) v = ⊥
+abbrev pub namedShown : List ℕ → Cursor → Named → List ℕ → Type 0
+namedShown s c (nameds.At t d) v = TextOf s t v × TokenIn s (c .row) t
+namedShown s c (nameds.Refused r) v = ⊥
 
 abbrev pub isLifetime : declaration.Parameter → Bool
 isLifetime (declaration.lifetime n b) = true
@@ -231,10 +255,12 @@ parameterSaid (parameters.One p) = on (p .next)
 parameterSaid (parameters.Done d) = on d
 parameterSaid (parameters.Refused r) = refusal r
 
-abbrev pub parameterShown : List ℕ → ParameterStep → reading.Maybe declaration.Parameter → Type 0
-parameterShown s (parameters.One p) v = (a : declaration.Parameter) × (v ≡ reading.one a) × ParameterOf s (p .lifetime) (p .name) a
-parameterShown s (parameters.Done d) v = v ≡ reading.done
-parameterShown s (parameters.Refused r) v = ⊥
+-- a parameter whose name stands in this row
+abbrev pub parameterShown : List ℕ → ℕ → ParameterStep → reading.Maybe declaration.Parameter → Type 0
+parameterShown s row (parameters.One p) v =
+    (a : declaration.Parameter) × (v ≡ reading.one a) × ParameterOf s (p .lifetime) (p .name) a × TokenIn s row (p .name)
+parameterShown s row (parameters.Done d) v = v ≡ reading.done
+parameterShown s row (parameters.Refused r) v = ⊥
 
 -- a lifetime or a const, after its `'` or `const`
 abbrev pub parameterMade : Bool → List ℕ → Trees → declaration.Parameter
@@ -285,10 +311,11 @@ fieldSaid (fieldSteps.One f) = on (f .next)
 fieldSaid (fieldSteps.Done d) = on d
 fieldSaid (fieldSteps.Refused r) = refusal r
 
-abbrev pub fieldShown : List ℕ → FieldStep → reading.Maybe declaration.Field → Type 0
-fieldShown s (fieldSteps.One f) v = (a : declaration.Field) × (v ≡ reading.one a) × TextOf s (f .name) (a .name)
-fieldShown s (fieldSteps.Done d) v = v ≡ reading.done
-fieldShown s (fieldSteps.Refused r) v = ⊥
+abbrev pub fieldShown : List ℕ → Cursor → FieldStep → reading.Maybe declaration.Field → Type 0
+fieldShown s c (fieldSteps.One f) v =
+    (a : declaration.Field) × (v ≡ reading.one a) × TextOf s (f .name) (a .name) × TokenIn s (startAt (point s c) .row) (f .name)
+fieldShown s c (fieldSteps.Done d) v = v ≡ reading.done
+fieldShown s c (fieldSteps.Refused r) v = ⊥
 
 abbrev pub typeSaid : TypeStep → Said
 typeSaid (typeSteps.One d) = on d
@@ -320,9 +347,15 @@ abbrev pub fieldsSaid : FieldsStep → Said
 fieldsSaid (fieldsSteps.At f d) = on d
 fieldsSaid (fieldsSteps.Refused r) = refusal r
 
-abbrev pub fieldsShown : List ℕ → FieldsStep → declaration.Fields → Type 0
-fieldsShown s (fieldsSteps.At f d) v = FieldsOf s f v
-fieldsShown s (fieldsSteps.Refused r) v = ⊥
+-- the cursor inside a group whose opening row is this one
+abbrev pub FieldsIn : ℕ → FieldsAt → Type 0
+FieldsIn row fieldsAts.Unit = Unit {0}
+FieldsIn row (fieldsAts.Named c) = c .row ≡ row + 1
+FieldsIn row (fieldsAts.Tuple c) = c .row ≡ row + 1
+
+abbrev pub fieldsShown : List ℕ → Cursor → FieldsStep → declaration.Fields → Type 0
+fieldsShown s c (fieldsSteps.At f d) v = FieldsOf s f v × FieldsIn (c .row) f
+fieldsShown s c (fieldsSteps.Refused r) v = ⊥
 
 abbrev pub ValueOf : List ℕ → ValueAt → declaration.Value → Type 0
 ValueOf s valueAts.Absent v = v ≡ declaration.absent
@@ -333,20 +366,24 @@ abbrev pub valueSaid : ValueStep → Said
 valueSaid (valueSteps.At v d) = on d
 valueSaid (valueSteps.Refused r) = refusal r
 
-abbrev pub valueShown : List ℕ → ValueStep → declaration.Value → Type 0
-valueShown s (valueSteps.At w d) v = ValueOf s w v
-valueShown s (valueSteps.Refused r) v = ⊥
+-- the value's literal in this row
+abbrev pub ValueIn : List ℕ → ℕ → ValueAt → Type 0
+ValueIn s row valueAts.Absent = Unit {0}
+ValueIn s row (valueAts.Literal t) = TokenIn s row t
+ValueIn s row (valueAts.Negative t) = TokenIn s row t
+
+-- a value whose literal stands in the row that `row` tells of it
+abbrev pub valueShown : List ℕ → (declaration.Value → ℕ) → ValueStep → declaration.Value → Type 0
+valueShown s row (valueSteps.At w d) v = ValueOf s w v × ValueIn s (row v) w
+valueShown s row (valueSteps.Refused r) v = ⊥
 
 abbrev pub nameSaid : NameStep → Said
 nameSaid (nameSteps.At t d) = on d
 nameSaid (nameSteps.Refused r) = refusal r
 
-abbrev pub nameShown : List ℕ → NameStep → List ℕ → Type 0
-nameShown s (nameSteps.At t d) v = TextOf s t v
-nameShown s (nameSteps.Refused r) v = ⊥
-
-abbrev pub variantName : Reader (List ℕ)
-variantName = reading.attributes >>= λ a. (reading.word role.variant-name >>= reading.named!)
+abbrev pub nameShown : List ℕ → Cursor → NameStep → List ℕ → Type 0
+nameShown s c (nameSteps.At t d) v = TextOf s t v × TokenIn s (variantNameRow (point s c)) t
+nameShown s c (nameSteps.Refused r) v = ⊥
 
 -- a variant's value, and the `,` that may follow
 abbrev pub variantValue : Reader declaration.Value
@@ -362,10 +399,17 @@ variantSaid (variantSteps.One p) = on (p .next)
 variantSaid (variantSteps.Done d) = on d
 variantSaid (variantSteps.Refused r) = refusal r
 
-abbrev pub variantShown : List ℕ → VariantStep → reading.Maybe declaration.Variant → Type 0
-variantShown s (variantSteps.One p) v = (a : declaration.Variant) × (v ≡ reading.one a) × VariantOf s p a
-variantShown s (variantSteps.Done d) v = v ≡ reading.done
-variantShown s (variantSteps.Refused r) v = ⊥
+-- where its parts stand, from the point x where it begins
+pub record VariantPlaces (s : List ℕ) (x : Point) (p : VariantAt) (a : declaration.Variant) : Type 0 where
+  pub name : TokenIn s (variantNameRow x) (p .name)
+  pub fields : FieldsIn (groupAt x .row) (p .fields)
+  pub value : ValueIn s (valueRow x (a .value)) (p .value)
+
+abbrev pub variantShown : List ℕ → Cursor → VariantStep → reading.Maybe declaration.Variant → Type 0
+variantShown s c (variantSteps.One p) v =
+    (a : declaration.Variant) × (v ≡ reading.one a) × VariantOf s p a × VariantPlaces s (point s c) p a
+variantShown s c (variantSteps.Done d) v = v ≡ reading.done
+variantShown s c (variantSteps.Refused r) v = ⊥
 
 abbrev pub bodyShown : Counted → declaration.Body → Type 0
 bodyShown (counts.At d n) v = n ≡ declaration.bodyCount v
@@ -394,9 +438,26 @@ abbrev pub itemSaid : ItemStep → Said
 itemSaid (itemSteps.At i) = on (i .next)
 itemSaid (itemSteps.Refused r) = refusal r
 
-abbrev pub itemShown : List ℕ → ItemStep → declaration.Declaration → Type 0
-itemShown s (itemSteps.At i) d = ItemOf s i d
-itemShown s (itemSteps.Refused r) d = ⊥
+-- where its parts stand, from the point x where it begins: its name, its generics, its body, and the first row after it
+pub record ItemPlaces (s : List ℕ) (x : Point) (i : ItemAt) : Type 0 where
+  pub name : TokenIn s (itemNameRow x) (i .name)
+  pub generics : CursorAt s (genericsAt x) (i .generics)
+  pub body : CursorAt s (bodyAt x) (i .body)
+  pub next : CursorAt s (beyond reading.item x) (i .next)
+
+abbrev pub itemShown : List ℕ → Cursor → ItemStep → declaration.Declaration → Type 0
+itemShown s c (itemSteps.At i) d = ItemOf s i d × ItemPlaces s (point s c) i
+itemShown s c (itemSteps.Refused r) d = ⊥
+
+-- the parts after the name, from c on
+pub record PartsPlaces (s : List ℕ) (c : Cursor) (t : Token) (i : ItemAt) : Type 0 where
+  pub name : i .name ≡ t
+  pub generics : i .generics ≡ c
+  pub body : CursorAt s (beyond reading.clause (beyond reading.generics (point s c))) (i .body)
+
+abbrev pub partsShown : List ℕ → Cursor → Token → ItemStep → declaration.Declaration → Type 0
+partsShown s c t (itemSteps.At i) d = ItemOf s i d × PartsPlaces s c t i
+partsShown s c t (itemSteps.Refused r) d = ⊥
 
 abbrev pub parsedBy : DataType → ItemAt → Parse
 parsedBy kinds.Struct i = parses.Struct i
@@ -410,16 +471,21 @@ accepted (parses.Struct i) = true
 accepted (parses.Enum i) = true
 accepted (parses.Refused r) = false
 
--- the answer, by its own enum: the declaration's kind, name and counts, or the refusal's number and place
+-- the first row of a list
+abbrev pub start : List ℕ → Point
+start s = record { row = 0; stream = at s 10 .here }
+
+-- the answer, by its own enum: the declaration's kind, name and counts and where its parts stand, or the refusal's number and place
 abbrev pub ParsedAs : List ℕ → Parse → answers.Answer → Type 0
-ParsedAs s (parses.Struct i) (answers.declared d rs) = (d .kind ≡ declaration.struct) × ItemOf s i d
-ParsedAs s (parses.Enum i) (answers.declared d rs) = (d .kind ≡ declaration.enum) × ItemOf s i d
+ParsedAs s (parses.Struct i) (answers.declared d rs) = (d .kind ≡ declaration.struct) × ItemOf s i d × ItemPlaces s (start s) i
+ParsedAs s (parses.Enum i) (answers.declared d rs) = (d .kind ≡ declaration.enum) × ItemOf s i d × ItemPlaces s (start s) i
 ParsedAs s (parses.Refused r) (answers.declared d rs) = ⊥
 ParsedAs s (parses.Struct i) (answers.refused n p) = ⊥
 ParsedAs s (parses.Enum i) (answers.refused n p) = ⊥
 ParsedAs s (parses.Refused r) (answers.refused n p) = (r .number ≡ n) × (r .place ≡ p)
 
--- the whole answer for a list s, and the whole role buffer
+-- the whole answer for a list s, what holds of a refusal, and the whole role buffer
 pub record Answered (s : List ℕ) (r : Parse) (before after : List ℕ) : Type 0 where
   pub answer : ParsedAs s r (answers.answer s (length before))
+  pub refusal : (n p : ℕ) → answers.answer s (length before) ≡ answers.refused n p → OneRefusal answers.readNumber s n p
   pub buffer : after ≡ answers.buffer (length before) (answers.answer s (length before))

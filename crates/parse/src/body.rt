@@ -25,13 +25,14 @@ use token_list::stream::skip;
 ghost use mathlib.Core.Path.{_≡_};
 ghost use mathlib.Core.Bool.{true};
 ghost use mathlib.Core.List.{List};
-ghost use Prim.Native.Nat.{ℕ, _≤_};
+ghost use Prim.Native.Nat.{ℕ, _+_, _≤_};
 ghost use lib.ListN.{length, set};
 ghost use lib.Seq.{slice};
 ghost use Rattle.token_list.specs.Stream.{at, follows};
 ghost use Rattle.token_list.specs.Contract.{InList, GroupAt, Skipped};
 ghost use Rattle.reading.specs.Reading.{every, fieldAfter, namedField, tupleType, tupleField, variantFields, negatable, negativeValue, discriminant, valueIf, variantHere, variant, structBody, enumBody};
-ghost use Rattle.parse.specs.Contract.{Meets, any, stream, stepSaid, fieldPrefix, fieldType, FieldNamed, fieldShown, fieldSaid, typeShown, typeSaid, countShown, countSaid, Inside, fieldsShown, fieldsSaid, valueShown, valueSaid, nameShown, nameSaid, variantName, variantValue, variantShown, variantSaid, bodyShown};
+ghost use Rattle.reading.specs.Place.{variantName, literalRow};
+ghost use Rattle.parse.specs.Contract.{Meets, any, stream, stepSaid, fieldPrefix, fieldType, FieldNamed, fieldShown, fieldSaid, typeShown, typeSaid, countShown, countSaid, Inside, fieldsShown, fieldsSaid, valueShown, valueSaid, nameShown, nameSaid, variantValue, variantShown, variantSaid, bodyShown};
 
 // Where a named field's name stands, and the cursor after the field.
 pub struct FieldAt {
@@ -142,7 +143,7 @@ fn field_after(s: &[u8], c: Cursor, roles: &mut [u8]) -> Step
 // One named field, or the end.
 pub fn named_field(s: &[u8], c: Cursor, roles: &mut [u8]) -> FieldStep
     requires { ⌜ InList (now s) c ⌝ }
-    ensures { λ r. ⌜ Meets (now (s .entry)) c (now (roles .entry)) (now (roles .exit)) (fieldShown (now (s .entry)) r) (fieldSaid r) (namedField (c .row) (stream (now (s .entry)) c)) ⌝ }
+    ensures { λ r. ⌜ Meets (now (s .entry)) c (now (roles .entry)) (now (roles .exit)) (fieldShown (now (s .entry)) c r) (fieldSaid r) (namedField (c .row) (stream (now (s .entry)) c)) ⌝ }
 {
     match field_start(s, c, roles) {
         Step::Refused(r) => FieldStep::Refused(r),
@@ -306,7 +307,7 @@ fn variants_group(s: &[u8], c: Cursor, t: Token, roles: &mut [u8]) -> Counted
 // A variant's group, where one stands.
 fn variant_fields(s: &[u8], c: Cursor, roles: &mut [u8]) -> FieldsStep
     requires { ⌜ InList (now s) c ⌝ }
-    ensures { λ r. ⌜ Meets (now (s .entry)) c (now (roles .entry)) (now (roles .exit)) (fieldsShown (now (s .entry)) r) (fieldsSaid r) (variantFields (c .row) (stream (now (s .entry)) c)) ⌝ }
+    ensures { λ r. ⌜ Meets (now (s .entry)) c (now (roles .entry)) (now (roles .exit)) (fieldsShown (now (s .entry)) c r) (fieldsSaid r) (variantFields (c .row) (stream (now (s .entry)) c)) ⌝ }
 {
     let row = c.row;
     match peek(s, c) {
@@ -363,7 +364,7 @@ fn is_negatable(s: &[u8], start: usize, end: usize) -> bool
 // The literal after a `-`.
 fn negative_value(s: &[u8], c: Cursor, roles: &mut [u8]) -> ValueStep
     requires { ⌜ InList (now s) c ⌝ }
-    ensures { λ r. ⌜ Meets (now (s .entry)) c (now (roles .entry)) (now (roles .exit)) (valueShown (now (s .entry)) r) (valueSaid r) (negativeValue (c .row) (stream (now (s .entry)) c)) ⌝ }
+    ensures { λ r. ⌜ Meets (now (s .entry)) c (now (roles .entry)) (now (roles .exit)) (valueShown (now (s .entry)) (λ v. c .row) r) (valueSaid r) (negativeValue (c .row) (stream (now (s .entry)) c)) ⌝ }
 {
     let row = c.row;
     match peek(s, c) {
@@ -399,7 +400,7 @@ fn negative_value(s: &[u8], c: Cursor, roles: &mut [u8]) -> ValueStep
 // What follows a variant's `=`.
 fn discriminant(s: &[u8], c: Cursor, roles: &mut [u8]) -> ValueStep
     requires { ⌜ InList (now s) c ⌝ }
-    ensures { λ r. ⌜ Meets (now (s .entry)) c (now (roles .entry)) (now (roles .exit)) (valueShown (now (s .entry)) r) (valueSaid r) (discriminant (c .row) (stream (now (s .entry)) c)) ⌝ }
+    ensures { λ r. ⌜ Meets (now (s .entry)) c (now (roles .entry)) (now (roles .exit)) (valueShown (now (s .entry)) (literalRow (c .row)) r) (valueSaid r) (discriminant (c .row) (stream (now (s .entry)) c)) ⌝ }
 {
     let row = c.row;
     match peek(s, c) {
@@ -431,7 +432,7 @@ fn discriminant(s: &[u8], c: Cursor, roles: &mut [u8]) -> ValueStep
 // A variant's value, where one stands; else a `,` or the end must follow.
 fn value_if(s: &[u8], c: Cursor, roles: &mut [u8]) -> ValueStep
     requires { ⌜ InList (now s) c ⌝ }
-    ensures { λ r. ⌜ Meets (now (s .entry)) c (now (roles .entry)) (now (roles .exit)) (valueShown (now (s .entry)) r) (valueSaid r) (valueIf (c .row) (stream (now (s .entry)) c)) ⌝ }
+    ensures { λ r. ⌜ Meets (now (s .entry)) c (now (roles .entry)) (now (roles .exit)) (valueShown (now (s .entry)) (literalRow (c .row + 1)) r) (valueSaid r) (valueIf (c .row) (stream (now (s .entry)) c)) ⌝ }
 {
     let row = c.row;
     match peek(s, c) {
@@ -464,7 +465,7 @@ pub enum NameStep {
 // A variant's attributes and name.
 fn variant_name(s: &[u8], c: Cursor, roles: &mut [u8]) -> NameStep
     requires { ⌜ InList (now s) c ⌝ }
-    ensures { λ r. ⌜ Meets (now (s .entry)) c (now (roles .entry)) (now (roles .exit)) (nameShown (now (s .entry)) r) (nameSaid r) (variantName (c .row) (stream (now (s .entry)) c)) ⌝ }
+    ensures { λ r. ⌜ Meets (now (s .entry)) c (now (roles .entry)) (now (roles .exit)) (nameShown (now (s .entry)) c r) (nameSaid r) (variantName (c .row) (stream (now (s .entry)) c)) ⌝ }
 {
     match attributes::try_take(s, c, roles) {
         Step::Refused(r) => NameStep::Refused(r),
@@ -482,7 +483,7 @@ fn variant_name(s: &[u8], c: Cursor, roles: &mut [u8]) -> NameStep
 // A variant's value and the `,` that may follow.
 fn variant_value(s: &[u8], c: Cursor, roles: &mut [u8]) -> ValueStep
     requires { ⌜ InList (now s) c ⌝ }
-    ensures { λ r. ⌜ Meets (now (s .entry)) c (now (roles .entry)) (now (roles .exit)) (valueShown (now (s .entry)) r) (valueSaid r) (variantValue (c .row) (stream (now (s .entry)) c)) ⌝ }
+    ensures { λ r. ⌜ Meets (now (s .entry)) c (now (roles .entry)) (now (roles .exit)) (valueShown (now (s .entry)) (literalRow (c .row + 1)) r) (valueSaid r) (variantValue (c .row) (stream (now (s .entry)) c)) ⌝ }
 {
     match value_if(s, c, roles) {
         ValueStep::Refused(r) => ValueStep::Refused(r),
@@ -496,7 +497,7 @@ fn variant_value(s: &[u8], c: Cursor, roles: &mut [u8]) -> ValueStep
 
 fn variant_here(s: &[u8], c: Cursor, roles: &mut [u8]) -> VariantStep
     requires { ⌜ InList (now s) c ⌝ }
-    ensures { λ r. ⌜ Meets (now (s .entry)) c (now (roles .entry)) (now (roles .exit)) (variantShown (now (s .entry)) r) (variantSaid r) (variantHere (c .row) (stream (now (s .entry)) c)) ⌝ }
+    ensures { λ r. ⌜ Meets (now (s .entry)) c (now (roles .entry)) (now (roles .exit)) (variantShown (now (s .entry)) c r) (variantSaid r) (variantHere (c .row) (stream (now (s .entry)) c)) ⌝ }
 {
     match variant_name(s, c, roles) {
         NameStep::Refused(r) => VariantStep::Refused(r),
@@ -518,7 +519,7 @@ fn variant_here(s: &[u8], c: Cursor, roles: &mut [u8]) -> VariantStep
 // One variant, or the end.
 pub fn variant(s: &[u8], c: Cursor, roles: &mut [u8]) -> VariantStep
     requires { ⌜ InList (now s) c ⌝ }
-    ensures { λ r. ⌜ Meets (now (s .entry)) c (now (roles .entry)) (now (roles .exit)) (variantShown (now (s .entry)) r) (variantSaid r) (variant (c .row) (stream (now (s .entry)) c)) ⌝ }
+    ensures { λ r. ⌜ Meets (now (s .entry)) c (now (roles .entry)) (now (roles .exit)) (variantShown (now (s .entry)) c r) (variantSaid r) (variant (c .row) (stream (now (s .entry)) c)) ⌝ }
 {
     let l = look(s, c);
     if l.kind == 0 {

@@ -62,7 +62,7 @@ fn item_word(s: &[u8], c: Cursor, roles: &mut [u8]) -> Worded
 // virtue's DataType::take
 pub fn take(s: &[u8], c: Cursor, roles: &mut [u8]) -> Headed
     requires { ⌜ InList (now s) c ⌝ }
-    ensures { λ r. ⌜ Meets (now (s .entry)) c (now (roles .entry)) (now (roles .exit)) (headShown (now (s .entry)) r) (headSaid r) (dataType (c .row) (stream (now (s .entry)) c)) ⌝ }
+    ensures { λ r. ⌜ Meets (now (s .entry)) c (now (roles .entry)) (now (roles .exit)) (headShown (now (s .entry)) c r) (headSaid r) (dataType (c .row) (stream (now (s .entry)) c)) ⌝ }
 {
     match item_word(s, c, roles) {
         Worded::Refused(r) => Headed::Refused(r),

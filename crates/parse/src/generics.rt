@@ -19,7 +19,8 @@ ghost use Rattle.token_list.specs.Contract.{InList};
 ghost use Rattle.reading.specs.Role.{bound};
 ghost use Rattle.reading.specs.Declaration.{Parameter};
 ghost use Rattle.reading.specs.Reading.{run, parameterStops, parameterName, marked-run, typeAfter, comma, parameter, every, generics, clause};
-ghost use Rattle.parse.specs.Contract.{Meets, any, stream, TextOf, stepSaid, namedShown, namedSaid, ParameterOf, TypeNamed, parameterShown, parameterSaid, namedParameter, afterQuote, afterConst, afterName, countShown, countSaid, genericsShown};
+ghost use Rattle.reading.specs.Place.{parameterNameRow};
+ghost use Rattle.parse.specs.Contract.{Meets, any, stream, point, TokenIn, TextOf, stepSaid, namedShown, namedSaid, ParameterOf, TypeNamed, parameterShown, parameterSaid, namedParameter, afterQuote, afterConst, afterName, countShown, countSaid, genericsShown};
 
 // Where a parameter's name stands, and the cursor after the parameter.
 pub struct ParameterAt {
@@ -49,7 +50,7 @@ pub enum Counted {
 // The ident that must stand at c: else `number` there, or at `or` where nothing stands.
 fn parameter_name(s: &[u8], c: Cursor, roles: &mut [u8], number: u8, or: usize) -> Named
     requires { ⌜ InList (now s) c ⌝ }
-    ensures { λ r. ⌜ Meets (now (s .entry)) c (now (roles .entry)) (now (roles .exit)) (namedShown (now (s .entry)) r) (namedSaid r) (parameterName number or (c .row) (stream (now (s .entry)) c)) ⌝ }
+    ensures { λ r. ⌜ Meets (now (s .entry)) c (now (roles .entry)) (now (roles .exit)) (namedShown (now (s .entry)) c r) (namedSaid r) (parameterName number or (c .row) (stream (now (s .entry)) c)) ⌝ }
 {
     let row = c.row;
     match peek(s, c) {
@@ -102,7 +103,7 @@ fn marked_run(s: &[u8], c: Cursor, roles: &mut [u8], punct: u8) -> Step
 // A parameter is finished by the `,` that may follow.
 fn finished(s: &[u8], c: Cursor, roles: &mut [u8], lifetime: bool, name: Token) -> ParameterStep
     requires { ⌜ InList (now s) c ⌝ }
-    ensures { λ r. ⌜ ((a : Parameter) → ParameterOf (now (s .entry)) lifetime name a → Meets (now (s .entry)) c (now (roles .entry)) (now (roles .exit)) (parameterShown (now (s .entry)) r) (parameterSaid r) (comma a (c .row) (stream (now (s .entry)) c))) ⌝ }
+    ensures { λ r. ⌜ ((a : Parameter) (row : ℕ) → ParameterOf (now (s .entry)) lifetime name a → TokenIn (now (s .entry)) row name → Meets (now (s .entry)) c (now (roles .entry)) (now (roles .exit)) (parameterShown (now (s .entry)) row r) (parameterSaid r) (comma a (c .row) (stream (now (s .entry)) c))) ⌝ }
 {
     let p = consume_punct_if(s, c, roles, b',', 10);
     let next = p.next;
@@ -123,7 +124,7 @@ fn named_parameter(
     lifetime: bool,
 ) -> ParameterStep
     requires { ⌜ InList (now s) c ⌝ }
-    ensures { λ r. ⌜ Meets (now (s .entry)) c (now (roles .entry)) (now (roles .exit)) (parameterShown (now (s .entry)) r) (parameterSaid r) (namedParameter number or lifetime (c .row) (stream (now (s .entry)) c)) ⌝ }
+    ensures { λ r. ⌜ Meets (now (s .entry)) c (now (roles .entry)) (now (roles .exit)) (parameterShown (now (s .entry)) (c .row) r) (parameterSaid r) (namedParameter number or lifetime (c .row) (stream (now (s .entry)) c)) ⌝ }
 {
     match parameter_name(s, c, roles, number, or) {
         Named::Refused(r) => ParameterStep::Refused(r),
@@ -137,7 +138,7 @@ fn named_parameter(
 // virtue's Lifetime::take, after the `'` in the row `quote`.
 fn lifetime(s: &[u8], c: Cursor, roles: &mut [u8], quote: usize) -> ParameterStep
     requires { ⌜ InList (now s) c ⌝ }
-    ensures { λ r. ⌜ Meets (now (s .entry)) c (now (roles .entry)) (now (roles .exit)) (parameterShown (now (s .entry)) r) (parameterSaid r) (afterQuote quote (c .row) (stream (now (s .entry)) c)) ⌝ }
+    ensures { λ r. ⌜ Meets (now (s .entry)) c (now (roles .entry)) (now (roles .exit)) (parameterShown (now (s .entry)) (c .row) r) (parameterSaid r) (afterQuote quote (c .row) (stream (now (s .entry)) c)) ⌝ }
 {
     named_parameter(s, c, roles, 24, quote, true)
 }
@@ -145,7 +146,7 @@ fn lifetime(s: &[u8], c: Cursor, roles: &mut [u8], quote: usize) -> ParameterSte
 // virtue's ConstGeneric::take, after `const`.
 fn const_generic(s: &[u8], c: Cursor, roles: &mut [u8]) -> ParameterStep
     requires { ⌜ InList (now s) c ⌝ }
-    ensures { λ r. ⌜ Meets (now (s .entry)) c (now (roles .entry)) (now (roles .exit)) (parameterShown (now (s .entry)) r) (parameterSaid r) (afterConst (c .row) (stream (now (s .entry)) c)) ⌝ }
+    ensures { λ r. ⌜ Meets (now (s .entry)) c (now (roles .entry)) (now (roles .exit)) (parameterShown (now (s .entry)) (c .row) r) (parameterSaid r) (afterConst (c .row) (stream (now (s .entry)) c)) ⌝ }
 {
     named_parameter(s, c, roles, 27, END, false)
 }
@@ -166,7 +167,7 @@ fn type_runs(s: &[u8], c: Cursor, roles: &mut [u8]) -> Step
 // virtue's SimpleGeneric::take, after its name.
 fn simple_generic(s: &[u8], c: Cursor, roles: &mut [u8], name: Token) -> ParameterStep
     requires { ⌜ InList (now s) c ⌝ }
-    ensures { λ r. ⌜ ((n : List ℕ) → TextOf (now (s .entry)) name n → Meets (now (s .entry)) c (now (roles .entry)) (now (roles .exit)) (parameterShown (now (s .entry)) r) (parameterSaid r) (afterName n (c .row) (stream (now (s .entry)) c))) ⌝ }
+    ensures { λ r. ⌜ ((n : List ℕ) (row : ℕ) → TextOf (now (s .entry)) name n → TokenIn (now (s .entry)) row name → Meets (now (s .entry)) c (now (roles .entry)) (now (roles .exit)) (parameterShown (now (s .entry)) row r) (parameterSaid r) (afterName n (c .row) (stream (now (s .entry)) c))) ⌝ }
 {
     match type_runs(s, c, roles) {
         Step::Refused(r) => ParameterStep::Refused(r),
@@ -177,7 +178,7 @@ fn simple_generic(s: &[u8], c: Cursor, roles: &mut [u8], name: Token) -> Paramet
 // One parameter, or the closing `>`; `angle` is the row of the `<`.
 pub fn parameter(s: &[u8], c: Cursor, roles: &mut [u8], angle: usize) -> ParameterStep
     requires { ⌜ InList (now s) c ⌝ }
-    ensures { λ r. ⌜ Meets (now (s .entry)) c (now (roles .entry)) (now (roles .exit)) (parameterShown (now (s .entry)) r) (parameterSaid r) (parameter angle (c .row) (stream (now (s .entry)) c)) ⌝ }
+    ensures { λ r. ⌜ Meets (now (s .entry)) c (now (roles .entry)) (now (roles .exit)) (parameterShown (now (s .entry)) (parameterNameRow (point (now (s .entry)) c)) r) (parameterSaid r) (parameter angle (c .row) (stream (now (s .entry)) c)) ⌝ }
 {
     let row = c.row;
     match peek(s, c) {

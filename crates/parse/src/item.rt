@@ -25,7 +25,7 @@ ghost use Rattle.token_list.specs.Check as list;
 ghost use Rattle.token_list.specs.Contract.{InList};
 ghost use Rattle.reading.specs.Reading.{item, bodyOf};
 ghost use Rattle.reading.specs.Promise.{SingleAssignment};
-ghost use Rattle.parse.specs.Contract.{Meets, stream, TextOf, bodyShown, countSaid, partsAfter, kindOf, itemShown, itemSaid, parsedOf, Answered, accepted};
+ghost use Rattle.parse.specs.Contract.{Meets, stream, TextOf, bodyShown, countSaid, partsAfter, kindOf, partsShown, itemShown, itemSaid, parsedOf, Answered, accepted};
 
 // What was read: the kind, the name's token, how many parameters and fields or variants there are, the
 // cursors at which its generics and its body are read, and where it ended.
@@ -64,7 +64,7 @@ fn body(s: &[u8], c: Cursor, roles: &mut [u8], kind: DataType) -> Counted
 // The parts after the name.
 fn parts(s: &[u8], c: Cursor, roles: &mut [u8], kind: DataType, name: Token) -> ItemStep
     requires { ⌜ InList (now s) c ⌝ }
-    ensures { λ r. ⌜ ((n : List ℕ) → TextOf (now (s .entry)) name n → Meets (now (s .entry)) c (now (roles .entry)) (now (roles .exit)) (itemShown (now (s .entry)) r) (itemSaid r) (partsAfter (kindOf kind) n (c .row) (stream (now (s .entry)) c))) ⌝ }
+    ensures { λ r. ⌜ ((n : List ℕ) → TextOf (now (s .entry)) name n → Meets (now (s .entry)) c (now (roles .entry)) (now (roles .exit)) (partsShown (now (s .entry)) c name r) (itemSaid r) (partsAfter (kindOf kind) n (c .row) (stream (now (s .entry)) c))) ⌝ }
 {
     match generics::try_take(s, c, roles) {
         Counted::Refused(r) => ItemStep::Refused(r),
@@ -89,7 +89,7 @@ fn parts(s: &[u8], c: Cursor, roles: &mut [u8], kind: DataType, name: Token) -> 
 // One item from c on; it says where its parts stand and where it ended.
 pub fn item(s: &[u8], c: Cursor, roles: &mut [u8]) -> ItemStep
     requires { ⌜ InList (now s) c ⌝ }
-    ensures { λ r. ⌜ Meets (now (s .entry)) c (now (roles .entry)) (now (roles .exit)) (itemShown (now (s .entry)) r) (itemSaid r) (item (c .row) (stream (now (s .entry)) c)) ⌝ }
+    ensures { λ r. ⌜ Meets (now (s .entry)) c (now (roles .entry)) (now (roles .exit)) (itemShown (now (s .entry)) c r) (itemSaid r) (item (c .row) (stream (now (s .entry)) c)) ⌝ }
 {
     match attributes::try_take(s, c, roles) {
         Step::Refused(r) => ItemStep::Refused(r),

@@ -230,7 +230,7 @@ pub fn lone_ident(s: &[u8], inside: Cursor) -> MaybeWord
 
 pub fn consume_ident(s: &[u8], c: Cursor, roles: &mut [u8], role: u8) -> MaybeWord
     requires { ⌜ InList (now s) c ⌝ }
-    ensures { λ r. ⌜ Meets (now (s .entry)) c (now (roles .entry)) (now (roles .exit)) (wordShown (now (s .entry)) r) (wordSaid c r) (word role (c .row) (stream (now (s .entry)) c)) ⌝ }
+    ensures { λ r. ⌜ Meets (now (s .entry)) c (now (roles .entry)) (now (roles .exit)) (wordShown (now (s .entry)) c r) (wordSaid c r) (word role (c .row) (stream (now (s .entry)) c)) ⌝ }
 {
     let row = c.row;
     match peek(s, c) {

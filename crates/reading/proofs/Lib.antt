@@ -1,6 +1,7 @@
 -- Laws on the reading and the grammar, which proofs above cite.
 pub mod Rounds
 pub mod Conserved
+pub mod Places
 pub mod SoundTokens
 pub mod GrammarSound
 pub mod CompleteTokens

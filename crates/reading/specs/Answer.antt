@@ -1,9 +1,10 @@
 -- The whole answer of the reader of declarations, and the whole role buffer (document 01, "What the reader hands back").
-use mathlib.Core.Bool.{Bool, true, false, cond}
+use mathlib.Core.Bool.{Bool, true, false, cond, _||_}
 use mathlib.Core.List.{List, [], _∷_, _++_}
 use Prim.Native.Nat.{ℕ, _-_}
 use lib.Dec.{ltb}
 use lib.ListN.{length, replicate}
+use Rattle.token_list.specs.Text.{between}
 use Rattle.token_list.specs.Check as list
 use Rattle.token_list.specs.Stream.{Trees, size, at}
 use Rattle.reading.specs.Role as role
@@ -35,6 +36,10 @@ answer s n = checkedAnswer s n (list.check s)
 abbrev pub buffer : ℕ → Answer → List ℕ
 buffer n (declared d rs) = rs ++ replicate (n - length rs) 255
 buffer n (refused m p) = replicate n 255
+
+-- the numbers of refusals where a declaration is read: those of the list check, 8, and 11 to 27
+abbrev pub readNumber : ℕ → Bool
+readNumber n = between 1 8 n || between 11 27 n
 
 -- whether the reader of declarations refuses nothing
 abbrev pub accepts : Answer → Bool

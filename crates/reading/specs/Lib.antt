@@ -6,6 +6,7 @@ pub mod Declaration
 pub mod Took
 pub mod Grammar
 pub mod Reading
+pub mod Place
 pub mod Answer
 pub mod Promise
 pub mod Examples

@@ -39,3 +39,17 @@ placeOf row (group d ts us) = row
 
 abbrev pub wrong : {A : Type 0} → ℕ → Reader A
 wrong n row ts = refuse n (placeOf row ts)
+
+-- a point of a stream: the number of its first row, and what is left
+pub record Point : Type 0 where
+  pub row : ℕ
+  pub stream : Trees
+
+-- past what was taken at a point; at that point where it was refused
+abbrev pub pastTaken : {A : Type 0} → Point → Took A → Point
+pastTaken x (took a rs us) = record { row = x .row + length rs; stream = us }
+pastTaken x (refuse n p) = x
+
+-- past what a reader takes at a point
+abbrev pub beyond : {A : Type 0} → Reader A → Point → Point
+beyond m x = pastTaken x (m (x .row) (x .stream))

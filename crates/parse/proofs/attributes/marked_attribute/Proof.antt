@@ -66,13 +66,15 @@ returns-2 c =
     let if1 = c .before .before .before .before .before .before .before .if1 in
     let past = c .before .before .before .before .before .before .past in
     let peek2 = c .before .before .before .before .before .peek2 in
-    let q = c .before .before .before .q in
-    marks.mark-other _ _ pre _ (meeting.peeked _ _ (peek .ensures) (t .given .1))
-    (meeting.punct-of _ _ _ _ ((meeting.peeked _ _ (peek .ensures) (t .given .1)) .token) ∙ sym
-    (is-punct .ensures) ∙ not-false _ (if1 .left))
-    _ (past .ensures) _ (meeting.peeked _ _ (peek2 .ensures) (q .given .1))
-    (meeting.punct-of _ _ _ _ ((meeting.peeked _ _ (peek2 .ensures) (q .given .1)) .token) ∙ sym
-    ((c .before .is-punct2) .ensures) ∙ not-true _ ((c .if2) .taken))
+    let q = c .before .before .before .q in (
+      marks.mark-other _ _ pre _ (meeting.peeked _ _ (peek .ensures) (t .given .1))
+          (meeting.punct-of _ _ _ _ ((meeting.peeked _ _ (peek .ensures) (t .given .1)) .token) ∙ sym
+          (is-punct .ensures) ∙ not-false _ (if1 .left))
+          _ (past .ensures) _ (meeting.peeked _ _ (peek2 .ensures) (q .given .1))
+          (meeting.punct-of _ _ _ _ ((meeting.peeked _ _ (peek2 .ensures) (q .given .1)) .token) ∙ sym
+          ((c .before .is-punct2) .ensures) ∙ not-true _ ((c .if2) .taken)),
+      refl,
+    )
 
 mark-requires : tie.Need-mark-requires
 mark-requires c κs = search needs
@@ -88,13 +90,15 @@ returns-3 c =
     let is-punct = c .before .before .before .before .before .before .before .before .is-punct in
     let if1 = c .before .before .before .before .before .before .before .if1 in
     let past = c .before .before .before .before .before .before .past in
-    let peek2 = c .before .before .before .before .before .peek2 in
-    marks.mark-wrong _ _ pre _ (meeting.peeked _ _ (peek .ensures) (t .given .1))
-    (meeting.punct-of _ _ _ _ ((meeting.peeked _ _ (peek .ensures) (t .given .1)) .token) ∙ sym
-    (is-punct .ensures) ∙ not-false _ (if1 .left))
-    _ (past .ensures) _
-    (meeting.past-in-of _ _ _ _ (past .ensures) pre ((meeting.peeked _ _ (peek .ensures) (t .given .1)) .token))
-    (meeting.peeked _ _ (peek2 .ensures) ((c .before .before .before .g) .given .1)) ((c .if3) .taken)
+    let peek2 = c .before .before .before .before .before .peek2 in (
+      marks.mark-wrong _ _ pre _ (meeting.peeked _ _ (peek .ensures) (t .given .1))
+          (meeting.punct-of _ _ _ _ ((meeting.peeked _ _ (peek .ensures) (t .given .1)) .token) ∙ sym
+          (is-punct .ensures) ∙ not-false _ (if1 .left))
+          _ (past .ensures) _
+          (meeting.past-in-of _ _ _ _ (past .ensures) pre ((meeting.peeked _ _ (peek .ensures) (t .given .1)) .token))
+          (meeting.peeked _ _ (peek2 .ensures) ((c .before .before .before .g) .given .1)) ((c .if3) .taken),
+      refl,
+    )
 
 mark-requires-2 : tie.Need-mark-requires-2
 mark-requires-2 c κs = search needs
@@ -130,12 +134,14 @@ returns-6 c =
     let peek = c .before .before .before .before .before .before .before .before .before .peek in
     let t = c .before .before .before .before .before .before .before .t in
     let is-punct = c .before .before .before .before .before .is-punct in
-    let if1 = c .before .before .before .before .if1 in
-    marks.mark-end _ _ pre _ (meeting.peeked _ _ (peek .ensures) (t .given .1))
-    (meeting.punct-of _ _ _ _ ((meeting.peeked _ _ (peek .ensures) (t .given .1)) .token) ∙ sym
-    (is-punct .ensures) ∙ not-false _ (if1 .left))
-    _ ((c .before .before .before .past) .ensures)
-    (meeting.peeked _ _ ((c .before .before .peek2) .ensures) ((c .enum-told3) .given .1))
+    let if1 = c .before .before .before .before .if1 in (
+      marks.mark-end _ _ pre _ (meeting.peeked _ _ (peek .ensures) (t .given .1))
+          (meeting.punct-of _ _ _ _ ((meeting.peeked _ _ (peek .ensures) (t .given .1)) .token) ∙ sym
+          (is-punct .ensures) ∙ not-false _ (if1 .left))
+          _ ((c .before .before .before .past) .ensures)
+          (meeting.peeked _ _ ((c .before .before .peek2) .ensures) ((c .enum-told3) .given .1)),
+      refl,
+    )
 
 same-length : tie.Need-same-length
 same-length c = (c .before .before .mark) .kept .0

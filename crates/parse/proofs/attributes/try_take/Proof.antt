@@ -3,7 +3,7 @@ use Rattle.parse.specs.declared.attributes.Marked.{Marked}
 use Rattle.token_list.specs.declared.check.Cursor.{Cursor}
 use lib.ListN.{length}
 use Prim.Native.Nat.{ℕ, _-_}
-use mathlib.Core.List.{List}
+use mathlib.Core.List.{List, []}
 use Rattle.parse.proofs.Meeting as meeting
 use Rattle.parse.specs.Contract as contract
 use Rattle.reading.specs.Reading as reading
@@ -74,8 +74,9 @@ returns-2 : tie.Need-returns-2 Inv-loop μ-loop
 returns-2 c =
     let loop = c .before .before .before .before .before .before .before .loop in
     let attribute = c .before .before .before .before .before .attribute in
+    let b = told _ _ _ _ (attribute .ensures) ((c .before .r) .given .1) in
     meeting.going-meets (loop .inv)
-    (meeting.meets-as (told _ _ _ _ (attribute .ensures) ((c .before .r) .given .1)) contract.refuses)
+    (meeting.meets-as (b .0) (contract.refuses [] (b .1)))
 
 pub try-take-spec : {M : Type 1} → statement M
 try-take-spec =

@@ -1,9 +1,11 @@
+use Rattle.token_list.specs.declared.check.Cursor.{Cursor}
+use Rattle.parse.proofs.Places as places
 use Rattle.parse.proofs.Meeting as meeting
 use Rattle.parse.specs.Contract as contract
 use Rattle.reading.specs.Reading as reading
 use Rattle.token_list.proofs.Texts.{chosen, passed-over}
 use borrow.Author.Tests.{eq-eqb, ne-eqb}
-use mathlib.Core.Path.{refl, sym, _∙_}
+use mathlib.Core.Path.{refl, sym, _∙_, ap}
 use borrow.Author.Needs.{needs}
 use Rattle.parse.proofs.body.discriminant.Statement.{statement}
 use Rattle.parse.proofs.body.discriminant.Tie as tie
@@ -39,10 +41,13 @@ returns c =
     let take-token = c .before .before .take-token in
     meeting.meets-leaf reading.discriminant _ _ pre _ _ (meeting.peeked _ _ (peek .ensures) (t .given .1)) _ _ _ _
     (take-token .ensures .0) (take-token .ensures .1) _ (chosen _ _ _ (eq-eqb _ _ (if1 .taken))) (
-      _,
-      record
-          { bytes = refl; within = meeting.token-within _ _ _ ((meeting.peeked _ _ (peek .ensures) (t .given .1)) .token) },
-      refl,
+      (
+        _,
+        record
+            { bytes = refl; within = meeting.token-within _ _ _ ((meeting.peeked _ _ (peek .ensures) (t .given .1)) .token) },
+        refl,
+      ),
+      places.token-in _ _ _ pre ((meeting.peeked _ _ (peek .ensures) (t .given .1)) .token),
     )
 
 is-punct-requires : tie.Need-is-punct-requires
@@ -68,6 +73,7 @@ same-length-2 c = search needs
 
 returns-2 : tie.Need-returns-2
 returns-2 c =
+    let args = c .before .before .before .before .before .before .before .before .before .before .before .before .before .before .before .before .before .before .args in
     let pre = c .before .before .before .before .before .before .before .before .before .before .before .before .before .before .before .before .before .before .pre in
     let peek = c .before .before .before .before .before .before .before .before .before .before .before .before .before .before .before .peek in
     let t = c .before .before .before .before .before .before .before .before .before .before .before .before .before .t in
@@ -80,18 +86,19 @@ returns-2 c =
     (passed-over _ _ _ (ne-eqb _ _ (if1 .left)) ∙ chosen _ _ _
     (meeting.punct-of _ _ _ _ ((meeting.peeked _ _ (peek .ensures) (t .given .1)) .token) ∙ sym
     (is-punct .ensures) ∙ if2 .taken))
-    ((c .before .before .negative-value) .ensures)
+    (places.value-past-minus (c .before .before .negative-value .result) (args .c .row) (ap (λ (x : Cursor). x .row) (take-token2 .ensures .0))
+    ((c .before .before .negative-value) .ensures))
 
 returns-3 : tie.Need-returns-3
 returns-3 c =
     let pre = c .before .before .before .before .before .pre in
-    meeting.meets-refused reading.discriminant _ _ pre _ _ _ _ _ _
+    meeting.meets-refused reading.discriminant _ _ pre _ _ _ _ _
     (meeting.peeked _ _ ((c .before .before .peek) .ensures) ((c .enum-told) .given .1)) refl
 
 returns-4 : tie.Need-returns-4
 returns-4 c =
     let pre = c .before .before .before .before .before .pre in
-    meeting.meets-refused reading.discriminant _ _ pre _ _ _ _ _ _
+    meeting.meets-refused reading.discriminant _ _ pre _ _ _ _ _
     ((meeting.peeked _ _ ((c .before .before .peek) .ensures) ((c .enum-told2) .given .1)) .here) refl
 
 returns-5 : tie.Need-returns-5
@@ -99,7 +106,7 @@ returns-5 c =
     let pre = c .before .before .before .before .before .before .before .before .before .before .pre in
     let peek = c .before .before .before .before .before .before .before .peek in
     let t = c .before .before .before .before .before .t in
-    meeting.meets-refused reading.discriminant _ _ pre _ _ _ _ _ _
+    meeting.meets-refused reading.discriminant _ _ pre _ _ _ _ _
     ((meeting.peeked _ _ (peek .ensures) (t .given .1)) .here)
     (passed-over _ _ _ (ne-eqb _ _ ((c .before .before .if1) .left)) ∙ passed-over _ _ _
     (meeting.punct-of _ _ _ _ ((meeting.peeked _ _ (peek .ensures) (t .given .1)) .token) ∙ sym

@@ -1,3 +1,5 @@
+use Rattle.reading.specs.Took.{Point}
+use Rattle.parse.proofs.Places as places
 use Rattle.reading.specs.Took.{Reader, after}
 use Rattle.reading.specs.Declaration.{Field}
 use Rattle.token_list.specs.Stream.{Trees}
@@ -8,7 +10,7 @@ use Rattle.parse.specs.Contract as contract
 use Rattle.reading.specs.Reading as reading
 use Rattle.token_list.proofs.Texts.{chosen, passed-over}
 use borrow.Author.Tests.{eq-eqb, ne-eqb}
-use mathlib.Core.Path.{_≡_, refl, sym, _∙_}
+use mathlib.Core.Path.{subst, _≡_, refl, sym, _∙_}
 use borrow.Author.Needs.{needs}
 use Rattle.parse.proofs.body.named_field.Statement.{statement}
 use Rattle.parse.proofs.body.named_field.Tie as tie
@@ -56,7 +58,7 @@ returns c =
     (λ u h.
     meeting.meets-refused reading.fieldStart _ _
     (meeting.landed (meeting.say (λ x. contract.any) contract.stepSaid (d .given .1) (field-start .ensures))) _
-    _ _ _ _ _ ((meeting.peeked _ _ (peek .ensures) ((c .before .before .before .t) .given .1)) .here)
+    _ _ _ _ ((meeting.peeked _ _ (peek .ensures) ((c .before .before .before .t) .given .1)) .here)
     (passed-over _ _ _ (ne-eqb _ _ ((c .if1) .taken)))))
 
 take-token-requires : tie.Need-take-token-requires
@@ -124,7 +126,7 @@ returns-4 c =
     (λ u h.
     meeting.meets-refused reading.fieldStart _ _
     (meeting.landed (meeting.say (λ x. contract.any) contract.stepSaid (d .given .1) (field-start .ensures))) _
-    _ _ _ _ _ ((meeting.peeked _ _ ((c .before .before .peek) .ensures) ((c .enum-told2) .given .1)) .here)
+    _ _ _ _ ((meeting.peeked _ _ ((c .before .before .peek) .ensures) ((c .enum-told2) .given .1)) .here)
     refl))
 
 same-length-5 : tie.Need-same-length-5
@@ -174,19 +176,22 @@ returns-6 c =
     let take-token = c .before .before .before .before .before .before .before .before .before .take-token in
     let field-after = c .before .before .before .before .before .field-after in
     let text = slice (t .given .0 .0 .start) (t .given .0 .0 .end) (args .s .now) in
+    let l = meeting.peeked _ _ (peek .ensures) (t .given .1) in
+    let started = meeting.say (λ x. contract.any) contract.stepSaid (d .given .1) (field-start .ensures) in
     meeting.meets-as (split (args .c .row) (contract.stream (args .s .now) (args .c)))
-    (meeting.meets-then start (meeting.say (λ x. contract.any) contract.stepSaid (d .given .1) (field-start .ensures))
+    (meeting.meets-then start started
     (λ u h.
     meeting.meets-from reading.fieldStart _ _
-    (meeting.landed (meeting.say (λ x. contract.any) contract.stepSaid (d .given .1) (field-start .ensures))) _
-    _ (meeting.peeked _ _ (peek .ensures) (t .given .1)) _ _ _ _ (take-token .ensures .0)
+    (meeting.landed started) _
+    _ l _ _ _ _ (take-token .ensures .0)
     (take-token .ensures .1) _ _ (reading.fieldAfter text) (chosen _ _ _ (eq-eqb _ _ (if1 .left)))
     (meeting.meets-show
     (λ v k. (
       _,
       k .1,
-      record
-          { bytes = refl; within = meeting.token-within _ _ _ ((meeting.peeked _ _ (peek .ensures) (t .given .1)) .token) },
+      record { bytes = refl; within = meeting.token-within _ _ _ (l .token) },
+      subst (λ (x : Point). contract.TokenIn (args .s .now) (x .row) (t .given .0 .0)) (places.start-beyond started)
+          (places.token-in _ _ _ (meeting.landed started) (l .token)),
     ))
     (meeting.say (λ x. contract.FieldNamed text) contract.stepSaid ((c .before .e) .given .1)
     (field-after .ensures text)))))

@@ -1,3 +1,4 @@
+use Rattle.parse.proofs.Places as places
 use Rattle.parse.proofs.Meeting as meeting
 use Rattle.parse.specs.Contract as contract
 use Rattle.reading.specs.Reading as reading
@@ -24,7 +25,7 @@ returns : tie.Need-returns
 returns c =
     let pre = c .before .before .before .before .before .before .before .before .pre in
     let peek = c .before .before .before .before .before .peek in
-    meeting.meets-refused reading.negativeValue _ _ pre _ _ _ _ _ _
+    meeting.meets-refused reading.negativeValue _ _ pre _ _ _ _ _
     ((meeting.peeked _ _ (peek .ensures) ((c .before .before .before .t) .given .1)) .here)
     (passed-over _ _ _ (ne-eqb _ _ ((c .if1) .taken)))
 
@@ -38,7 +39,7 @@ returns-2 c =
     let pre = c .before .before .before .before .before .before .before .before .before .before .pre in
     let peek = c .before .before .before .before .before .before .before .peek in
     let t = c .before .before .before .before .before .t in
-    meeting.meets-refused reading.negativeValue _ _ pre _ _ _ _ _ _
+    meeting.meets-refused reading.negativeValue _ _ pre _ _ _ _ _
     ((meeting.peeked _ _ (peek .ensures) (t .given .1)) .here)
     (chosen _ _ _ (eq-eqb _ _ ((c .before .before .if1) .left)) ∙ passed-over _ _ _
     (sym ((c .before .is-negatable) .ensures) ∙ not-true _ ((c .if2) .taken)))
@@ -53,13 +54,13 @@ take-token-requires c κs =
 returns-3 : tie.Need-returns-3
 returns-3 c =
     let pre = c .before .before .before .before .before .pre in
-    meeting.meets-refused reading.negativeValue _ _ pre _ _ _ _ _ _
+    meeting.meets-refused reading.negativeValue _ _ pre _ _ _ _ _
     (meeting.peeked _ _ ((c .before .before .peek) .ensures) ((c .enum-told) .given .1)) refl
 
 returns-4 : tie.Need-returns-4
 returns-4 c =
     let pre = c .before .before .before .before .before .pre in
-    meeting.meets-refused reading.negativeValue _ _ pre _ _ _ _ _ _
+    meeting.meets-refused reading.negativeValue _ _ pre _ _ _ _ _
     ((meeting.peeked _ _ ((c .before .before .peek) .ensures) ((c .enum-told2) .given .1)) .here) refl
 
 same-length : tie.Need-same-length
@@ -77,11 +78,14 @@ returns-5 c =
     meeting.meets-leaf reading.negativeValue _ _ pre _ _ (meeting.peeked _ _ (peek .ensures) (t .given .1)) _ _ _ _
     (take-token .ensures .0) (take-token .ensures .1) _
     (chosen _ _ _ (eq-eqb _ _ (if1 .left)) ∙ chosen _ _ _ (sym (is-negatable .ensures) ∙ not-false _ (if2 .left))) (
-      _,
-      record
-          { bytes = refl; within = meeting.token-within _ _ _ ((meeting.peeked _ _ (peek .ensures) (t .given .1)) .token) },
-      sym (is-negatable .ensures) ∙ not-false _ (if2 .left),
-      refl,
+      (
+        _,
+        record
+            { bytes = refl; within = meeting.token-within _ _ _ ((meeting.peeked _ _ (peek .ensures) (t .given .1)) .token) },
+        sym (is-negatable .ensures) ∙ not-false _ (if2 .left),
+        refl,
+      ),
+      places.token-in _ _ _ pre ((meeting.peeked _ _ (peek .ensures) (t .given .1)) .token),
     )
 
 pub negative-value-spec : {M : Type 1} → statement M

@@ -38,7 +38,7 @@ loop-less c =
     let args = c .before .before .before .before .before .before .before .before .before .before .before .args in
     let loop = c .before .before .before .before .before .before .before .before .loop in
     let named-field = c .before .before .before .before .before .before .named-field in
-    let n = rounds-more reading.namedField conserved.namedField-round (loop .inv) (meeting.say (contract.fieldShown (args .s .now)) contract.fieldSaid ((c .before .before .f) .given .1) (named-field .ensures)) (λ v h. (h .0, h .1)) in
+    let n = rounds-more reading.namedField conserved.namedField-round (loop .inv) (meeting.say (contract.fieldShown (args .s .now) (loop .c)) contract.fieldSaid ((c .before .before .f) .given .1) (named-field .ensures)) (λ v h. (h .0, h .1)) in
     omega (arith, n .1, n .0 .moved .inList .within)
 
 loop-again : tie.Need-loop-again Inv-loop μ-loop
@@ -47,7 +47,7 @@ loop-again c =
     let loop = c .before .before .before .before .before .before .before .before .loop in
     let named-field = c .before .before .before .before .before .before .named-field in
     rounds-more reading.namedField conserved.namedField-round (loop .inv)
-    (meeting.say (contract.fieldShown (args .s .now)) contract.fieldSaid ((c .before .before .f) .given .1)
+    (meeting.say (contract.fieldShown (args .s .now) (loop .c)) contract.fieldSaid ((c .before .before .f) .given .1)
     (named-field .ensures))
     (λ v h. (h .0, h .1)) .0
 
@@ -66,7 +66,7 @@ returns c =
     let loop = c .before .before .before .before .before .before .before .loop in
     let named-field = c .before .before .before .before .before .named-field in
     rounds-done reading.namedField conserved.namedField-round (loop .inv)
-    (meeting.say (contract.fieldShown (args .s .now)) contract.fieldSaid ((c .before .d) .given .1)
+    (meeting.say (contract.fieldShown (args .s .now) (loop .c)) contract.fieldSaid ((c .before .d) .given .1)
     (named-field .ensures))
     (λ v h. h)
 
@@ -85,7 +85,7 @@ returns-2 c =
     let loop = c .before .before .before .before .before .before .before .loop in
     let named-field = c .before .before .before .before .before .named-field in
     rounds-refused reading.namedField conserved.namedField-round (loop .inv)
-    (meeting.say (contract.fieldShown (args .s .now)) contract.fieldSaid ((c .before .r) .given .1)
+    (meeting.say (contract.fieldShown (args .s .now) (loop .c)) contract.fieldSaid ((c .before .r) .given .1)
     (named-field .ensures))
 
 pub parse-with-name-spec : {M : Type 1} → statement M

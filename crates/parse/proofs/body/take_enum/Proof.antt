@@ -29,7 +29,7 @@ returns c =
     let pre = c .before .before .before .before .before .before .before .before .pre in
     let peek = c .before .before .before .before .before .peek in
     let t = c .before .before .before .t in
-    meeting.meets-refused reading.enumBody _ _ pre _ _ _ _ _ _
+    meeting.meets-refused reading.enumBody _ _ pre _ _ _ _ _
     ((meeting.peeked _ _ (peek .ensures) (t .given .1)) .here)
     (passed-over _ _ _
     (meeting.punct-of _ _ _ _ ((meeting.peeked _ _ (peek .ensures) (t .given .1)) .token) ∙ sym
@@ -54,7 +54,7 @@ variants-group-requires c κs =
 returns-2 : tie.Need-returns-2
 returns-2 c =
     let pre = c .before .before .before .before .before .pre in
-    meeting.meets-refused reading.enumBody _ _ pre _ _ _ _ _ _
+    meeting.meets-refused reading.enumBody _ _ pre _ _ _ _ _
     (meeting.peeked _ _ ((c .before .before .peek) .ensures) ((c .enum-told) .given .1)) refl
 
 same-length : tie.Need-same-length

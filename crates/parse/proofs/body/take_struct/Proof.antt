@@ -29,7 +29,7 @@ returns c =
     let pre = c .before .before .before .before .before .before .before .before .pre in
     let peek = c .before .before .before .before .before .peek in
     let t = c .before .before .before .t in
-    meeting.meets-refused reading.structBody _ _ pre _ _ _ _ _ _
+    meeting.meets-refused reading.structBody _ _ pre _ _ _ _ _
     ((meeting.peeked _ _ (peek .ensures) (t .given .1)) .here)
     (passed-over _ _ _
     (meeting.punct-of _ _ _ _ ((meeting.peeked _ _ (peek .ensures) (t .given .1)) .token) ∙ sym
@@ -106,7 +106,7 @@ returns-3 c =
 returns-4 : tie.Need-returns-4
 returns-4 c =
     let pre = c .before .before .before .before .before .pre in
-    meeting.meets-refused reading.structBody _ _ pre _ _ _ _ _ _
+    meeting.meets-refused reading.structBody _ _ pre _ _ _ _ _
     (meeting.peeked _ _ ((c .before .before .peek) .ensures) ((c .enum-told) .given .1)) refl
 
 same-length-3 : tie.Need-same-length-3
@@ -131,7 +131,7 @@ returns-6 : tie.Need-returns-6
 returns-6 c =
     let pre = c .before .before .before .before .before .before .before .before .pre in
     let peek = c .before .before .before .before .before .peek in
-    meeting.meets-refused reading.structBody _ _ pre _ _ _ _ _ _
+    meeting.meets-refused reading.structBody _ _ pre _ _ _ _ _
     (meeting.group-stream _ _ _ pre (meeting.peeked _ _ (peek .ensures) ((c .before .before .before .t2) .given .1)))
     (passed-over _ _ _ (ne-eqb _ _ ((c .before .if2) .left)) ∙ passed-over _ _ _ (ne-eqb _ _ ((c .if3) .left)))
 

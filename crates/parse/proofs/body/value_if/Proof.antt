@@ -1,8 +1,12 @@
+use Prim.Native.Nat.{_+_}
+use Rattle.reading.specs.Place.{literalRow}
+use Rattle.token_list.specs.declared.check.Cursor.{Cursor}
+use Rattle.parse.proofs.Places as places
 use Rattle.parse.proofs.Meeting as meeting
 use Rattle.parse.specs.Contract as contract
 use Rattle.reading.specs.Reading as reading
 use Rattle.token_list.proofs.Texts.{chosen, passed-over}
-use mathlib.Core.Path.{refl, sym, _∙_}
+use mathlib.Core.Path.{refl, sym, _∙_, ap}
 use borrow.Author.Needs.{needs}
 use Rattle.parse.proofs.body.value_if.Statement.{statement}
 use Rattle.parse.proofs.body.value_if.Tie as tie
@@ -42,6 +46,7 @@ same-length c = search needs
 
 returns : tie.Need-returns
 returns c =
+    let args = c .before .before .before .before .before .before .before .before .before .before .before .before .before .before .before .before .args in
     let pre = c .before .before .before .before .before .before .before .before .before .before .before .before .before .before .before .before .pre in
     let peek = c .before .before .before .before .before .before .before .before .before .before .before .before .before .peek in
     let t = c .before .before .before .before .before .before .before .before .before .before .before .t in
@@ -53,7 +58,10 @@ returns c =
     (chosen _ _ _
     (meeting.punct-of _ _ _ _ ((meeting.peeked _ _ (peek .ensures) (t .given .1)) .token) ∙ sym
     (is-punct .ensures) ∙ if1 .taken))
-    ((c .before .before .discriminant) .ensures)
+    (meeting.meets-show
+    (λ v h. places.value-as _ (c .before .before .discriminant .result) _ (literalRow (args .c .row + 1)) v
+    (ap (λ (x : Cursor). literalRow (x .row) v) (sym (take-token .ensures .0))) h)
+    ((c .before .before .discriminant) .ensures))
 
 is-punct-requires-2 : tie.Need-is-punct-requires-2
 is-punct-requires-2 c κs = search needs
@@ -69,18 +77,18 @@ returns-2 c =
     _ _ _
     (meeting.punct-of _ _ _ _ ((meeting.peeked _ _ (peek .ensures) (t .given .1)) .token) ∙ sym
     ((c .before .is-punct2) .ensures) ∙ (c .if2) .taken))
-    refl
+    (refl, tt)
 
 returns-3 : tie.Need-returns-3
 returns-3 c =
     let pre = c .before .before .before .before .before .pre in
     meeting.meets-same reading.valueIf _ _ pre _ _ _ _
-    (meeting.peeked _ _ ((c .before .before .peek) .ensures) ((c .enum-told) .given .1)) refl refl
+    (meeting.peeked _ _ ((c .before .before .peek) .ensures) ((c .enum-told) .given .1)) refl (refl, tt)
 
 returns-4 : tie.Need-returns-4
 returns-4 c =
     let pre = c .before .before .before .before .before .pre in
-    meeting.meets-refused reading.valueIf _ _ pre _ _ _ _ _ _
+    meeting.meets-refused reading.valueIf _ _ pre _ _ _ _ _
     ((meeting.peeked _ _ ((c .before .before .peek) .ensures) ((c .enum-told2) .given .1)) .here) refl
 
 returns-5 : tie.Need-returns-5
@@ -88,7 +96,7 @@ returns-5 c =
     let pre = c .before .before .before .before .before .before .before .before .before .before .pre in
     let peek = c .before .before .before .before .before .before .before .peek in
     let t = c .before .before .before .before .before .t in
-    meeting.meets-refused reading.valueIf _ _ pre _ _ _ _ _ _ ((meeting.peeked _ _ (peek .ensures) (t .given .1)) .here)
+    meeting.meets-refused reading.valueIf _ _ pre _ _ _ _ _ ((meeting.peeked _ _ (peek .ensures) (t .given .1)) .here)
     (passed-over _ _ _
     (meeting.punct-of _ _ _ _ ((meeting.peeked _ _ (peek .ensures) (t .given .1)) .token) ∙ sym ((c .before .before .before .is-punct) .ensures) ∙ (c .before .before .if1) .left) ∙ passed-over
     _ _ _

@@ -1,3 +1,4 @@
+use Rattle.token_list.specs.declared.check.Cursor.{Cursor}
 use Rattle.parse.proofs.Bodies as bodies
 use Rattle.reading.specs.Declaration.{named, tuple}
 use Rattle.token_list.specs.Stream.{at}
@@ -81,10 +82,13 @@ returns-2 c =
     (bodies.closing-map _ _
     (reading.every reading.namedField ((args .c .row) + 1) (at (args .s .now) (t .given .0 .0 .next) .here)) named
     (λ fs rs rest e h. (
-      fs,
-      refl,
-      bodies.inside-at (reading.every reading.namedField) _ _ _ _ pre
-          ((meeting.peeked _ _ (peek .ensures) (t .given .1)) .token) (past .ensures) e,
+      (
+        fs,
+        refl,
+        bodies.inside-at (reading.every reading.namedField) _ _ _ _ pre
+            ((meeting.peeked _ _ (peek .ensures) (t .given .1)) .token) (past .ensures) e,
+      ),
+      ap (λ (x : Cursor). x .row) (past .ensures),
     ))
     (meeting.say contract.countShown contract.countSaid ((c .before .e) .given .1) (named-group .ensures)))
 
@@ -142,10 +146,13 @@ returns-4 c =
     (bodies.closing-map _ _
     (reading.every reading.tupleField ((args .c .row) + 1) (at (args .s .now) (t .given .0 .0 .next) .here)) tuple
     (λ fs rs rest e h. (
-      fs,
-      refl,
-      bodies.inside-at (reading.every reading.tupleField) _ _ _ _ pre
-          ((meeting.peeked _ _ (peek .ensures) (t .given .1)) .token) (past .ensures) e,
+      (
+        fs,
+        refl,
+        bodies.inside-at (reading.every reading.tupleField) _ _ _ _ pre
+            ((meeting.peeked _ _ (peek .ensures) (t .given .1)) .token) (past .ensures) e,
+      ),
+      ap (λ (x : Cursor). x .row) (past .ensures),
     ))
     (meeting.say contract.countShown contract.countSaid ((c .before .e2) .given .1) (tuple-group .ensures)))
 
@@ -153,20 +160,20 @@ returns-5 : tie.Need-returns-5
 returns-5 c =
     let pre = c .before .before .before .before .before .pre in
     meeting.meets-same reading.variantFields _ _ pre _ _ _ _
-    (meeting.peeked _ _ ((c .before .before .peek) .ensures) ((c .enum-told) .given .1)) refl refl
+    (meeting.peeked _ _ ((c .before .before .peek) .ensures) ((c .enum-told) .given .1)) refl (refl, tt)
 
 returns-6 : tie.Need-returns-6
 returns-6 c =
     let pre = c .before .before .before .before .before .pre in
     meeting.meets-same reading.variantFields _ _ pre _ _ _ _
-    ((meeting.peeked _ _ ((c .before .before .peek) .ensures) ((c .enum-told2) .given .1)) .here) refl refl
+    ((meeting.peeked _ _ ((c .before .before .peek) .ensures) ((c .enum-told2) .given .1)) .here) refl (refl, tt)
 
 returns-7 : tie.Need-returns-7
 returns-7 c =
     let pre = c .before .before .before .before .before .before .before .before .before .pre in
     let peek = c .before .before .before .before .before .before .peek in
     let t = c .before .before .before .before .t in
-    meeting.meets-refused reading.variantFields _ _ pre _ _ _ _ _ _
+    meeting.meets-refused reading.variantFields _ _ pre _ _ _ _ _
     (meeting.group-stream _ _ _ pre (meeting.peeked _ _ (peek .ensures) (t .given .1)))
     (passed-over _ _ _ (ne-eqb _ _ ((c .before .if1) .left)) ∙ passed-over _ _ _ (ne-eqb _ _ ((c .if2) .left)))
 

@@ -1,8 +1,10 @@
+use Rattle.reading.specs.Place.{variantName, literalRow}
+use Rattle.parse.proofs.Places as places
 use Rattle.parse.proofs.Bodies as bodies
-use Rattle.reading.specs.Took.{Reader, after, _>>=_}
+use Rattle.reading.specs.Took.{Reader, after, _>>=_, Point, beyond}
 use Rattle.reading.specs.Declaration.{Fields, Value, Variant}
 use Rattle.token_list.specs.Stream.{Trees}
-use Prim.Native.Nat.{ℕ}
+use Prim.Native.Nat.{ℕ, _+_}
 use mathlib.Core.List.{List}
 use mathlib.Core.Path.{fun-ext}
 use Rattle.parse.proofs.Meeting as meeting
@@ -22,7 +24,7 @@ valued n f = reading.valueIf >>= λ v. reading.comma (made n f v)
 abbrev rest : List ℕ → Reader (reading.Maybe Variant)
 rest n = reading.variantFields >>= valued n
 
-split : (row : ℕ) (ts : Trees) → reading.variantHere row ts ≡ after row (contract.variantName row ts) rest
+split : (row : ℕ) (ts : Trees) → reading.variantHere row ts ≡ after row (variantName row ts) rest
 split row ts =
     ap (after row (reading.attributes row ts))
     (fun-ext
@@ -43,7 +45,7 @@ variant-fields-requires c κs =
     let args = c .before .before .before .before .before .before .before .before .before .before .args in
     let variant-name = c .before .before .before .before .before .before .variant-name in
     meeting.landed
-    (meeting.say (contract.nameShown (args .s .now)) contract.nameSaid ((c .before .before .name) .given .1)
+    (meeting.say (contract.nameShown (args .s .now) (args .c)) contract.nameSaid ((c .before .before .name) .given .1)
     (variant-name .ensures))
 
 enum-known-r-2 : tie.Need-enum-known-r-2
@@ -55,9 +57,10 @@ enum-known-fields c = search needs
 variant-value-requires : tie.Need-variant-value-requires
 variant-value-requires c κs =
     let args = c .before .before .before .before .before .before .before .before .before .before .before .before .before .before .before .before .before .args in
+    let name = c .before .before .before .before .before .before .before .before .before .name in
     let variant-fields = c .before .before .before .before .before .before .variant-fields in
     meeting.landed
-    (meeting.say (contract.fieldsShown (args .s .now)) contract.fieldsSaid ((c .before .before .fields) .given .1)
+    (meeting.say (contract.fieldsShown (args .s .now) (name .given .0 .1 .0)) contract.fieldsSaid ((c .before .before .fields) .given .1)
     (variant-fields .ensures))
 
 enum-known-r-3 : tie.Need-enum-known-r-3
@@ -75,7 +78,7 @@ returns c =
     let variant-name = c .before .before .before .before .before .variant-name in
     meeting.meets-as (split (args .c .row) (contract.stream (args .s .now) (args .c)))
     (meeting.meets-no rest
-    (meeting.say (contract.nameShown (args .s .now)) contract.nameSaid ((c .before .r) .given .1)
+    (meeting.say (contract.nameShown (args .s .now) (args .c)) contract.nameSaid ((c .before .r) .given .1)
     (variant-name .ensures)))
 
 same-length-2 : tie.Need-same-length-2
@@ -89,10 +92,10 @@ returns-2 c =
     let variant-fields = c .before .before .before .before .before .variant-fields in
     meeting.meets-as (split (args .c .row) (contract.stream (args .s .now) (args .c)))
     (meeting.meets-then rest
-    (meeting.say (contract.nameShown (args .s .now)) contract.nameSaid (name .given .1) (variant-name .ensures))
+    (meeting.say (contract.nameShown (args .s .now) (args .c)) contract.nameSaid (name .given .1) (variant-name .ensures))
     (λ n h.
     meeting.meets-no (valued n)
-    (meeting.say (contract.fieldsShown (args .s .now)) contract.fieldsSaid ((c .before .r2) .given .1)
+    (meeting.say (contract.fieldsShown (args .s .now) (name .given .0 .1 .0)) contract.fieldsSaid ((c .before .r2) .given .1)
     (variant-fields .ensures))))
 
 same-length-3 : tie.Need-same-length-3
@@ -109,16 +112,16 @@ returns-3 c =
     let e = fields .given .0 .1 .0 in
     meeting.meets-as (split (args .c .row) (contract.stream (args .s .now) (args .c)))
     (meeting.meets-then rest
-    (meeting.say (contract.nameShown (args .s .now)) contract.nameSaid (name .given .1) (variant-name .ensures))
+    (meeting.say (contract.nameShown (args .s .now) (args .c)) contract.nameSaid (name .given .1) (variant-name .ensures))
     (λ n h.
     meeting.meets-then (valued n)
-    (meeting.say (contract.fieldsShown (args .s .now)) contract.fieldsSaid (fields .given .1)
+    (meeting.say (contract.fieldsShown (args .s .now) (name .given .0 .1 .0)) contract.fieldsSaid (fields .given .1)
     (variant-fields .ensures))
     (λ f k.
     meeting.meets-as
     (bodies.comma-as (e .row) (reading.valueIf (e .row) (contract.stream (args .s .now) e)) (made n f))
     (meeting.meets-no _
-    (meeting.say (contract.valueShown (args .s .now)) contract.valueSaid ((c .before .r3) .given .1)
+    (meeting.say (contract.valueShown (args .s .now) (literalRow (e .row + 1))) contract.valueSaid ((c .before .r3) .given .1)
     (variant-value .ensures))))))
 
 same-length-4 : tie.Need-same-length-4
@@ -133,19 +136,30 @@ returns-4 c =
     let fields-2 = c .before .before .before .before .before .before .before .before .fields in
     let variant-value = c .before .before .before .before .before .variant-value in
     let e = fields-2 .given .0 .1 .0 in
+    let d = name-2 .given .0 .1 .0 in
+    let named = meeting.say (contract.nameShown (args .s .now) (args .c)) contract.nameSaid (name-2 .given .1) (variant-name .ensures) in
+    let grouped = meeting.say (contract.fieldsShown (args .s .now) d) contract.fieldsSaid (fields-2 .given .1) (variant-fields .ensures) in
+    let group = places.meets-beyond variantName named .here in
+    let equals = places.meets-beyond reading.variantFields grouped .here ∙ ap (beyond reading.variantFields) group in
     meeting.meets-as (split (args .c .row) (contract.stream (args .s .now) (args .c)))
-    (meeting.meets-then rest
-    (meeting.say (contract.nameShown (args .s .now)) contract.nameSaid (name-2 .given .1) (variant-name .ensures))
+    (meeting.meets-then rest named
     (λ n h.
-    meeting.meets-then (valued n)
-    (meeting.say (contract.fieldsShown (args .s .now)) contract.fieldsSaid (fields-2 .given .1)
-    (variant-fields .ensures))
+    meeting.meets-then (valued n) grouped
     (λ f k.
     meeting.meets-as
     (bodies.comma-as (e .row) (reading.valueIf (e .row) (contract.stream (args .s .now) e)) (made n f))
     (meeting.meets-map (e .row) (λ v. reading.one (made n f v))
-    (λ v w. (made n f v, refl, record { name = h; fields = k; value = w }))
-    (meeting.say (contract.valueShown (args .s .now)) contract.valueSaid ((c .before .value) .given .1)
+    (λ v w. (
+      made n f v,
+      refl,
+      record { name = h .0; fields = k .0; value = w .0 },
+      record {
+        name = h .1;
+        fields = subst (λ (x : Point). contract.FieldsIn (x .row) (fields-2 .given .0 .0)) group (k .1);
+        value = subst (λ (x : Point). contract.ValueIn (args .s .now) (literalRow (x .row + 1) v) ((c .before .value) .given .0 .0)) equals (w .1);
+      },
+    ))
+    (meeting.say (contract.valueShown (args .s .now) (literalRow (e .row + 1))) contract.valueSaid ((c .before .value) .given .1)
     (variant-value .ensures))))))
 
 pub variant-here-spec : {M : Type 1} → statement M

@@ -1,3 +1,4 @@
+use Rattle.parse.proofs.Places as places
 use Rattle.reading.specs.Took.{Reader, _>>=_}
 use Prim.Native.Nat.{ℕ}
 use mathlib.Core.List.{List}
@@ -70,11 +71,13 @@ returns-3 c =
     let d = c .before .before .before .before .before .before .before .before .before .before .d in
     let consume-ident = c .before .before .before .before .before .before .before .consume-ident in
     let w = c .before .before .before .w in
-    meeting.meets-then name (meeting.say (λ x. contract.any) contract.stepSaid (d .given .1) (try-take .ensures))
+    let taken = meeting.say (λ x. contract.any) contract.stepSaid (d .given .1) (try-take .ensures) in
+    meeting.meets-then name taken
     (λ u h.
     meeting.meets-word reading.named! _ (meeting.say-word (w .given .1) (consume-ident .ensures))
-    (λ text k.
-    meeting.meets-stay _ _ _ _ _ (meeting.landed (meeting.say-word (w .given .1) (consume-ident .ensures))) k))
+    (λ text k place.
+    meeting.meets-stay _ _ _ _ _ (meeting.landed (meeting.say-word (w .given .1) (consume-ident .ensures)))
+    (k, places.word-at _ _ (places.meets-beyond reading.attributes taken .here) place)))
 
 pub variant-name-spec : {M : Type 1} → statement M
 variant-name-spec =

@@ -1,3 +1,5 @@
+use Prim.Native.Nat.{_+_}
+use Rattle.reading.specs.Place.{literalRow}
 use Rattle.parse.proofs.Bodies as bodies
 use Rattle.parse.proofs.Meeting as meeting
 use Rattle.parse.specs.Contract as contract
@@ -20,7 +22,7 @@ consume-punct-if-requires c κs =
     let args = c .before .before .before .before .before .before .before .before .before .before .args in
     let value-if = c .before .before .before .before .before .before .value-if in
     meeting.landed
-    (meeting.say (contract.valueShown (args .s .now)) contract.valueSaid ((c .before .before .v) .given .1)
+    (meeting.say (contract.valueShown (args .s .now) (literalRow (args .c .row + 1))) contract.valueSaid ((c .before .before .v) .given .1)
     (value-if .ensures))
 
 same-length : tie.Need-same-length
@@ -31,7 +33,7 @@ returns c =
     let args = c .before .before .before .before .before .before .before .before .before .args in
     let value-if = c .before .before .before .before .before .value-if in
     meeting.meets-no bodies.commaAfter
-    (meeting.say (contract.valueShown (args .s .now)) contract.valueSaid ((c .before .r) .given .1)
+    (meeting.say (contract.valueShown (args .s .now) (literalRow (args .c .row + 1))) contract.valueSaid ((c .before .r) .given .1)
     (value-if .ensures))
 
 same-length-2 : tie.Need-same-length-2
@@ -43,7 +45,7 @@ returns-2 c =
     let value-if = c .before .before .before .before .before .before .before .before .before .before .value-if in
     let v = c .before .before .before .before .before .before .v in
     meeting.meets-then bodies.commaAfter
-    (meeting.say (contract.valueShown (args .s .now)) contract.valueSaid (v .given .1) (value-if .ensures))
+    (meeting.say (contract.valueShown (args .s .now) (literalRow (args .c .row + 1))) contract.valueSaid (v .given .1) (value-if .ensures))
     (λ a h. meeting.meets-map _ (λ u. a) (λ u k. h) ((c .before .before .before .consume-punct-if) .ensures))
 
 pub variant-value-spec : {M : Type 1} → statement M

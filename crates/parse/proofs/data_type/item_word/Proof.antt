@@ -1,3 +1,4 @@
+use mathlib.Core.List.{[]}
 use Rattle.parse.proofs.Heads as heads
 use Rattle.token_list.specs.Text.{same}
 use Rattle.parse.proofs.Meeting as meeting
@@ -35,7 +36,7 @@ returns c =
     let consume-ident = c .before .before .before .before .before .before .before .before .before .before .consume-ident in
     let w = c .before .before .before .before .before .before .w in
     meeting.meets-word reading.kindOf _ (meeting.say-word (w .given .1) (consume-ident .ensures))
-    (λ text h.
+    (λ text h place.
     meeting.meets-as
     (heads.kind-struct text (w .given .0 .0 .row) (w .given .0 .0 .next .row)
     (contract.stream (args .s .now) (w .given .0 .0 .next))
@@ -58,7 +59,7 @@ returns-2 c =
     let w = c .before .before .before .before .before .before .before .before .before .w in
     let text-is = c .before .before .before .before .text-is in
     meeting.meets-word reading.kindOf _ (meeting.say-word (w .given .1) (consume-ident .ensures))
-    (λ text h.
+    (λ text h place.
     meeting.meets-as
     (heads.kind-enum text (w .given .0 .0 .row) (w .given .0 .0 .next .row)
     (contract.stream (args .s .now) (w .given .0 .0 .next))
@@ -86,14 +87,14 @@ returns-4 c =
     let w = c .before .before .before .before .before .before .before .before .before .w in
     let text-is = c .before .before .before .before .text-is in
     meeting.meets-word reading.kindOf _ (meeting.say-word (w .given .1) (consume-ident .ensures))
-    (λ text h.
+    (λ text h place.
     meeting.meets-as
     (heads.kind-other text (w .given .0 .0 .row) (w .given .0 .0 .next .row)
     (contract.stream (args .s .now) (w .given .0 .0 .next))
     (ap (λ x. same x reading.STRUCT) (h .bytes) ∙ sym
     (text-is .ensures) ∙ (c .before .before .before .if1) .left)
     (ap (λ x. same x reading.ENUM) (h .bytes) ∙ sym ((c .before .text-is2) .ensures) ∙ (c .if2) .left))
-    contract.refuses)
+    (contract.refuses [] refl))
 
 pub item-word-spec : {M : Type 1} → statement M
 item-word-spec =

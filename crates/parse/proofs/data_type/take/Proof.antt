@@ -1,3 +1,4 @@
+use Rattle.parse.proofs.Places as places
 use Rattle.parse.specs.declared.data_type.Worded.{Worded}
 use Rattle.parse.specs.Contract.{Meets}
 use Rattle.reading.specs.Took.{Took, Reader, after, pure, _>>=_}
@@ -96,9 +97,9 @@ returns-3 c =
     (meeting.meets-then rest (said (kind .given .1) (item-word .ensures))
     (λ k h.
     meeting.meets-word (name k) _ (meeting.say-word (w .given .1) (consume-ident .ensures))
-    (λ text x.
+    (λ text x place.
     meeting.meets-stay _ _ _ _ _ (meeting.landed (meeting.say-word (w .given .1) (consume-ident .ensures)))
-    (h, x))))
+    (h, x, places.word-at _ _ (places.meets-beyond contract.itemWord (said (kind .given .1) (item-word .ensures)) .here) place))))
 
 pub take-spec : {M : Type 1} → statement M
 take-spec =

@@ -16,9 +16,9 @@ same-length c = search needs
 returns : tie.Need-returns
 returns c =
     let consume-punct-if = c .before .before .before .consume-punct-if in
-    λ a h.
+    λ a row h place.
     meeting.meets-then (λ t. pure (reading.one a)) (consume-punct-if .ensures)
-    (λ t x. meeting.meets-stay _ _ _ _ (reading.one a) (meeting.landed (consume-punct-if .ensures)) (a, refl, h))
+    (λ t x. meeting.meets-stay _ _ _ _ (reading.one a) (meeting.landed (consume-punct-if .ensures)) (a, refl, h, place))
 
 pub finished-spec : {M : Type 1} → statement M
 finished-spec = tie.close (tie.spec consume-punct-if-requires same-length returns)

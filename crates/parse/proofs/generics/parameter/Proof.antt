@@ -1,13 +1,22 @@
+use Rattle.reading.specs.Declaration.{Parameter}
+use Rattle.parse.specs.declared.generics.ParameterStep.{ParameterStep}
+use Rattle.parse.proofs.Places as places
 use lib.Seq.{slice}
 use Rattle.parse.proofs.Meeting as meeting
 use Rattle.parse.specs.Contract as contract
 use Rattle.reading.specs.Reading as reading
 use Rattle.token_list.proofs.Texts.{chosen, passed-over, and-fails}
 use borrow.Author.Tests.{eq-eqb, ne-eqb}
-use mathlib.Core.Path.{refl, sym, _∙_}
+use mathlib.Core.Path.{_≡_, refl, sym, _∙_, subst}
+use mathlib.Core.List.{List}
+use Prim.Native.Nat.{ℕ}
 use borrow.Author.Needs.{needs}
 use Rattle.parse.proofs.generics.parameter.Statement.{statement}
 use Rattle.parse.proofs.generics.parameter.Tie as tie
+
+-- the row of the name, said otherwise
+named-in : (s : List ℕ) (r : ParameterStep) {n k : ℕ} → n ≡ k → (v : reading.Maybe Parameter) → contract.parameterShown s n r v → contract.parameterShown s k r v
+named-in s r e v h = subst (λ (n : ℕ). contract.parameterShown s n r v) e h
 
 peek-requires : tie.Need-peek-requires
 peek-requires c κs = search needs
@@ -51,12 +60,12 @@ returns c =
     let is-punct = c .before .before .before .before .before .before .before .before .before .is-punct in
     let if1 = c .before .before .before .before .before .before .before .before .if1 in
     let take-token = c .before .before .before .before .before .before .take-token in
+    let l = (meeting.peeked _ _ (peek .ensures) (t .given .1)) in
+    let quote = meeting.punct-of _ _ _ _ (l .token) ∙ sym (is-punct .ensures) ∙ if1 .taken in
     meeting.meets-from (reading.parameter (args .angle)) _ _ pre _ _ (meeting.peeked _ _ (peek .ensures) (t .given .1))
     _ _ _ _ (take-token .ensures .0) (take-token .ensures .1) _ _ (contract.afterQuote (args .c .row))
-    (chosen _ _ _
-    (meeting.punct-of _ _ _ _ ((meeting.peeked _ _ (peek .ensures) (t .given .1)) .token) ∙ sym
-    (is-punct .ensures) ∙ if1 .taken))
-    ((c .before .before .lifetime) .ensures)
+    (chosen _ _ _ quote)
+    (meeting.meets-show (named-in (args .s .now) (c .before .before .lifetime .result) (places.after-quote _ _ _ _ l (take-token .ensures .0) quote)) ((c .before .before .lifetime) .ensures))
 
 is-punct-requires-2 : tie.Need-is-punct-requires-2
 is-punct-requires-2 c κs = search needs
@@ -99,7 +108,7 @@ returns-3 c =
     let t = c .before .before .before .before .before .before .before .t in
     let is-punct = c .before .before .before .before .before .is-punct in
     let if1 = c .before .before .before .before .if1 in
-    meeting.meets-refused (reading.parameter (args .angle)) _ _ pre _ _ _ _ _ _
+    meeting.meets-refused (reading.parameter (args .angle)) _ _ pre _ _ _ _ _
     ((meeting.peeked _ _ (peek .ensures) (t .given .1)) .here)
     (passed-over _ _ _
     (meeting.punct-of _ _ _ _ ((meeting.peeked _ _ (peek .ensures) (t .given .1)) .token) ∙ sym (is-punct .ensures) ∙ if1 .left) ∙ passed-over
@@ -147,14 +156,15 @@ returns-4 c =
     let take-token3 = c .before .before .before .before .before .before .before .before .before .take-token3 in
     let ident-eq = c .before .before .before .before .before .ident-eq in
     let if4 = c .before .before .before .before .if4 in
-    meeting.meets-from (reading.parameter (args .angle)) _ _ pre _ _ (meeting.peeked _ _ (peek .ensures) (t .given .1))
+    let l = (meeting.peeked _ _ (peek .ensures) (t .given .1)) in
+    let no-quote = meeting.punct-of _ _ _ _ (l .token) ∙ sym (is-punct .ensures) ∙ if1 .left in
+    let no-angle = meeting.punct-of _ _ _ _ (l .token) ∙ sym (is-punct2 .ensures) ∙ if2 .left in
+    let const = sym (ident-eq .ensures) ∙ if4 .taken in
+    meeting.meets-from (reading.parameter (args .angle)) _ _ pre _ _ l
     _ _ _ _ (take-token3 .ensures .0) (take-token3 .ensures .1) _ _ contract.afterConst
-    (passed-over _ _ _
-    (meeting.punct-of _ _ _ _ ((meeting.peeked _ _ (peek .ensures) (t .given .1)) .token) ∙ sym (is-punct .ensures) ∙ if1 .left) ∙ passed-over
-    _ _ _
-    (meeting.punct-of _ _ _ _ ((meeting.peeked _ _ (peek .ensures) (t .given .1)) .token) ∙ sym (is-punct2 .ensures) ∙ if2 .left) ∙ chosen
-    _ _ _ (sym (ident-eq .ensures) ∙ if4 .taken))
-    ((c .before .before .const-generic) .ensures)
+    (passed-over _ _ _ no-quote ∙ passed-over _ _ _ no-angle ∙ chosen _ _ _ const)
+    (meeting.meets-show (named-in (args .s .now) (c .before .before .const-generic .result) (places.after-const _ _ _ _ l (take-token3 .ensures .0) no-quote const))
+    ((c .before .before .const-generic) .ensures))
 
 simple-generic-requires : tie.Need-simple-generic-requires
 simple-generic-requires c κs =
@@ -168,14 +178,14 @@ returns-5 : tie.Need-returns-5
 returns-5 c =
     let args = c .before .before .before .before .before .args in
     let pre = c .before .before .before .before .before .pre in
-    meeting.meets-refused (reading.parameter (args .angle)) _ _ pre _ _ _ _ _ _
+    meeting.meets-refused (reading.parameter (args .angle)) _ _ pre _ _ _ _ _
     (meeting.peeked _ _ ((c .before .before .peek) .ensures) ((c .enum-told) .given .1)) refl
 
 returns-6 : tie.Need-returns-6
 returns-6 c =
     let args = c .before .before .before .before .before .args in
     let pre = c .before .before .before .before .before .pre in
-    meeting.meets-refused (reading.parameter (args .angle)) _ _ pre _ _ _ _ _ _
+    meeting.meets-refused (reading.parameter (args .angle)) _ _ pre _ _ _ _ _
     ((meeting.peeked _ _ ((c .before .before .peek) .ensures) ((c .enum-told2) .given .1)) .here) refl
 
 same-length-4 : tie.Need-same-length-4
@@ -196,15 +206,17 @@ returns-7 c =
     let ident-eq = c .before .before .before .before .before .ident-eq in
     let if4 = c .before .before .before .before .if4 in
     let text = slice (t .given .0 .0 .start) (t .given .0 .0 .end) (args .s .now) in
-    meeting.meets-from (reading.parameter (args .angle)) _ _ pre _ _ (meeting.peeked _ _ (peek .ensures) (t .given .1))
+    let l = (meeting.peeked _ _ (peek .ensures) (t .given .1)) in
+    let no-quote = meeting.punct-of _ _ _ _ (l .token) ∙ sym (is-punct .ensures) ∙ if1 .left in
+    let no-angle = meeting.punct-of _ _ _ _ (l .token) ∙ sym (is-punct2 .ensures) ∙ if2 .left in
+    let no-const = sym (ident-eq .ensures) ∙ if4 .left in
+    meeting.meets-from (reading.parameter (args .angle)) _ _ pre _ _ l
     _ _ _ _ (take-token3 .ensures .0) (take-token3 .ensures .1) _ _ (contract.afterName text)
-    (passed-over _ _ _
-    (meeting.punct-of _ _ _ _ ((meeting.peeked _ _ (peek .ensures) (t .given .1)) .token) ∙ sym (is-punct .ensures) ∙ if1 .left) ∙ passed-over
-    _ _ _
-    (meeting.punct-of _ _ _ _ ((meeting.peeked _ _ (peek .ensures) (t .given .1)) .token) ∙ sym (is-punct2 .ensures) ∙ if2 .left) ∙ passed-over
-    _ _ _ (sym (ident-eq .ensures) ∙ if4 .left) ∙ chosen _ _ _ (eq-eqb _ _ (if3 .left)))
-    ((c .before .before .simple-generic) .ensures text
-    (record { bytes = refl; within = meeting.token-within _ _ _ ((meeting.peeked _ _ (peek .ensures) (t .given .1)) .token) }))
+    (passed-over _ _ _ no-quote ∙ passed-over _ _ _ no-angle ∙ passed-over _ _ _ no-const ∙ chosen _ _ _ (eq-eqb _ _ (if3 .left)))
+    (meeting.meets-show (named-in (args .s .now) (c .before .before .simple-generic .result) (places.name-itself (args .s .now) (args .c) (args .c) _ l no-quote no-const))
+    ((c .before .before .simple-generic) .ensures text (args .c .row)
+    (record { bytes = refl; within = meeting.token-within _ _ _ (l .token) })
+    (places.token-in _ _ _ pre (l .token))))
 
 pub parameter-spec : {M : Type 1} → statement M
 parameter-spec =

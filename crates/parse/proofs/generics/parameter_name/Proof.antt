@@ -1,3 +1,4 @@
+use Rattle.parse.proofs.Places as places
 use Rattle.parse.proofs.Meeting as meeting
 use Rattle.parse.specs.Contract as contract
 use Rattle.reading.specs.Reading as reading
@@ -25,7 +26,7 @@ returns c =
     let args = c .before .before .before .before .before .before .before .before .args in
     let pre = c .before .before .before .before .before .before .before .before .pre in
     let peek = c .before .before .before .before .before .peek in
-    meeting.meets-refused (reading.parameterName (args .number) (args .or)) _ _ pre _ _ _ _ _ _
+    meeting.meets-refused (reading.parameterName (args .number) (args .or)) _ _ pre _ _ _ _ _
     ((meeting.peeked _ _ (peek .ensures) ((c .before .before .before .t) .given .1)) .here)
     (passed-over _ _ _ (ne-eqb _ _ ((c .if1) .taken)))
 
@@ -40,14 +41,14 @@ returns-2 : tie.Need-returns-2
 returns-2 c =
     let args = c .before .before .before .before .before .args in
     let pre = c .before .before .before .before .before .pre in
-    meeting.meets-refused (reading.parameterName (args .number) (args .or)) _ _ pre _ _ _ _ _ _
+    meeting.meets-refused (reading.parameterName (args .number) (args .or)) _ _ pre _ _ _ _ _
     (meeting.peeked _ _ ((c .before .before .peek) .ensures) ((c .enum-told) .given .1)) refl
 
 returns-3 : tie.Need-returns-3
 returns-3 c =
     let args = c .before .before .before .before .before .args in
     let pre = c .before .before .before .before .before .pre in
-    meeting.meets-refused (reading.parameterName (args .number) (args .or)) _ _ pre _ _ _ _ _ _
+    meeting.meets-refused (reading.parameterName (args .number) (args .or)) _ _ pre _ _ _ _ _
     ((meeting.peeked _ _ ((c .before .before .peek) .ensures) ((c .enum-told2) .given .1)) .here) refl
 
 same-length : tie.Need-same-length
@@ -63,8 +64,10 @@ returns-4 c =
     let take-token = c .before .before .take-token in
     meeting.meets-leaf (reading.parameterName (args .number) (args .or)) _ _ pre _ _
     (meeting.peeked _ _ (peek .ensures) (t .given .1)) _ _ _ _ (take-token .ensures .0) (take-token .ensures .1) _
-    (chosen _ _ _ (eq-eqb _ _ (if1 .left)))
-    (record { bytes = refl; within = meeting.token-within _ _ _ ((meeting.peeked _ _ (peek .ensures) (t .given .1)) .token) })
+    (chosen _ _ _ (eq-eqb _ _ (if1 .left))) (
+      record { bytes = refl; within = meeting.token-within _ _ _ ((meeting.peeked _ _ (peek .ensures) (t .given .1)) .token) },
+      places.token-in _ _ _ pre ((meeting.peeked _ _ (peek .ensures) (t .given .1)) .token),
+    )
 
 pub parameter-name-spec : {M : Type 1} → statement M
 parameter-name-spec =

@@ -1,3 +1,4 @@
+use Rattle.reading.specs.Place.{parameterNameRow}
 use Rattle.parse.proofs.Loops.{Rounded, rounds-start, rounds-more, rounds-done, rounds-refused, rounds-length}
 use Rattle.reading.proofs.Conserved as conserved
 use lib.ListN.{length}
@@ -38,7 +39,7 @@ loop-less c =
     let args = c .before .before .before .before .before .before .before .before .before .before .before .args in
     let loop = c .before .before .before .before .before .before .before .before .loop in
     let parameter = c .before .before .before .before .before .before .parameter in
-    let n = rounds-more (reading.parameter (args .angle)) (conserved.parameter-round (args .angle)) (loop .inv) (meeting.say (contract.parameterShown (args .s .now)) contract.parameterSaid ((c .before .before .p) .given .1) (parameter .ensures)) (λ v h. (h .0, h .1)) in
+    let n = rounds-more (reading.parameter (args .angle)) (conserved.parameter-round (args .angle)) (loop .inv) (meeting.say (contract.parameterShown (args .s .now) (parameterNameRow (contract.point (args .s .now) (loop .c)))) contract.parameterSaid ((c .before .before .p) .given .1) (parameter .ensures)) (λ v h. (h .0, h .1)) in
     omega (arith, n .1, n .0 .moved .inList .within)
 
 loop-again : tie.Need-loop-again Inv-loop μ-loop
@@ -47,7 +48,7 @@ loop-again c =
     let loop = c .before .before .before .before .before .before .before .before .loop in
     let parameter = c .before .before .before .before .before .before .parameter in
     rounds-more (reading.parameter (args .angle)) (conserved.parameter-round (args .angle)) (loop .inv)
-    (meeting.say (contract.parameterShown (args .s .now)) contract.parameterSaid ((c .before .before .p) .given .1)
+    (meeting.say (contract.parameterShown (args .s .now) (parameterNameRow (contract.point (args .s .now) (loop .c)))) contract.parameterSaid ((c .before .before .p) .given .1)
     (parameter .ensures))
     (λ v h. (h .0, h .1)) .0
 
@@ -66,7 +67,7 @@ returns c =
     let loop = c .before .before .before .before .before .before .before .loop in
     let parameter = c .before .before .before .before .before .parameter in
     rounds-done (reading.parameter (args .angle)) (conserved.parameter-round (args .angle)) (loop .inv)
-    (meeting.say (contract.parameterShown (args .s .now)) contract.parameterSaid ((c .before .d) .given .1)
+    (meeting.say (contract.parameterShown (args .s .now) (parameterNameRow (contract.point (args .s .now) (loop .c)))) contract.parameterSaid ((c .before .d) .given .1)
     (parameter .ensures))
     (λ v h. h)
 
@@ -85,7 +86,7 @@ returns-2 c =
     let loop = c .before .before .before .before .before .before .before .loop in
     let parameter = c .before .before .before .before .before .parameter in
     rounds-refused (reading.parameter (args .angle)) (conserved.parameter-round (args .angle)) (loop .inv)
-    (meeting.say (contract.parameterShown (args .s .now)) contract.parameterSaid ((c .before .r) .given .1)
+    (meeting.say (contract.parameterShown (args .s .now) (parameterNameRow (contract.point (args .s .now) (loop .c)))) contract.parameterSaid ((c .before .r) .given .1)
     (parameter .ensures))
 
 pub parameters-spec : {M : Type 1} → statement M

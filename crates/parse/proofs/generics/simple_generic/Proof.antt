@@ -29,7 +29,7 @@ same-length c = search needs
 returns : tie.Need-returns
 returns c =
     let type-runs = c .before .before .before .before .before .type-runs in
-    λ n h.
+    λ n row h place.
     meeting.meets-no reading.comma
     (meeting.say (λ x. contract.TypeNamed n) contract.stepSaid ((c .before .r) .given .1) (type-runs .ensures n))
 
@@ -41,12 +41,12 @@ returns-2 c =
     let args = c .before .before .before .before .before .before .before .before .before .before .before .before .before .args in
     let type-runs = c .before .before .before .before .before .before .before .before .before .type-runs in
     let d = c .before .before .before .before .before .d in
-    λ n h.
+    λ n row h place.
     meeting.meets-then reading.comma
     (meeting.say (λ x. contract.TypeNamed n) contract.stepSaid (d .given .1) (type-runs .ensures n))
     (λ a k.
-    (c .before .before .finished) .ensures a
-    (record { kind = sym (k .0); text = subst⁻¹ (contract.TextOf (args .s .now) (args .name)) (k .1) h }))
+    (c .before .before .finished) .ensures a row
+    (record { kind = sym (k .0); text = subst⁻¹ (contract.TextOf (args .s .now) (args .name)) (k .1) h }) place)
 
 pub simple-generic-spec : {M : Type 1} → statement M
 simple-generic-spec =

@@ -1,4 +1,9 @@
-use mathlib.Core.Path.{sym, _∙_, ap}
+use Rattle.parse.proofs.Places as places
+use mathlib.Core.Path.{sym, _∙_, ap, subst}
+use Rattle.reading.specs.Took.{Point, beyond}
+use Rattle.reading.specs.Place.{wordRow}
+use Rattle.reading.specs.Reading as reading
+use Rattle.parse.proofs.Items as items
 use Rattle.parse.specs.Contract.{partsAfter}
 use Rattle.parse.proofs.Meeting as meeting
 use Rattle.parse.specs.Contract as contract
@@ -33,9 +38,10 @@ enum-known-h c = search needs
 parts-requires : tie.Need-parts-requires
 parts-requires c κs =
     let args = c .before .before .before .before .before .before .before .before .before .before .before .before .before .before .before .before .before .before .before .before .before .before .before .args in
+    let try-take2 = c .before .before .before .before .before .before .before .before .before .before .before .before .try-take2 in
     let take = c .before .before .before .before .before .before .before .before .take in
     let h = c .before .before .before .before .h in
-    meeting.landed (meeting.say (contract.headShown (args .s .now)) contract.headSaid (h .given .1) (take .ensures))
+    meeting.landed (meeting.say (contract.headShown (args .s .now) (try-take2 .result)) contract.headSaid (h .given .1) (take .ensures))
 
 same-length : tie.Need-same-length
 same-length c = search needs
@@ -61,7 +67,7 @@ returns-2 c =
     meeting.meets-then _ (try-take2 .ensures)
     (λ v _.
     meeting.meets-no _
-    (meeting.say (contract.headShown (args .s .now)) contract.headSaid ((c .before .r2) .given .1)
+    (meeting.say (contract.headShown (args .s .now) (try-take2 .result)) contract.headSaid ((c .before .r2) .given .1)
     (take .ensures))))
 
 same-length-3 : tie.Need-same-length-3
@@ -79,20 +85,29 @@ returns-3 c =
     let try-take2 = c .before .before .before .before .before .before .before .before .before .before .before .before .before .before .before .try-take2 in
     let take = c .before .before .before .before .before .before .before .before .before .before .before .take in
     let h = c .before .before .before .before .before .before .before .h in
-    meeting.meets-then _ (meeting.say (λ x. contract.any) contract.stepSaid (d .given .1) (try-take .ensures))
+    let s = args .s .now in
+    let attributes = meeting.say (λ x. contract.any) contract.stepSaid (d .given .1) (try-take .ensures) in
+    let head = meeting.say (contract.headShown s (try-take2 .result)) contract.headSaid (h .given .1) (take .ensures) in
+    let start =
+    places.meets-beyond reading.visibility (try-take2 .ensures) .here
+    ∙ ap (beyond reading.visibility) (places.meets-beyond reading.attributes attributes .here) in
+    let generics = subst (λ (x : Point). contract.CursorAt s (beyond reading.dataType x) (h .given .0 .0 .next)) start (places.meets-beyond reading.dataType head) in
+    items.item-placed ((c .before .before .parts) .result)
+    (meeting.meets-then _ attributes
     (λ a _.
     meeting.meets-then _ (try-take2 .ensures)
     (λ v _.
-    meeting.meets-then (λ x. partsAfter (x .kind) (x .name))
-    (meeting.say (contract.headShown (args .s .now)) contract.headSaid (h .given .1) (take .ensures))
+    meeting.meets-then (λ x. partsAfter (x .kind) (x .name)) head
     (λ x k.
+    let name = subst (λ (y : Point). contract.TokenIn s (wordRow (beyond contract.itemWord y)) (h .given .0 .0 .name)) start (k .2) in
     meeting.meets-as
     (ap
     (λ kd.
     partsAfter kd (x .name) (h .given .0 .0 .next .row)
-    (contract.stream (args .s .now) (h .given .0 .0 .next)))
+    (contract.stream s (h .given .0 .0 .next)))
     (sym (k .0)))
-    ((c .before .before .parts) .ensures (x .name) (k .1)))))
+    (meeting.meets-show (items.parts-placed s (args .c) (h .given .0 .0 .next) (h .given .0 .0 .name) name generics ((c .before .before .parts) .result))
+    ((c .before .before .parts) .ensures (x .name) (k .1)))))))
 
 pub item-spec : {M : Type 1} → statement M
 item-spec =

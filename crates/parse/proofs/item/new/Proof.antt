@@ -49,13 +49,13 @@ returns c =
     both
     (items.answered-refused (args .s .now) (args .roles .now) _ (refuse2 .ensures .0)
     (items.answer-short (args .s .now) _ (rows .given .0 .0)
-    (sym (check .ensures) ∙ ap listed.checked (rows .given .1)) (if1 .taken))
+    (sym (check .ensures .answer) ∙ ap listed.checked (rows .given .1)) (if1 .taken))
     (refuse2 .ensures .1))
 
 read-requires : tie.Need-read-requires
 read-requires c κs =
     let check = c .before .before .before .before .before .check in
-    (sym (check .ensures) ∙ ap listed.checked ((c .before .before .before .rows) .given .1), (c .before .if1) .left)
+    (sym (check .ensures .answer) ∙ ap listed.checked ((c .before .before .before .rows) .given .1), (c .before .if1) .left)
 
 same-length-2 : tie.Need-same-length-2
 same-length-2 c = search needs
@@ -68,7 +68,7 @@ returns-2 c =
     let refuse = c .before .before .refuse in
     both
     (items.answered-refused (args .s .now) (args .roles .now) _ (refuse .ensures .0)
-    (items.answer-refused (args .s .now) _ _ _ (sym (check .ensures) ∙ ap listed.checked (r .given .1)))
+    (items.answer-refused (args .s .now) _ _ _ (sym (check .ensures .answer) ∙ ap listed.checked (r .given .1)))
     (refuse .ensures .1))
 
 same-length-3 : tie.Need-same-length-3

@@ -1,4 +1,6 @@
-use mathlib.Core.Path.{refl}
+use Rattle.parse.proofs.Places as places
+use mathlib.Core.Path.{refl, subst}
+use Rattle.reading.specs.Took.{Point, beyond}
 use Rattle.parse.proofs.Meeting as meeting
 use Rattle.parse.specs.Contract as contract
 use Rattle.reading.specs.Reading as reading
@@ -96,19 +98,24 @@ returns-4 c =
     let try-take-constraints = c .before .before .before .before .before .before .before .before .before .before .before .before .try-take-constraints in
     let e = c .before .before .before .before .before .before .before .before .e in
     let body-2 = c .before .before .before .before .before .body in
+    let parameters = meeting.say contract.genericsShown contract.countSaid (d .given .1) (try-take .ensures) in
+    let clause = meeting.say (λ x. contract.any) contract.stepSaid (e .given .1) (try-take-constraints .ensures) in
+    let body =
+    subst (λ (x : Point). contract.CursorAt (args .s .now) (beyond reading.clause x) (e .given .0 .0))
+    (places.meets-beyond reading.generics parameters .here) (places.meets-beyond reading.clause clause) in
     λ n t.
     meeting.meets-then _
-    (meeting.meets-inside reading.generics pre
-    (meeting.say contract.genericsShown contract.countSaid (d .given .1) (try-take .ensures)))
+    (meeting.meets-inside reading.generics pre parameters)
     (λ p i.
-    meeting.meets-then _
-    (meeting.say (λ x. contract.any) contract.stepSaid (e .given .1) (try-take-constraints .ensures))
+    meeting.meets-then _ clause
     (λ x _.
     meeting.meets-map _ _
-    (λ b k. record { kind = refl; name = t; parameters = i .0; count = k .0; generics = i .1; body = k .1 })
+    (λ b k. (
+      record { kind = refl; name = t; parameters = i .0; count = k .0; generics = i .1; body = k .1 },
+      record { name = refl; generics = refl; body = body },
+    ))
     (meeting.meets-inside (reading.bodyOf (contract.kindOf (args .kind)))
-    (meeting.landed
-    (meeting.say (λ x. contract.any) contract.stepSaid (e .given .1) (try-take-constraints .ensures)))
+    (meeting.landed clause)
     (meeting.say contract.bodyShown contract.countSaid ((c .before .end) .given .1) (body-2 .ensures)))))
 
 pub parts-spec : {M : Type 1} → statement M

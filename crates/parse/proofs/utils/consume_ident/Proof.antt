@@ -1,3 +1,4 @@
+use Rattle.parse.proofs.Places as places
 use Rattle.parse.specs.declared.utils.MaybeWord.the-variants.{Found}
 use Rattle.token_list.specs.declared.check.Cursor.{Cursor}
 use Rattle.token_list.specs.Stream.{at, head}
@@ -84,7 +85,7 @@ returns-3 c =
     let l = meeting.peeked _ _ (peek .ensures) (t .given .1) in
     meeting.meets-leaf (reading.word (args .role)) _ _ pre _ _ l _ _ _ _ (take-token .ensures .0)
     (take-token .ensures .1) _ (chosen _ _ _ (eq-eqb _ _ (if1 .left)))
-    (_, record { bytes = refl; within = meeting.token-within _ _ _ (l .token) }, refl)
+    (_, record { bytes = refl; within = meeting.token-within _ _ _ (l .token) }, refl, places.ident-leaf _ _ _ pre l)
 
 returns-4 : tie.Need-returns-4
 returns-4 c =
@@ -114,7 +115,7 @@ returns-5 c =
     let m = subst⁻¹ (λ b. contract.Moved (a .s .now) (a .c) (w-2 .given .0 .0 .next) (reading.copied (a .role) (at (a .s .now) (t2 .given .0 .0 .next) .here)) (head (at (a .s .now) (t2 .given .0 .0 .next) .outer)) (a .roles .now) b) ((c .before .before .fill) .ensures) (meeting.group-moved (a .s .now) (a .c) (t2 .given .0 .0) pre (a .roles .now) (a .role) (w-2 .given .0 .0 .next) g (w .4)) in
     meeting.meets-group (reading.word (a .role)) (a .s .now) (a .c) pre _ (t2 .given .0 .0) g (w-2 .given .0 .0 .next)
     (a .roles .now) _ _ m _ (chosen _ _ _ (w .0))
-    (_, w .1, ap (reading.found (reading.textOf (at (a .s .now) (t2 .given .0 .0 .next) .here))) (sym (w .3)))
+    (_, w .1, ap (reading.found (reading.textOf (at (a .s .now) (t2 .given .0 .0 .next) .here))) (sym (w .3)), places.ident-group _ _ _ _ g (w .5))
 
 pub consume-ident-spec : {M : Type 1} → statement M
 consume-ident-spec =

@@ -1,3 +1,4 @@
+use Rattle.parse.proofs.Places as places
 use Rattle.token_list.proofs.Streams.{skipped-open}
 use Rattle.token_list.specs.declared.check.Cursor.{Cursor}
 use Rattle.token_list.specs.Contract.{Skipped}
@@ -105,6 +106,7 @@ returns-6 c =
       if1 .left,
       refl,
       meeting.leaf-skipped (a .s .now) (a .inside) (c .skip .result) (t .given .0 .0) l (subst (λ (x : Cursor). Skipped (a .s .now) x (c .skip .result)) (p .ensures) (skipped-open (a .s .now) (p .result) (c .skip .result) within-group (c .skip .ensures))),
+      places.token-in _ _ _ (pre .0) (l .token),
     )
 
 pub lone-ident-spec : {M : Type 1} → statement M

@@ -5,7 +5,7 @@ use Rattle.parse.specs.declared.utils.Stops.{Stops}
 use Rattle.token_list.specs.declared.check.Cursor.{Cursor}
 use lib.ListN.{length}
 use Prim.Native.Nat.{ℕ, _-_}
-use mathlib.Core.List.{List}
+use mathlib.Core.List.{List, []}
 use Rattle.parse.proofs.Meeting as meeting
 use Rattle.parse.specs.Contract as contract
 use Rattle.reading.specs.Reading as reading
@@ -77,8 +77,9 @@ returns-2 : tie.Need-returns-2 Inv-loop μ-loop
 returns-2 c =
     let loop = c .before .before .before .before .before .before .before .loop in
     let turn = c .before .before .before .before .before .turn in
+    let b = told _ _ _ _ _ _ _ _ (turn .ensures) ((c .before .r) .given .1) in
     meeting.going-meets (loop .inv .going)
-    (meeting.meets-as (told _ _ _ _ _ _ _ _ (turn .ensures) ((c .before .r) .given .1)) contract.refuses)
+    (meeting.meets-as (b .0) (contract.refuses [] (b .1)))
 
 pub read-tokens-until-punct-spec : {M : Type 1} → statement M
 read-tokens-until-punct-spec =

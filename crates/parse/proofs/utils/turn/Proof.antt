@@ -121,11 +121,13 @@ returns-4 c =
     let peek = c .before .before .before .before .before .before .peek in
     let t = c .before .before .before .before .t in
     let l = meeting.peeked _ _ (peek .ensures) (t .given .1) in
-    let a = args in
-    turns.turn-leaf-unopened (stopsOf (a .stops)) (a .role) (a .s .now) (a .c) (pre .0) (a .depth) (a .minus)
-    (t .given .0 .0) l
-    (turns.judge-of (stopsOf (a .stops)) (a .depth) (a .minus) _ _ _ (l .token) ∙ sym
-    ((c .before .before .judge) .ensures) ∙ ap verdictOf ((c .enum-told2) .given .1))
+    let a = args in (
+      turns.turn-leaf-unopened (stopsOf (a .stops)) (a .role) (a .s .now) (a .c) (pre .0) (a .depth) (a .minus)
+          (t .given .0 .0) l
+          (turns.judge-of (stopsOf (a .stops)) (a .depth) (a .minus) _ _ _ (l .token) ∙ sym
+          ((c .before .before .judge) .ensures) ∙ ap verdictOf ((c .enum-told2) .given .1)),
+      refl,
+    )
 
 same-length-2 : tie.Need-same-length-2
 same-length-2 c = search needs
@@ -169,9 +171,11 @@ returns-7 c =
     let peek = c .before .before .before .before .before .before .peek in
     let t2 = c .before .before .before .before .t2 in
     let g = meeting.peeked _ _ (peek .ensures) (t2 .given .1) in
-    let a = args in
-    turns.turn-group-unopened (stopsOf (a .stops)) (a .role) (a .s .now) (a .c) (pre .0) (a .depth) (a .minus)
-    (t2 .given .0 .0) g (sym ((c .before .before .judge-group) .ensures) ∙ ap verdictOf ((c .enum-told3) .given .1))
+    let a = args in (
+      turns.turn-group-unopened (stopsOf (a .stops)) (a .role) (a .s .now) (a .c) (pre .0) (a .depth) (a .minus)
+          (t2 .given .0 .0) g (sym ((c .before .before .judge-group) .ensures) ∙ ap verdictOf ((c .enum-told3) .given .1)),
+      refl,
+    )
 
 pub turn-spec : {M : Type 1} → statement M
 turn-spec =
