@@ -8,7 +8,7 @@ use borrow.Author.Tests.{ltb-true, ltb-false}
 use lib.Dec.{ltb}
 use lib.ListN.{length, replicate, length-append, length-replicate}
 use Rattle.token_list.specs.Check as list
-use Rattle.token_list.specs.Stream.{Trees, size, at, rowsAt}
+use Rattle.token_list.specs.Stream.{Trees, size, at}
 use Rattle.token_list.proofs.Passed.{passed-list}
 use Rattle.reading.specs.Role as role
 use Rattle.reading.specs.Grammar.{Obeys, everything}
@@ -46,8 +46,8 @@ never e = let z : _≡_ {A = ℕ} 0 1 = cc in omega arith
 -- ## Lists
 
 module _ (s : List ℕ) where
-  one-each : (k : ℕ) → list.check s ≡ list.Answer.passed k → (roles : List ℕ) → Assignment s roles → OneEach s roles
-  one-each k e roles o = let p = passed-list s k e in record { counted = obeys-length roles o ∙ p .size ∙ sym (p .count); named = obeys-roles everything o }
+  one-each : (k : ℕ) → list.check s ≡ list.Answer.passed k → (roles : List ℕ) → Assignment s roles → OneEach k roles
+  one-each k e roles o = record { counted = obeys-length roles o ∙ passed-list s k e .size; named = obeys-roles everything o }
 
   module _ (n : ℕ) where
     -- nothing is accepted
@@ -66,13 +66,11 @@ module _ (s : List ℕ) where
         → SingleAssignment s n (accepts (declared d rs)) (buffer n (declared d rs))
     accepting k d rs e l o =
         let c = one-each k e rs o in
-        let p = passed-list s k e in
-        let fits : length rs ≤ n = omega (arith, c .counted, p .count) in
         record {
           exactly = λ j f i. ((λ t. (rs, o)), (λ t. refl));
           unique = obeys-unique;
           each = one-each;
-          filled = λ f. (rs, o, c, fits, refl);
+          filled = λ f. (k, e, l, rs, o, c, ap (λ (m : ℕ). rs ++ replicate (n - m) 255) (c .counted));
           cleared = λ f. absurd (true≢false f);
         }
 

@@ -8,7 +8,7 @@ use lib.Dec.{ltb}
 use lib.ListN.{length, replicate}
 use Rattle.token_list.specs.Text.{all}
 use Rattle.token_list.specs.Check.{check, passed}
-use Rattle.token_list.specs.Stream.{Trees, at, rowsAt}
+use Rattle.token_list.specs.Stream.{Trees, at}
 use Rattle.reading.specs.Grammar.{Obeys, everything}
 
 -- the stream of all rows of a list, after its line of names
@@ -19,9 +19,9 @@ stream s = at s 10 .here
 abbrev pub Assignment : List ℕ → List ℕ → Type 0
 Assignment s roles = Obeys everything (stream s) roles
 
--- one role for each row, each of the nineteen
-pub record OneEach (s roles : List ℕ) : Type 0 where
-  pub counted : length roles ≡ length (rowsAt s 10)
+-- one role for each of so many rows, each of the nineteen
+pub record OneEach (rows : ℕ) (roles : List ℕ) : Type 0 where
+  pub counted : length roles ≡ rows
   pub named : all (λ r. ltb r 19) roles ≡ true
 
 -- Of a list s and a role buffer of `room` bytes: whether the list was accepted, and the buffer's final bytes.
@@ -30,10 +30,11 @@ pub record SingleAssignment (s : List ℕ) (room : ℕ) (accepted : Bool) (buffe
   pub exactly : (rows : ℕ) → check s ≡ passed rows → rows ≤ room → (accepted ≡ true) ↔ ((roles : List ℕ) × Assignment s roles)
   -- any two assignments that obey are equal
   pub unique : (roles others : List ℕ) → Assignment s roles → Assignment s others → roles ≡ others
-  -- in a list that passes refusals 1 to 7 each row has its role
-  pub each : (rows : ℕ) → check s ≡ passed rows → (roles : List ℕ) → Assignment s roles → OneEach s roles
-  -- on acceptance the first bytes are the assignment that obeys, and all bytes after it are 255
+  -- in a list that passes refusals 1 to 7 each row that was counted has its role
+  pub each : (rows : ℕ) → check s ≡ passed rows → (roles : List ℕ) → Assignment s roles → OneEach rows roles
+  -- on acceptance the list passes, with a byte a row; the first bytes are the assignment that obeys, and all bytes after it are 255
   pub filled : accepted ≡ true
-      → (roles : List ℕ) × Assignment s roles × OneEach s roles × (length roles ≤ room) × (buffer ≡ roles ++ replicate (room - length roles) 255)
+      → (rows : ℕ) × (check s ≡ passed rows) × (rows ≤ room)
+      × (roles : List ℕ) × Assignment s roles × OneEach rows roles × (buffer ≡ roles ++ replicate (room - rows) 255)
   -- on refusal every byte is 255
   pub cleared : accepted ≡ false → buffer ≡ replicate room 255
