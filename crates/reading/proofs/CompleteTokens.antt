@@ -211,7 +211,7 @@ no-group (group d ts us) e row = absurd (false≢true (sym e))
 visibility-taken : {ts us : Trees} {rs : List ℕ} → g.Visibility everything ts us rs → (row : ℕ) → r.visibility row ts ≡ took tt rs us
 visibility-taken (g.Visibility.none {ts = ts} e) row = visibility-none ts e row
 visibility-taken (g.Visibility.plain {q = q} {us = us} e f) row = chosen (isWord PUB q) _ _ e ∙ ap (onward (role.visibility ∷ [])) (no-scope us f (row + 1))
-visibility-taken (g.Visibility.with-scope {q = q} {d = d} {ts = ts} {us = us} e f) row =
+visibility-taken (g.Visibility.with-scope {q = q} {d = d} {ts = ts} {us = us} e f u) row =
     chosen (isWord PUB q) _ _ e ∙ ap (onward (role.visibility ∷ [])) (chosen (g.startsScope (group d ts us)) _ _ f)
 visibility-taken (g.Visibility.wrapped {d = d} {ts = ts} {us = us} a e f) row =
     chosen (lone (isWord PUB) ts) _ _ e

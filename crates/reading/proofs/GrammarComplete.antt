@@ -112,7 +112,7 @@ and-comma h k = and-then h (λ a y. comma-complete a k)
 
 parameter-complete : {t : Bool} {ts us vs : Trees} {ps cs : List ℕ} (angle : ℕ) → g.Parameter everything ts us ps → g.Mark everything 44 t us vs cs
     → (row : ℕ) → Taken Another (r.parameter angle row ts) (ps ++ cs) vs
-parameter-complete angle (g.Parameter.lifetime {q = q} {p = p} e f b) m row =
+parameter-complete angle (g.Parameter.lifetime {q = q} {p = p} e f u b) m row =
     same-as (chosen (isPunct 39 q) _ _ e) (from-complete role.parameter-name row (and-comma (lifetimeAfter-complete row p f b) m))
 parameter-complete angle (g.Parameter.constant {q = q} {p = p} e f b u) m row =
     let i = and-parts (isIdent q) (same (q .text) CONST) e .0 in

@@ -55,7 +55,7 @@ module _ (allowed : Difference → Bool) where
   visibility-roles : {ts us : Trees} {rs : List ℕ} → g.Visibility allowed ts us rs → Named rs
   visibility-roles (g.Visibility.none e) = refl
   visibility-roles (g.Visibility.plain a b) = refl
-  visibility-roles (g.Visibility.with-scope {ts = ts} a b) = repeated (whole ts) role.scope refl
+  visibility-roles (g.Visibility.with-scope {ts = ts} a b u) = repeated (whole ts) role.scope refl
   visibility-roles (g.Visibility.wrapped {ts = ts} a b c) = repeated (whole ts) role.visibility refl
   visibility-roles (g.Visibility.wrapped-scoped {ts = ts} {us = us} a b c) =
       both (copied role.visibility ts) (copied role.scope us) (repeated (whole ts) role.visibility refl) (repeated (whole us) role.scope refl)
@@ -69,7 +69,7 @@ module _ (allowed : Difference → Bool) where
   bound-roles (g.Bound.bound e h) = run-roles refl h
 
   parameter-roles : {ts us : Trees} {rs : List ℕ} → g.Parameter allowed ts us rs → Named rs
-  parameter-roles (g.Parameter.lifetime a b h) = bound-roles h
+  parameter-roles (g.Parameter.lifetime a b u h) = bound-roles h
   parameter-roles (g.Parameter.constant a b h u) = bound-roles h
   parameter-roles (g.Parameter.plain a b c d) = refl
   parameter-roles (g.Parameter.bounded a b c h) = run-roles refl h

@@ -71,7 +71,9 @@ module _ (q : Row) where
     where
       go : {us : Trees} (n rs : List ℕ) (vs : Trees) → ParameterName us rs vs → (row : ℕ)
           → Meets (λ x qs ws. Named us (rs ++ qs) ws) ((r.marked-run 58 >>= λ b. pure (Parameter.lifetime n b)) row vs)
-      go n rs vs (name f) row = after-met row (marked-run-sound 58 row vs) (λ b qs ws h row. met [] ws (rw append-nil (g.Parameter.lifetime e f (bound-of h))))
+      go n rs vs (name f) row =
+          after-met row (marked-run-sound 58 row vs)
+          (λ b qs ws h row. met [] ws (rw append-nil (g.Parameter.lifetime e f refl (bound-of h))))
 
   constant-sound : (row : ℕ) (us : Trees) → isWord CONST q ≡ true → Meets (λ x rs vs. Named us rs vs) (r.constantAfter row us)
   constant-sound row us e = after-met row (parameterName-sound 27 65535 row us) go

@@ -1,11 +1,13 @@
 -- What the role grammar admits with some differences, it admits with more: so with any of them there is at most one assignment.
 use mathlib.Core.Path.{_≡_, refl, ap, _∙_, sym}
-use mathlib.Core.Bool.{Bool, true, false, _||_, or-true}
+use mathlib.Core.Bool.{Bool, true, false, _||_, or-true, false≢true}
 use mathlib.Core.List.{List}
 use Prim.Native.Nat.{ℕ}
 use Rattle.token_list.specs.Row.{Row}
-use Rattle.token_list.specs.Stream.{Trees}
-use Rattle.reading.specs.Token.{Stops}
+use Rattle.token_list.specs.Stream.{Trees, end, leaf, group}
+use Rattle.token_list.proofs.Texts.{and-parts, and-both}
+use Rattle.reading.specs.Keyword.{identifier}
+use Rattle.reading.specs.Token.{isIdent, lone, Stops}
 use Rattle.reading.specs.Grammar as g
 use Rattle.reading.specs.Grammar.{Difference, everything}
 use Rattle.reading.proofs.Promise.{obeys-unique}
@@ -29,9 +31,23 @@ module _ (fewer more : Difference → Bool) (wider : (d : Difference) → fewer 
   run (g.Run.inside a h) = g.Run.inside a (run h)
   run (g.Run.ended u) = g.Run.ended (unless g.open-angle _ u)
 
-  word : {is : Row → Bool} {r : ℕ} {ts us : Trees} {rs : List ℕ} → g.Word fewer is r ts us rs → g.Word more is r ts us rs
-  word (g.Word.ident a) = g.Word.ident a
-  word (g.Word.wrapped u a) = g.Word.wrapped (wider g.one-word-group u) a
+  -- a word passes a wider test
+  word : {is was : Row → Bool} {r : ℕ} {ts us : Trees} {rs : List ℕ} → ((q : Row) → was q ≡ true → is q ≡ true)
+      → g.Word fewer was r ts us rs → g.Word more is r ts us rs
+  word k (g.Word.ident a) = g.Word.ident (k _ a)
+  word {is} {was} k (g.Word.wrapped {ts = ts} u a) = g.Word.wrapped (wider g.one-word-group u) (alone ts a)
+    where
+      alone : (ts : Trees) → lone was ts ≡ true → lone is ts ≡ true
+      alone end e = absurd (false≢true e)
+      alone (group d ts us) e = absurd (false≢true e)
+      alone (leaf q end) e = k q e
+      alone (leaf q (leaf p us)) e = absurd (false≢true e)
+      alone (leaf q (group d ts us)) e = absurd (false≢true e)
+
+  name : (q : Row) → g.isName fewer q ≡ true → g.isName more q ≡ true
+  name q e =
+      let p = and-parts _ (isIdent q) e in
+      and-both _ (isIdent q) (unless g.keyword-as-name (identifier (q .text)) (p .0)) (p .1)
 
   attributes : {ts us : Trees} {rs : List ℕ} → g.Attributes fewer ts us rs → g.Attributes more ts us rs
   attributes (g.Attributes.none e) = g.Attributes.none e
@@ -41,7 +57,7 @@ module _ (fewer more : Difference → Bool) (wider : (d : Difference) → fewer 
   visibility : {ts us : Trees} {rs : List ℕ} → g.Visibility fewer ts us rs → g.Visibility more ts us rs
   visibility (g.Visibility.none e) = g.Visibility.none e
   visibility (g.Visibility.plain a b) = g.Visibility.plain a b
-  visibility (g.Visibility.with-scope a b) = g.Visibility.with-scope a b
+  visibility (g.Visibility.with-scope a b u) = g.Visibility.with-scope a b (unless g.scope-contents _ u)
   visibility (g.Visibility.wrapped u a b) = g.Visibility.wrapped (wider g.wrapped-pub u) a b
   visibility (g.Visibility.wrapped-scoped u v a) = g.Visibility.wrapped-scoped (wider g.wrapped-pub u) (wider g.any-scope v) a
 
@@ -54,11 +70,14 @@ module _ (fewer more : Difference → Bool) (wider : (d : Difference) → fewer 
   bound (g.Bound.bound e h) = g.Bound.bound e (run h)
 
   parameter : {ts us : Trees} {rs : List ℕ} → g.Parameter fewer ts us rs → g.Parameter more ts us rs
-  parameter (g.Parameter.lifetime a b h) = g.Parameter.lifetime a b (bound h)
-  parameter (g.Parameter.constant a b h u) = g.Parameter.constant a b (bound h) (unless g.const-without-type _ u)
-  parameter (g.Parameter.plain a b c d) = g.Parameter.plain a b c d
-  parameter (g.Parameter.bounded a b c h) = g.Parameter.bounded a b c (run h)
-  parameter (g.Parameter.defaulted a b c h u) = g.Parameter.defaulted a b c (run h) (unless g.empty-type _ u)
+  parameter (g.Parameter.lifetime {p = p} a b u h) =
+      g.Parameter.lifetime a (name p b) (unless g.raw-lifetime _ u) (bound h)
+  parameter (g.Parameter.constant {p = p} a b h u) =
+      g.Parameter.constant a (name p b) (bound h) (unless g.const-without-type _ u)
+  parameter (g.Parameter.plain {q = q} a b c d) = g.Parameter.plain a (name q b) c d
+  parameter (g.Parameter.bounded {q = q} a b c h) = g.Parameter.bounded a (name q b) c (run h)
+  parameter (g.Parameter.defaulted {q = q} a b c h u) =
+      g.Parameter.defaulted a (name q b) c (run h) (unless g.empty-type _ u)
 
   parameters : {ts us : Trees} {rs : List ℕ} → g.Parameters fewer ts us rs → g.Parameters more ts us rs
   parameters (g.Parameters.close e) = g.Parameters.close e
@@ -74,7 +93,8 @@ module _ (fewer more : Difference → Bool) (wider : (d : Difference) → fewer 
   clause (g.Clause.clause e h u) = g.Clause.clause e (run h) (unless g.where-ends-at-group _ u)
 
   namedField : {ts us : Trees} {rs : List ℕ} → g.NamedField fewer ts us rs → g.NamedField more ts us rs
-  namedField (g.NamedField.field a b c d h u m) = g.NamedField.field (attributes a) (visibility b) c d (run h) (unless g.empty-type _ u) (mark m)
+  namedField (g.NamedField.field {q = q} a b c d h u m) =
+      g.NamedField.field (attributes a) (visibility b) (name q c) d (run h) (unless g.empty-type _ u) (mark m)
 
   namedFields : {ts : Trees} {rs : List ℕ} → g.NamedFields fewer ts rs → g.NamedFields more ts rs
   namedFields (g.NamedFields.last a b u) = g.NamedFields.last (attributes a) (visibility b) (unless g.lone-field-start _ u)
@@ -97,9 +117,10 @@ module _ (fewer more : Difference → Bool) (wider : (d : Difference) → fewer 
   value (g.Value.negative a b c d) = g.Value.negative a b c d
 
   variant : {ts us : Trees} {rs : List ℕ} → g.Variant fewer ts us rs → g.Variant more ts us rs
-  variant (g.Variant.plain a b f m p) = g.Variant.plain (attributes a) (word b) (variantFields f) (mark m) p
+  variant (g.Variant.plain a b f m p) = g.Variant.plain (attributes a) (word name b) (variantFields f) (mark m) p
   variant (g.Variant.valued a b f v m u w) =
-      g.Variant.valued (attributes a) (word b) (variantFields f) (value v) (mark m) (unless g.comma-after-value _ u) (unless g.group-and-value _ w)
+      g.Variant.valued (attributes a) (word name b) (variantFields f) (value v) (mark m)
+      (unless g.comma-after-value _ u) (unless g.group-and-value _ w)
 
   variants : {ts : Trees} {rs : List ℕ} → g.Variants fewer ts rs → g.Variants more ts rs
   variants g.Variants.last = g.Variants.last
@@ -115,7 +136,7 @@ module _ (fewer more : Difference → Bool) (wider : (d : Difference) → fewer 
   enumBody (g.EnumBody.variants u h) = g.EnumBody.variants (unless g.enum-delimiter _ u) (variants h)
 
   head : {is : Row → Bool} {ts us : Trees} {rs : List ℕ} → g.Head fewer is ts us rs → g.Head more is ts us rs
-  head (g.Head.head a b) = g.Head.head (word a) (word b)
+  head (g.Head.head a b) = g.Head.head (word (λ q e. e) a) (word name b)
 
   item : {tuple : Bool} {ts us : Trees} {rs : List ℕ} → g.Item fewer tuple ts us rs → g.Item more tuple ts us rs
   item (g.Item.struct a b c d e f) = g.Item.struct (attributes a) (visibility b) (head c) (generics d) (clause e) (structBody f)
@@ -125,7 +146,7 @@ module _ (fewer more : Difference → Bool) (wider : (d : Difference) → fewer 
   leftOver g.LeftOver.none = g.LeftOver.none
   leftOver (g.LeftOver.semicolon e) = g.LeftOver.semicolon e
   leftOver (g.LeftOver.without-semicolon u) = g.LeftOver.without-semicolon (wider g.tuple-without-semicolon u)
-  leftOver (g.LeftOver.clause u e) = g.LeftOver.clause (wider g.tuple-where u) e
+  leftOver (g.LeftOver.clause u e h f) = g.LeftOver.clause (wider g.tuple-where u) e (run h) f
   leftOver (g.LeftOver.rows u) = g.LeftOver.rows (wider g.left-over-rows u)
 
   pub obeys : {ts : Trees} {rs : List ℕ} → g.Obeys fewer ts rs → g.Obeys more ts rs

@@ -47,7 +47,8 @@ never e = let z : _≡_ {A = ℕ} 0 1 = cc in omega arith
 
 module _ (s : List ℕ) where
   one-each : (k : ℕ) → list.check s ≡ list.Answer.passed k → (roles : List ℕ) → Assignment s roles → OneEach k roles
-  one-each k e roles o = record { counted = obeys-length roles o ∙ passed-list s k e .size; named = obeys-roles everything o }
+  one-each k e roles o =
+      record { counted = obeys-length roles o ∙ passed-list s k e .size; named = obeys-roles everything o }
 
   module _ (n : ℕ) where
     -- nothing is accepted

@@ -145,7 +145,8 @@ scopeAfter-sound : (row : ℕ) (q : Row) (us : Trees) → isWord PUB q ≡ true
 scopeAfter-sound row q end e = met [] end (g.Visibility.plain e refl)
 scopeAfter-sound row q (leaf p us) e = met [] (leaf p us) (g.Visibility.plain e refl)
 scopeAfter-sound row q (group d ts us) e =
-    choice (g.startsScope (group d ts us)) (λ f. met (copied role.scope ts) us (g.Visibility.with-scope e f)) (λ f. met [] (group d ts us) (g.Visibility.plain e f))
+    choice (g.startsScope (group d ts us)) (λ f. met (copied role.scope ts) us (g.Visibility.with-scope e f refl))
+    (λ f. met [] (group d ts us) (g.Visibility.plain e f))
 
 anyScope-sound : (row d : ℕ) (ts us : Trees) → lone (isWord PUB) ts ≡ true
     → Meets (λ x rs vs. g.Visibility everything (group d ts us) vs (copied role.visibility ts ++ rs)) (r.anyScope row us)

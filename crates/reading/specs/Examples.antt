@@ -2,11 +2,11 @@
 use mathlib.Core.Bool.{Bool, true, false, _&&_}
 use mathlib.Core.List.{List, [], _∷_}
 use Prim.Native.Nat.{ℕ}
-use Prim.Native.Char.{code}
-use Prim.Native.String.{String, [] as empty, _∷_ as _and_}
+use Prim.Native.String.{String}
 use lib.Dec.{eqb}
 use Rattle.token_list.specs.Check.{END}
 use Rattle.token_list.specs.Text.{same}
+use Rattle.reading.specs.Bytes.{bytes}
 use Rattle.reading.specs.Answer.{Answer, declared, answer}
 
 -- what the paper says: the roles, only that the list is accepted, or a refusal's number and place
@@ -18,11 +18,6 @@ pub data Expected : Type 0 where
 pub record Example : Type 0 where
   pub list : String
   pub expected : Expected
-
--- the bytes of an ASCII text
-abbrev pub bytes : String → List ℕ
-bytes empty = []
-bytes (_and_ c s) = code c ∷ bytes s
 
 abbrev pub agrees : Expected → Answer → Bool
 agrees (roles rs) (declared d qs) = same rs qs

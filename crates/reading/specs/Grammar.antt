@@ -4,29 +4,37 @@
 -- Productions are those of the Rust Reference 1.63. Bytes: `#` 35, `'` 39, `(` 40, `,` 44, `-` 45, `:` 58, `;` 59, `<` 60,
 -- `=` 61, `>` 62, `[` 91, `{` 123.
 use mathlib.Core.Path.{_≡_}
-use mathlib.Core.Bool.{Bool, true, false, not, _&&_, _||_}
+use mathlib.Core.Bool.{Bool, true, false, cond, not, _&&_, _||_}
 use mathlib.Core.List.{List, [], _∷_, _++_}
 use Prim.Native.Nat.{ℕ, _+_, _-_}
 use lib.Dec.{eqb, leb}
 use lib.ListN.{length, replicate}
+use Rattle.token_list.specs.Text.{rawName}
 use Rattle.token_list.specs.Row.{Row}
 use Rattle.token_list.specs.Stream.{Trees, end, leaf, group, size}
 use Rattle.reading.specs.Role as role
-use Rattle.reading.specs.Token.{isIdent, isLiteral, isPunct, isWord, copied, lone, starts, opens, isGroup, isEnd, scoped, negatable, PUB, STRUCT, ENUM, CONST, WHERE, Stops, parameterStops, fieldStops, clauseStops}
+use Rattle.reading.specs.Token.{isIdent, isLiteral, isPunct, isWord, copied, lone, starts, opens, isGroup, isEnd, scoped, negatable, PUB, STRUCT, ENUM, CONST, WHERE, Stops, parameterStops, fieldStops, clauseStops, noStops}
+use Rattle.reading.specs.Keyword.{identifier}
+use Rattle.reading.specs.SimplePath.{scopeForm}
 
--- Where document 01, with the Rust, admits what the Reference refuses or reads otherwise: docs/DIFFERENCES.md has an entry for
--- each. What stands inside runs, copied groups and names is not looked at, so these of its entries are no cases here:
--- keyword-as-name, lifetime-name, default-in-bound, scope-contents, attribute-contents, run-contents.
+-- Where document 01, with the Rust, admits what the Reference refuses or reads otherwise: docs/DIFFERENCES.md has an
+-- entry for each. What stands inside runs and attributes is not looked at, so these of its entries are no cases here:
+-- default-in-bound, attribute-contents, run-contents.
 pub data Difference : Type 0 where
-  where-ends-at-group tuple-where tuple-without-semicolon left-over-rows comma-after-value comma-after-parameter : Difference
-  enum-delimiter enum-semicolon group-and-value parameter-order const-without-type open-angle wrapped-pub any-scope : Difference
-  idle-mark one-word-group empty-type lone-field-start : Difference
+  where-ends-at-group tuple-where tuple-without-semicolon left-over-rows comma-after-value : Difference
+  comma-after-parameter enum-delimiter enum-semicolon group-and-value keyword-as-name raw-lifetime : Difference
+  parameter-order const-without-type open-angle scope-contents wrapped-pub any-scope idle-mark : Difference
+  one-word-group empty-type lone-field-start : Difference
 
 -- all of them: document 01's grammar
 abbrev pub everything : Difference → Bool
 everything d = true
 
--- none of them: the Reference's productions, up to what stands inside runs, copied groups and names
+-- None of them: what document 01 and the Reference read alike, up to what stands inside runs, attributes and literals.
+-- Refused then, though the Reference admits it: a `where` that goes on past a parenthesis or brace, or to a `;`; `pub`
+-- before a type in parentheses that begins with `crate`, `self` or `super`; a variant's visibility, a parameter's
+-- attributes; a value other than a literal or `-` and digits, and the least i64; `union`; a group without delimiter
+-- around any of these forms.
 abbrev pub nothing : Difference → Bool
 nothing d = false
 
@@ -53,6 +61,12 @@ startsVisibility end = false
 startsVisibility (leaf q us) = isWord PUB q
 startsVisibility (group d ts us) = lone (isWord PUB) ts
 
+-- the last token is `;`, and no other is
+abbrev pub closes : Trees → Bool
+closes end = false
+closes (leaf q us) = cond (isPunct 59 q) (isEnd us) (closes us)
+closes (group d ts us) = closes us
+
 -- the group after a plain `pub` that is its scope
 abbrev pub startsScope : Trees → Bool
 startsScope end = false
@@ -63,6 +77,10 @@ module _ (allowed : Difference → Bool) where
   -- what the Reference asks for here, unless the difference is allowed
   abbrev pub Unless : Difference → Bool → Type 0
   Unless d b = (allowed d || b) ≡ true
+
+  -- an `i` row as a name. IDENTIFIER, which no keyword is
+  abbrev pub isName : Row → Bool
+  isName q = (allowed keyword-as-name || identifier (q .text)) && isIdent q
 
   -- ## Runs: `Run st r depth minus` goes on at that depth, with `-` the last token or not; its rows have the role r
 
@@ -125,7 +143,9 @@ module _ (allowed : Difference → Bool) where
     plain : {q : Row} {us : Trees}
         → isWord PUB q ≡ true → startsScope us ≡ false → Visibility (leaf q us) us (role.visibility ∷ [])
     -- then, if a parenthesis group whose first token is an `i` row `crate`, `self`, `super` or `in` follows, that group
-    with-scope : {q : Row} {d : ℕ} {ts us : Trees} → isWord PUB q ≡ true → startsScope (group d ts us) ≡ true
+    -- (the Reference has nothing more in it, but a SimplePath after `in`)
+    with-scope : {q : Row} {d : ℕ} {ts us : Trees}
+        → isWord PUB q ≡ true → startsScope (group d ts us) ≡ true → Unless scope-contents (scopeForm ts)
         → Visibility (leaf q (group d ts us)) us (role.visibility ∷ copied role.scope ts)
     -- or a group holding only `pub`
     wrapped : {d : ℕ} {ts us : Trees} → allowed wrapped-pub ≡ true → lone (isWord PUB) ts ≡ true → isGroup us ≡ false
@@ -150,25 +170,27 @@ module _ (allowed : Difference → Bool) where
         → isPunct 58 c ≡ true → Run parameterStops role.bound 0 false us vs rs → Bound (leaf c us) vs (role.separator ∷ rs)
 
   pub data Parameter : Trees → Trees → List ℕ → Type 0 where
-    -- `'` and an `i` row with optional `:` and run. LifetimeParam
+    -- `'` and an `i` row with optional `:` and run. LifetimeParam: LIFETIME_OR_LABEL is `'` and NON_KEYWORD_IDENTIFIER
     lifetime : {q p : Row} {us vs : Trees} {rs : List ℕ}
-        → isPunct 39 q ≡ true → isIdent p ≡ true → Bound us vs rs
+        → isPunct 39 q ≡ true → isName p ≡ true → Unless raw-lifetime (not (rawName (p .text))) → Bound us vs rs
         → Parameter (leaf q (leaf p us)) vs (role.parameter-name ∷ role.parameter-name ∷ rs)
     -- `const`, an `i` row, optional `:` and run. ConstParam has both, with a Type
     constant : {q p : Row} {us vs : Trees} {rs : List ℕ}
-        → isWord CONST q ≡ true → isIdent p ≡ true → Bound us vs rs → Unless const-without-type (leb 2 (length rs))
+        → isWord CONST q ≡ true → isName p ≡ true → Bound us vs rs → Unless const-without-type (leb 2 (length rs))
         → Parameter (leaf q (leaf p us)) vs (role.parameter-name ∷ role.parameter-name ∷ rs)
     -- another `i` row. TypeParam
     plain : {q : Row} {us : Trees}
-        → isWord CONST q ≡ false → isIdent q ≡ true → starts (isPunct 58) us ≡ false → starts (isPunct 61) us ≡ false
+        → isWord CONST q ≡ false → isName q ≡ true → starts (isPunct 58) us ≡ false → starts (isPunct 61) us ≡ false
         → Parameter (leaf q us) us (role.parameter-name ∷ [])
     -- then optionally `:` and run
     bounded : {q c : Row} {us vs : Trees} {rs : List ℕ}
-        → isWord CONST q ≡ false → isIdent q ≡ true → isPunct 58 c ≡ true → Run parameterStops role.bound 0 false us vs rs
+        → isWord CONST q ≡ false → isName q ≡ true → isPunct 58 c ≡ true
+        → Run parameterStops role.bound 0 false us vs rs
         → Parameter (leaf q (leaf c us)) vs (role.parameter-name ∷ role.separator ∷ rs)
     -- or `=` and run; a default is a Type
     defaulted : {q c : Row} {us vs : Trees} {rs : List ℕ}
-        → isWord CONST q ≡ false → isIdent q ≡ true → isPunct 61 c ≡ true → Run parameterStops role.bound 0 false us vs rs
+        → isWord CONST q ≡ false → isName q ≡ true → isPunct 61 c ≡ true
+        → Run parameterStops role.bound 0 false us vs rs
         → Unless empty-type (filled rs)
         → Parameter (leaf q (leaf c us)) vs (role.parameter-name ∷ role.separator ∷ rs)
 
@@ -198,7 +220,7 @@ module _ (allowed : Difference → Bool) where
 
   pub data NamedField : Trees → Trees → List ℕ → Type 0 where
     field : {comma : Bool} {q c : Row} {ts us vs ws xs : Trees} {ks bs rs cs : List ℕ}
-        → Attributes ts us ks → Visibility us (leaf q (leaf c vs)) bs → isIdent q ≡ true → isPunct 58 c ≡ true
+        → Attributes ts us ks → Visibility us (leaf q (leaf c vs)) bs → isName q ≡ true → isPunct 58 c ≡ true
         → Run fieldStops role.type 0 false vs ws rs → Unless empty-type (filled rs) → Mark 44 comma ws xs cs
         → NamedField ts xs (ks ++ (bs ++ (role.field-name ∷ role.separator ∷ rs ++ cs)))
 
@@ -244,13 +266,13 @@ module _ (allowed : Difference → Bool) where
   pub data Variant : Trees → Trees → List ℕ → Type 0 where
     -- attributes, a word, an optional group; then `,`, which may be absent at the end of the group
     plain : {comma : Bool} {ts us vs ws xs : Trees} {ks bs fs cs : List ℕ}
-        → Attributes ts us ks → Word isIdent role.variant-name us vs bs → VariantFields vs ws fs
+        → Attributes ts us ks → Word isName role.variant-name us vs bs → VariantFields vs ws fs
         → Mark 44 comma ws xs cs → (comma || isEnd xs) ≡ true
         → Variant ts xs (ks ++ (bs ++ (fs ++ cs)))
     -- the same with a value; then `,`, which may be absent at the end of the group or after a value. The Reference has a group
     -- or a value
     valued : {comma : Bool} {ts us vs ws xs ys : Trees} {ks bs fs es cs : List ℕ}
-        → Attributes ts us ks → Word isIdent role.variant-name us vs bs → VariantFields vs ws fs → Value ws xs es
+        → Attributes ts us ks → Word isName role.variant-name us vs bs → VariantFields vs ws fs → Value ws xs es
         → Mark 44 comma xs ys cs → Unless comma-after-value (comma || isEnd ys) → Unless group-and-value (not (filled fs))
         → Variant ts ys (ks ++ (bs ++ (fs ++ (es ++ cs))))
 
@@ -282,7 +304,7 @@ module _ (allowed : Difference → Bool) where
   -- a word that passes the test, and a word as name
   pub data Head (is : Row → Bool) : Trees → Trees → List ℕ → Type 0 where
     head : {ts us vs : Trees} {ks bs : List ℕ}
-        → Word is role.item-word ts us ks → Word isIdent role.item-name us vs bs → Head is ts vs (ks ++ bs)
+        → Word is role.item-word ts us ks → Word isName role.item-name us vs bs → Head is ts vs (ks ++ bs)
 
   pub data Item : Bool → Trees → Trees → List ℕ → Type 0 where
     struct : {tuple : Bool} {ts₀ ts₁ ts₂ ts₃ ts₄ ts₅ ts₆ : Trees} {ks bs cs ds es fs : List ℕ}
@@ -299,7 +321,11 @@ module _ (allowed : Difference → Bool) where
     -- a TupleStruct with `;`
     semicolon : {q : Row} → isPunct 59 q ≡ true → LeftOver true (leaf q end)
     without-semicolon : allowed tuple-without-semicolon ≡ true → LeftOver true end
-    clause : {ts : Trees} → allowed tuple-where ≡ true → starts (isWord WHERE) ts ≡ true → LeftOver true ts
+    -- with its WhereClause: `where`, then a run to the end, whose last token alone is `;`
+    clause : {q : Row} {us : Trees} {rs : List ℕ}
+        → allowed tuple-where ≡ true → isWord WHERE q ≡ true → Run noStops role.left-over 0 false us end rs
+        → closes us ≡ true
+        → LeftOver true (leaf q us)
     rows : {tuple : Bool} {ts : Trees} → allowed left-over-rows ≡ true → LeftOver tuple ts
 
   -- An assignment of roles to the rows of a stream obeys when they can be divided into an item; all rows after the body: 0.

@@ -32,7 +32,8 @@ pub record SingleAssignment (s : List ℕ) (room : ℕ) (accepted : Bool) (buffe
   pub unique : (roles others : List ℕ) → Assignment s roles → Assignment s others → roles ≡ others
   -- in a list that passes refusals 1 to 7 each row that was counted has its role
   pub each : (rows : ℕ) → check s ≡ passed rows → (roles : List ℕ) → Assignment s roles → OneEach rows roles
-  -- on acceptance the list passes, with a byte a row; the first bytes are the assignment that obeys, and all bytes after it are 255
+  -- on acceptance the list passes, with a byte a row; the first bytes are the assignment that obeys, and all bytes
+  -- after it are 255
   pub filled : accepted ≡ true
       → (rows : ℕ) × (check s ≡ passed rows) × (rows ≤ room)
       × (roles : List ℕ) × Assignment s roles × OneEach rows roles × (buffer ≡ roles ++ replicate (room - rows) 255)

@@ -7,6 +7,7 @@ use lib.ListN.{replicate}
 use Rattle.token_list.specs.Text.{same, all, digit}
 use Rattle.token_list.specs.Row.{Row, first}
 use Rattle.token_list.specs.Stream.{Trees, end, leaf, group, size}
+use Rattle.reading.specs.Bytes.{bytes}
 
 -- ## One token
 
@@ -33,25 +34,24 @@ copied r ts = replicate (whole ts) r
 -- ## Words
 
 abbrev pub PUB : List ℕ
-PUB = 112 ∷ 117 ∷ 98 ∷ []
+PUB = bytes "pub"
 
 abbrev pub STRUCT : List ℕ
-STRUCT = 115 ∷ 116 ∷ 114 ∷ 117 ∷ 99 ∷ 116 ∷ []
+STRUCT = bytes "struct"
 
 abbrev pub ENUM : List ℕ
-ENUM = 101 ∷ 110 ∷ 117 ∷ 109 ∷ []
+ENUM = bytes "enum"
 
 abbrev pub CONST : List ℕ
-CONST = 99 ∷ 111 ∷ 110 ∷ 115 ∷ 116 ∷ []
+CONST = bytes "const"
 
 abbrev pub WHERE : List ℕ
-WHERE = 119 ∷ 104 ∷ 101 ∷ 114 ∷ 101 ∷ []
+WHERE = bytes "where"
 
 -- crate, self, super or in
 abbrev pub scopeWord : Row → Bool
 scopeWord r =
-    isWord (99 ∷ 114 ∷ 97 ∷ 116 ∷ 101 ∷ []) r
-    || (isWord (115 ∷ 101 ∷ 108 ∷ 102 ∷ []) r || (isWord (115 ∷ 117 ∷ 112 ∷ 101 ∷ 114 ∷ []) r || isWord (105 ∷ 110 ∷ []) r))
+    isWord (bytes "crate") r || (isWord (bytes "self") r || (isWord (bytes "super") r || isWord (bytes "in") r))
 
 -- ## What stands first in a stream
 
@@ -121,3 +121,6 @@ fieldStops = record { comma = true; angle = false; group = false }
 
 abbrev pub clauseStops : Stops
 clauseStops = record { comma = false; angle = false; group = true }
+
+abbrev pub noStops : Stops
+noStops = record { comma = false; angle = false; group = false }
