@@ -6,7 +6,7 @@ use Rattle.token_list.specs.Check.{check}
 use Rattle.token_list.specs.Row.{formOf}
 use Rattle.token_list.specs.Stream.{before, at}
 use Rattle.reading.specs.Token.{negatable}
-use Rattle.reading.specs.Keyword.{identifier}
+use Rattle.reading.specs.Keyword.{keyword, identifier}
 use Rattle.reading.specs.SimplePath.{scopeForm}
 use Rattle.reading.specs.Answer.{answer}
 use Rattle.reading.specs.Bytes.{bytes}
@@ -23,7 +23,7 @@ paper = refl
 -- have their roles
 
 pub valve : Obeys nothing (stream (bytes VALVE)) (4 ∷ 6 ∷ 7 ∷ 14 ∷ 15 ∷ 10 ∷ 16 ∷ 10 ∷ 15 ∷ 14 ∷ 18 ∷ 14 ∷ 10 ∷ 15 ∷ 10 ∷ 16 ∷ 16 ∷ 14 ∷ [])
-unfolding before at negatable identifier
+unfolding before at negatable keyword
 valve =
     g.Obeys.obeys
     (g.Item.enum (g.Attributes.none refl) (g.Visibility.plain refl refl) (g.Head.head (g.Word.ident refl) (g.Word.ident refl)) (g.Generics.none refl) (g.Clause.none refl)
@@ -39,7 +39,7 @@ valve =
     g.LeftOver.none
 
 pub arrow : Obeys nothing (stream (bytes ARROW)) (6 ∷ 7 ∷ 8 ∷ 9 ∷ 10 ∷ 11 ∷ 11 ∷ 11 ∷ 11 ∷ 11 ∷ 11 ∷ 8 ∷ 14 ∷ 18 ∷ 14 ∷ 0 ∷ [])
-unfolding before at identifier
+unfolding before at keyword
 arrow =
     g.Obeys.obeys
     (g.Item.struct (g.Attributes.none refl) (g.Visibility.none refl) (g.Head.head (g.Word.ident refl) (g.Word.ident refl))
@@ -57,7 +57,7 @@ arrow =
 -- `union`, `r#fn`, but not `fn`, `try` and `_`
 pub names : (identifier (bytes "union") && identifier (bytes "r#fn")
     && not (identifier (bytes "fn") || identifier (bytes "try") || identifier (bytes "_"))) ≡ true
-unfolding identifier
+unfolding keyword
 names = refl
 
 -- `crate`, `in super : : a`, but not `crate : : X` and `in`
@@ -65,7 +65,7 @@ pub scopes : (scopeForm (stream (bytes "kind text\ni crate\n"))
     && scopeForm (stream (bytes "kind text\ni in\ni super\np :\np :\ni a\n"))
     && not (scopeForm (stream (bytes "kind text\ni crate\np :\np :\ni X\n"))
     || scopeForm (stream (bytes "kind text\ni in\n")))) ≡ true
-unfolding before at scopeForm identifier
+unfolding before at scopeForm keyword
 scopes = refl
 
 -- `where u8 : X ;` after a tuple struct's body, where that difference is allowed

@@ -27,9 +27,9 @@ abbrev pub oneOf : List String → List ℕ → Bool
 oneOf [] t = false
 oneOf (w ∷ ws) t = same t (bytes w) || oneOf ws t
 
-abbrev pub keyword : List ℕ → Bool
+unfoldable pub keyword : List ℕ → Bool
 keyword t = oneOf strict t || oneOf reserved t
 
 -- IDENTIFIER, of an `i` row's text: no keyword, and not `_`. A raw one, as `r#fn`, is no keyword.
-unfoldable pub identifier : List ℕ → Bool
-identifier t = not (keyword t || oneOf ("_" ∷ []) t)
+abbrev pub identifier : List ℕ → Bool
+identifier t = not (keyword t || same t (bytes "_"))
