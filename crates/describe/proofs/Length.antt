@@ -21,7 +21,7 @@ use Rattle.reading.specs.Took.{Took, took, refuse}
 use Rattle.reading.specs.Reading.{item}
 use Rattle.reading.proofs.Conserved.{Conserved, ownNumber, refusal-number, item-conserving}
 use Rattle.describe.specs.Listing.{line, numbered, parameterLine, namedLine, tupleLine, fieldLines, number, variantLines, bodyLines, kindText, listing, Answer, listed, refused, itemAnswer, checkedAnswer, whole, fitted, answer, answerText, MOST, Fits}
-use Rattle.describe.specs.Contract.{ListedAs}
+use Rattle.describe.specs.Contract.{ListedAs, Reported}
 use Rattle.describe.specs.declared.listing.Listed.the-variants as listeds
 use Rattle.describe.proofs.Costs.{total, parameterCost, fieldCost, typeCost, fieldsCost, valueCost, variantCost, bodyCost, itemCost, item-cost}
 
@@ -138,8 +138,8 @@ module _ (s : List ℕ) where
 
   -- what is written in any output
   module _ {x y : List ℕ} {n : ℕ} where
-    pub reported : Put x y 0 n (answerText (answer s (length x))) → MOST ≤ length x → Put x y 0 n (answerText (whole s))
-    reported p h = rw (fits (length x) .room h) at p
+    pub reported : Put x y 0 n (answerText (answer s (length x))) → n ≤ MOST → Reported s x y n
+    reported p short = record { text = p; roomy = λ h. rw (fits (length x) .room h) at p; short = short }
 
     pub reported-length : ListedAs x y (answer s (length x)) (listeds.Written n) → n ≤ MOST
     reported-length l = omega (arith, fits (length x) .longest (take n y) (sym (l .answer)), length-take-le n y (l .room))

@@ -10,6 +10,7 @@ use Rattle.token_list.specs.Stream.{Trees}
 use Rattle.token_list.specs.declared.check.Cursor.{Cursor}
 use Rattle.reading.specs.Declaration as declaration
 use Rattle.reading.specs.Reading as reading
+use Rattle.report.specs.Contract.{Put}
 use Rattle.parse.specs.Contract.{InsideAt}
 use Rattle.describe.specs.Value as value
 use Rattle.describe.specs.Listing as listing
@@ -60,3 +61,10 @@ pub record ListedAs (before after : List ℕ) (a : listing.Answer) (r : Listed) 
   pub room : within after r
   pub answer : listedAs after r ≡ a
   pub output : after ≡ listing.output before a
+
+-- the report of a list s: the text of the answer, in an output that was `before` and is `after`
+pub record Reported (s before after : List ℕ) (r : ℕ) : Type 0 where
+  pub text : Put before after 0 r (listing.answerText (listing.answer s (length before)))
+  -- an output of MOST bytes has room for every listing, so the text is never that of refusal 8
+  pub roomy : listing.MOST ≤ length before → Put before after 0 r (listing.answerText (listing.whole s))
+  pub short : r ≤ listing.MOST

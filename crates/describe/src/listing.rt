@@ -44,8 +44,8 @@ ghost use Rattle.report.specs.Contract.{Put};
 ghost use Rattle.reading.specs.Declaration.{Parameter, Generics, parametersOf, Field, Fields, Value, Variant, Body, Declaration};
 ghost use Rattle.reading.specs.Reading.{every, namedField, tupleField, variant, parameter, generics, bodyOf, item};
 ghost use Rattle.parse.specs.Contract.{kindOf, InsideAt, TextOf, ValueOf, FieldsOf, VariantOf, ParameterOf, ItemOf};
-ghost use Rattle.describe.specs.Listing.{FIELD, DASH, line, numbered, kindText, number, parameterLine, namedLine, tupleLine, fieldLines, variantLine, variantLines, bodyLines, itemLines, listing, listed, itemAnswer, fitted, answer, whole, answerText, MOST};
-ghost use Rattle.describe.specs.Contract.{StructAt, ListedAs};
+ghost use Rattle.describe.specs.Listing.{FIELD, DASH, line, numbered, kindText, number, parameterLine, namedLine, tupleLine, fieldLines, variantLine, variantLines, bodyLines, itemLines, listing, listed, itemAnswer, fitted, answer};
+ghost use Rattle.describe.specs.Contract.{StructAt, ListedAs, Reported};
 
 // The listing's length, or a refusal.
 pub enum Listed {
@@ -152,7 +152,7 @@ fn tuple_lines(s: &[u8], from: Cursor, roles: &mut [u8], out: &mut [u8], start: 
 {
     let mut c = from;
     let mut at = start;
-    let mut count: usize = 0;
+    let mut count = 0;
     loop {
         match tuple_field(s, c, roles) {
             TypeStep::One(next) => {
@@ -445,8 +445,7 @@ pub fn write_listing(list: &[u8], out: &mut [u8]) -> Listed
 
 // Writes the listing or the refusal at the start of the output; answers its length, at most 147,473.
 pub fn report_listing(list: &[u8], out: &mut [u8]) -> usize
-    ensures { λ r. ⌜ (MOST ≤ length (now (out .entry)) → Put (now (out .entry)) (now (out .exit)) 0 r (answerText (whole (now (list .entry))))) ⌝ }
-    ensures { λ r. ⌜ r ≤ MOST ⌝ }
+    ensures { λ r. ⌜ Reported (now (list .entry)) (now (out .entry)) (now (out .exit)) r ⌝ }
 {
     match write_listing(list, out) {
         Listed::Written(n) => n,

@@ -22,18 +22,21 @@ same-length c = search needs
 
 returns : tie.Need-returns
 returns c =
-    let l = rw (c .before .n .given .1) at (c .before .before .before .before .before .write-listing .ensures) in
-    let s = c .before .before .before .before .before .before .before .before .before .args .list .now in
-    (reported s (listed-put l), reported-length s l)
+    let list = c .before .before .before .before .before .before .before .before .before .args .list .now in
+    let answered = c .before .before .before .before .before .write-listing .ensures in
+    let listed = rw (c .before .n .given .1) at answered in
+    reported list (listed-put listed) (reported-length list listed)
 
 same-length-2 : tie.Need-same-length-2
 same-length-2 c = search needs
 
 returns-2 : tie.Need-returns-2
 returns-2 c =
-    let l = rw (c .before .before .before .before .before .r .given .1) at (c .before .before .before .before .before .before .before .before .before .write-listing .ensures) in
-    let p = c .before .before .put-refusal .ensures in
-    (reported (c .before .before .before .before .before .before .before .before .before .before .before .before .before .args .list .now) (refused-put l (p .0)), omega (arith, p .1))
+    let args = c .before .before .before .before .before .before .before .before .before .before .before .before .before .args in
+    let answered = c .before .before .before .before .before .before .before .before .before .write-listing .ensures in
+    let refused = rw (c .before .before .before .before .before .r .given .1) at answered in
+    let put = c .before .before .put-refusal .ensures in
+    reported (args .list .now) (refused-put refused (put .0)) (omega (arith, put .1))
 
 pub report-listing-spec : {M : Type 1} → statement M
 report-listing-spec =
