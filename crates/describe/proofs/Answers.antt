@@ -4,7 +4,7 @@ use mathlib.Core.List.{List}
 use Prim.Native.Nat.{ℕ, _≤_, _<_}
 use native.Mathlib.Omega.{arith}
 use borrow.Author.Tests.{lt-ltb, le-ltb, le-leb}
-use lib.ListN.{length, take, length-take}
+use lib.ListN.{length, take}
 use lib.Seq.{slice, sets, length-take-le}
 use Rattle.token_list.specs.Check as list
 use Rattle.token_list.specs.Stream.{Trees, at}
@@ -12,7 +12,6 @@ use Rattle.token_list.specs.Contract.{InList}
 use Rattle.token_list.specs.declared.check.Cursor.{Cursor}
 use Rattle.token_list.specs.declared.check.Refusal.{Refusal}
 use Rattle.token_list.specs.declared.stream.Token.{Token}
-use Rattle.token_list.proofs.Passed.{passed-list}
 use Rattle.token_list.proofs.Texts.{chosen, passed-over}
 use Rattle.report.specs.Text.{refusalText}
 use Rattle.report.specs.Contract.{Put}
@@ -54,7 +53,8 @@ module _ {s : List ℕ} {v : ValueAt} (w : declaration.Value) (k : ValueOf s v w
   placed-literal x t e =
       let a = subst (λ (u : ValueAt). ValueOf s u w) e k in
       record {
-        answer = ap inList (chosen _ _ _ (le-leb (t .end) (length s) (a .1 .within)) ∙ sym (a .1 .bytes)) ∙ sym (ap valueAnswer (a .2));
+        answer = ap inList (chosen _ _ _ (le-leb (t .end) (length s) (a .1 .within)) ∙ sym (a .1 .bytes)) ∙ sym
+            (ap valueAnswer (a .2));
         scratch = sym (ap (λ (u : declaration.Value). scratch x (valueAnswer u)) (a .2));
       }
 
@@ -65,7 +65,9 @@ module _ {s : List ℕ} {v : ValueAt} (w : declaration.Value) (k : ValueOf s v w
       let b : n ≡ worth (a .0) = q ∙ ap worth (sym (a .1 .bytes)) in
       let z = kept p in
       record {
-        answer = ap inScratch (part-front r y (omega (arith, z, h, room)) ∙ shown p (omega (arith, h, room)) ∙ ap negativeText b) ∙ sym (ap valueAnswer (a .3));
+        answer = ap inScratch
+            (part-front r y (omega (arith, z, h, room)) ∙ shown p (omega (arith, h, room)) ∙ ap negativeText b) ∙ sym
+            (ap valueAnswer (a .3));
         scratch = p .bytes ∙ ap (λ (m : ℕ). sets x 0 (negativeText m)) b ∙ sym (ap (λ (u : declaration.Value). scratch x (valueAnswer u)) (a .3));
       }
 

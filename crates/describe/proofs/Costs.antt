@@ -155,7 +155,8 @@ wordCost (found t p) = nameCost t
 word-covering : (n : ℕ) → Covering wordCost 0 (r.word n)
 word-covering n row end = nothing-taken (omega arith)
 word-covering n row (leaf q us) = choice (r.isIdent q) (one-row n q us (omega arith)) (nothing-taken (omega arith))
-word-covering n row (group d ts us) = choice (r.lone r.isIdent ts) (covers _ (r.copied n ts) us (omega (arith, first ts))) (nothing-taken (omega arith))
+word-covering n row (group d ts us) =
+    choice (r.lone r.isIdent ts) (covers _ (r.copied n ts) us (omega (arith, first ts))) (nothing-taken (omega arith))
   where
     first : (ts : Trees) → length (r.textOf ts) ≤ texts ts
     first end = omega arith
@@ -181,15 +182,19 @@ dataType-covering =
 
 parameterName-covering : (n p : ℕ) → Covering nameCost 0 (r.parameterName n p)
 parameterName-covering n p row end = refuses
-parameterName-covering n p row (leaf q us) = choice (r.isIdent q) (one-row role.parameter-name q us (omega arith)) refuses
+parameterName-covering n p row (leaf q us) =
+    choice (r.isIdent q) (one-row role.parameter-name q us (omega arith)) refuses
 parameterName-covering n p row (group d ts us) = refuses
 
 -- the `'` has a row of its own
 lifetimeAfter-covering : (q : ℕ) → Covering parameterCost 1 (r.lifetimeAfter q)
-lifetimeAfter-covering q = bind (besides 1 (parameterName-covering 24 q)) (λ n. bind (keeps _ (conserved.marked-run-conserving 58)) (λ b row ts. covers (lifetime n b) [] ts (omega arith)))
+lifetimeAfter-covering q =
+    bind (besides 1 (parameterName-covering 24 q))
+    (λ n. bind (keeps _ (conserved.marked-run-conserving 58)) (λ b row ts. covers (lifetime n b) [] ts (omega arith)))
 
 constantAfter-covering : Covering parameterCost 0 r.constantAfter
-constantAfter-covering = bind (parameterName-covering 27 65535) (λ n. bind (keeps _ (conserved.marked-run-conserving 58)) (λ b. returned _))
+constantAfter-covering =
+    bind (parameterName-covering 27 65535) (λ n. bind (keeps _ (conserved.marked-run-conserving 58)) (λ b. returned _))
 
 typeAfter-covering : (n : List ℕ) → Covering parameterCost (nameCost n) (r.typeAfter n)
 typeAfter-covering n = bind (keeps _ (conserved.punctIf-conserving 58 role.separator)) runs
@@ -202,7 +207,8 @@ parameter-covering : (angle : ℕ) → Covering (maybe parameterCost) 0 (r.param
 parameter-covering angle row end = refuses
 parameter-covering angle row (group d ts us) = refuses
 parameter-covering angle row (leaf q us) =
-    choice (r.isPunct 39 q) (from-covered role.parameter-name row q us (omega arith) (bind (lifetimeAfter-covering row) comma-covering))
+    choice (r.isPunct 39 q)
+    (from-covered role.parameter-name row q us (omega arith) (bind (lifetimeAfter-covering row) comma-covering))
     (choice (r.isPunct 62 q) (one-row role.angle q us (omega arith))
     (choice (r.isWord r.CONST q) (from-covered role.parameter-name row q us (omega arith) (bind constantAfter-covering comma-covering))
     (choice (r.isIdent q) (from-covered role.parameter-name row q us (omega arith) (bind (typeAfter-covering (q .text)) comma-covering)) refuses)))
@@ -211,14 +217,18 @@ generics-covering : Covering (λ g. total parameterCost (parametersOf g)) 0 r.ge
 generics-covering row end = nothing-taken (omega arith)
 generics-covering row (group d ts us) = nothing-taken (omega arith)
 generics-covering row (leaf q us) =
-    choice (r.isPunct 60 q) (from-covered role.angle row q us (omega arith) (bind (every-covering (parameter-covering row)) (λ ps. returned _))) (nothing-taken (omega arith))
+    choice (r.isPunct 60 q)
+    (from-covered role.angle row q us (omega arith)
+    (bind (every-covering (parameter-covering row)) (λ ps. returned _)))
+    (nothing-taken (omega arith))
 
 -- ## Fields
 
 fieldStart-covering : Covering (maybe fieldCost) 0 r.fieldStart
 fieldStart-covering row end = nothing-taken (omega arith)
 fieldStart-covering row (group d ts us) = refuses
-fieldStart-covering row (leaf q us) = choice (r.isIdent q) (from-covered role.field-name row q us (omega arith) (rest (q .text))) refuses
+fieldStart-covering row (leaf q us) =
+    choice (r.isIdent q) (from-covered role.field-name row q us (omega arith) (rest (q .text))) refuses
   where
     rest : (n : List ℕ) → Covering (maybe fieldCost) (nameCost n) (r.fieldAfter n)
     rest n =
@@ -228,7 +238,9 @@ fieldStart-covering row (leaf q us) = choice (r.isIdent q) (from-covered role.fi
         (λ f. comma-covering _)))
 
 namedField-covering : Covering (maybe fieldCost) 0 r.namedField
-namedField-covering = bind (keeps 0 conserved.attributes-conserving) (λ a. bind (keeps 0 conserved.visibility-conserving) (λ v. fieldStart-covering))
+namedField-covering =
+    bind (keeps 0 conserved.attributes-conserving)
+    (λ a. bind (keeps 0 conserved.visibility-conserving) (λ v. fieldStart-covering))
 
 -- a row at least is taken
 tupleField-covering : Covering (maybe typeCost) 0 r.tupleField
@@ -249,7 +261,8 @@ variantFields-covering : Covering fieldsCost 0 r.variantFields
 variantFields-covering row end = nothing-taken (omega arith)
 variantFields-covering row (leaf q us) = nothing-taken (omega arith)
 variantFields-covering row (group d ts us) =
-    choice (eqb d 123) (enclosed-covered row d ts us namedFields-covering) (choice (eqb d 40) (enclosed-covered row d ts us tupleFields-covering) refuses)
+    choice (eqb d 123) (enclosed-covered row d ts us namedFields-covering)
+    (choice (eqb d 40) (enclosed-covered row d ts us tupleFields-covering) refuses)
 
 -- ## Values
 
@@ -273,7 +286,8 @@ valueIf-covering : Covering valueCost 0 r.valueIf
 valueIf-covering row end = nothing-taken (omega arith)
 valueIf-covering row (group d ts us) = refuses
 valueIf-covering row (leaf q us) =
-    choice (r.isPunct 61 q) (from-covered role.separator row q us (omega arith) discriminant-covering) (choice (r.isPunct 44 q) (nothing-taken (omega arith)) refuses)
+    choice (r.isPunct 61 q) (from-covered role.separator row q us (omega arith) discriminant-covering)
+    (choice (r.isPunct 44 q) (nothing-taken (omega arith)) refuses)
 
 -- ## Variants and bodies
 
@@ -301,7 +315,8 @@ structBody-covering row (group d ts us) =
 enumBody-covering : Covering bodyCost 0 r.enumBody
 enumBody-covering row end = refuses
 enumBody-covering row (leaf q us) = choice (r.isPunct 59 q) (one-row role.delimiter q us (omega arith)) refuses
-enumBody-covering row (group d ts us) = enclosed-covered row d ts us (bind (every-covering variant-covering) (λ vs. returned _))
+enumBody-covering row (group d ts us) =
+    enclosed-covered row d ts us (bind (every-covering variant-covering) (λ vs. returned _))
 
 bodyOf-covering : (k : Kind) → Covering bodyCost 0 (r.bodyOf k)
 bodyOf-covering struct = structBody-covering

@@ -9,7 +9,7 @@ use Rattle.token_list.specs.Contract.{InList}
 use Rattle.token_list.specs.declared.check.Cursor.{Cursor}
 use Rattle.reading.specs.Took.{Took, took, refuse, Reader, onward, after, pure}
 use Rattle.reading.specs.Reading.{Maybe, done, one, more, every}
-use Rattle.parse.specs.Contract.{Moved, Said, on, no, Meets, stands, refuses, stream, InsideAt}
+use Rattle.parse.specs.Contract.{Moved, on, no, Meets, stands, refuses, stream, InsideAt}
 use Rattle.reading.proofs.Rounds.{Rounding, Round, another, every-step}
 
 -- ## What an answer tells

@@ -73,14 +73,16 @@ variants-cover : Covers variantLines variantCost
 variants-cover =
     record {
       least = λ v. omega arith;
-      enough = λ k v h g. simp (length-append, line-length) (omega (arith, number-length k (v .value) h, fields-length (v .fields) (omega arith)));
+      enough = λ k v h g. simp (length-append, line-length)
+          (omega (arith, number-length k (v .value) h, fields-length (v .fields) (omega arith)));
     }
 
 body-length : (b : Body) → bodyCost b < 200000 → (length (bodyLines b) ≤ bodyCost b) × (bodyCount b < 10000)
 body-length (fields unit) h = (omega arith, omega arith)
 body-length (fields (named fs)) h = (fields-length (named fs) h, omega (arith, count-least named-cover fs))
 body-length (fields (tuple ts)) h = (fields-length (tuple ts) h, omega (arith, count-least tuple-cover ts))
-body-length (variants vs) h = (numbered-length variants-cover 0 vs (omega arith), omega (arith, count-least variants-cover vs))
+body-length (variants vs) h =
+    (numbered-length variants-cover 0 vs (omega arith), omega (arith, count-least variants-cover vs))
 
 kind-length : (k : Kind) → length (kindText k) ≤ 7
 kind-length struct = omega arith
@@ -117,7 +119,8 @@ module _ (s : List ℕ) where
       let b = bounds.bounds s e in
       let c : itemCost d ≤ 147456 = omega (arith, item-cost 0 (at s 10 .here) f, passed-list s n e .size) in
       omega (arith, listing-length d (omega arith))
-  by-item e (refuse n p) f = λ q. true≢false (sym (refusal-number (subst (Conserved (at s 10 .here)) f (item-conserving 0 (at s 10 .here)))) ∙ ap ownNumber q)
+  by-item e (refuse n p) f = λ q. true≢false
+      (sym (refusal-number (subst (Conserved (at s 10 .here)) f (item-conserving 0 (at s 10 .here)))) ∙ ap ownNumber q)
 
   by-check : (a : list.Answer) → list.check s ≡ a → Right (checkedAnswer s a)
   by-check (list.Answer.passed n) e = by-item e (item 0 (at s 10 .here)) refl
@@ -142,4 +145,5 @@ module _ (s : List ℕ) where
     reported p short = record { text = p; roomy = λ h. rw (fits (length x) .room h) at p; short = short }
 
     pub reported-length : ListedAs x y (answer s (length x)) (listeds.Written n) → n ≤ MOST
-    reported-length l = omega (arith, fits (length x) .longest (take n y) (sym (l .answer)), length-take-le n y (l .room))
+    reported-length l = omega
+        (arith, fits (length x) .longest (take n y) (sym (l .answer)), length-take-le n y (l .room))

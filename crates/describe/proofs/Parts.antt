@@ -40,7 +40,8 @@ module _ {A B : Type 0} (m : Reader A) (f : A → B) where
 -- a struct's body is fields
 struct-fields : (row : ℕ) (ts : Trees) {b : declaration.Body} {rs : List ℕ} {us : Trees} → reading.structBody row ts ≡ took b rs us → (f : declaration.Fields) × (b ≡ declaration.fields f)
 struct-fields row end e = took-not-refuse e
-struct-fields row (leaf r us) e = either (reading.isPunct 59 r) (λ h. (declaration.unit, sym (took-value h))) took-not-refuse e
+struct-fields row (leaf r us) e =
+    either (reading.isPunct 59 r) (λ h. (declaration.unit, sym (took-value h))) took-not-refuse e
 struct-fields row (group d ts us) e =
     either (eqb d 123) (λ h. let w = within reading.namedFields declaration.fields row ts us h in (w .0, w .1))
     (either (eqb d 40) (λ h. let w = within reading.tupleFields declaration.fields row ts us h in (w .0, w .1)) took-not-refuse) e
@@ -62,7 +63,8 @@ module _ {s : List ℕ} {c : Cursor} {b : declaration.Body} (i : InsideAt readin
   -- or `;`
   pub enum-leaf : (t : Token) → LeafAt s (c .at) t → b ≡ declaration.variants []
   enum-leaf t l =
-      either (reading.isPunct 59 (rowOf s t)) (λ h. sym (took-value h)) took-not-refuse (ap (reading.enumBody (c .row)) (sym (l .here)) ∙ i .gives)
+      either (reading.isPunct 59 (rowOf s t)) (λ h. sym (took-value h)) took-not-refuse
+      (ap (reading.enumBody (c .row)) (sym (l .here)) ∙ i .gives)
 
   pub enum-end : {B : Type 0} → stream s c ≡ end → B
   enum-end e = took-not-refuse (ap (reading.enumBody (c .row)) (sym e) ∙ i .gives)
@@ -84,8 +86,11 @@ module _ {s : List ℕ} {c : Cursor} {b : declaration.Body} (i : InsideAt readin
           subst⁻¹ (λ (x : Cursor). InsideAt m s x a) e (record { inList = past-in s c t (i .inList) (g .token); roles = qs; rest = ws; gives = h })
 
       go : (z : Bool)
-          → cond z (reading.enclosed (reading.structFields reading.namedFields) (c .row) (at s (t .next) .here) (g .after))
-          (cond (eqb (t .mark) 40) (reading.enclosed (reading.structFields reading.tupleFields) (c .row) (at s (t .next) .here) (g .after)) (refuse 17 (c .row)))
+          → cond z
+          (reading.enclosed (reading.structFields reading.namedFields) (c .row) (at s (t .next) .here) (g .after))
+          (cond (eqb (t .mark) 40)
+          (reading.enclosed (reading.structFields reading.tupleFields) (c .row) (at s (t .next) .here) (g .after))
+          (refuse 17 (c .row)))
           ≡ took b (i .roles) (i .rest)
           → (f : declaration.Fields) × (b ≡ declaration.fields f) × fieldsIn z s d f
       go true h =
@@ -102,7 +107,8 @@ module _ {s : List ℕ} {c : Cursor} {b : declaration.Body} (i : InsideAt readin
 
   pub struct-leaf : (t : Token) → LeafAt s (c .at) t → b ≡ declaration.fields declaration.unit
   struct-leaf t l =
-      either (reading.isPunct 59 (rowOf s t)) (λ h. sym (took-value h)) took-not-refuse (ap (reading.structBody (c .row)) (sym (l .here)) ∙ i .gives)
+      either (reading.isPunct 59 (rowOf s t)) (λ h. sym (took-value h)) took-not-refuse
+      (ap (reading.structBody (c .row)) (sym (l .here)) ∙ i .gives)
 
   pub struct-end : {B : Type 0} → stream s c ≡ end → B
   struct-end e = took-not-refuse (ap (reading.structBody (c .row)) (sym e) ∙ i .gives)
@@ -122,7 +128,8 @@ module _ {s : List ℕ} {c : Cursor} {v : declaration.Generics} (i : InsideAt re
   pub generics-angle : (t : Token) (d : Cursor) → LeafAt s (c .at) t → d ≡ pastOf c t → reading.isPunct 60 (rowOf s t) ≡ true
       → InsideAt (reading.every (reading.parameter (c .row))) s d (declaration.parametersOf v)
   generics-angle t d l e p =
-      go (reading.every (reading.parameter (c .row)) (c .row + 1) (at s (t .next) .here)) refl (sym (chosen _ _ _ p) ∙ ap (reading.generics (c .row)) (sym (l .here)) ∙ i .gives)
+      go (reading.every (reading.parameter (c .row)) (c .row + 1) (at s (t .next) .here)) refl
+      (sym (chosen _ _ _ p) ∙ ap (reading.generics (c .row)) (sym (l .here)) ∙ i .gives)
     where
       go : (x : Took (List declaration.Parameter)) → reading.every (reading.parameter (c .row)) (c .row + 1) (at s (t .next) .here) ≡ x
           → onward (8 ∷ []) (after (c .row + 1) x (λ ps. pure (declaration.angled ps))) ≡ took v (i .roles) (i .rest)
@@ -138,7 +145,8 @@ module _ {s : List ℕ} {c : Cursor} {v : declaration.Generics} (i : InsideAt re
       go (refuse n p) g h = took-not-refuse h
 
   pub generics-other : (t : Token) → LeafAt s (c .at) t → reading.isPunct 60 (rowOf s t) ≡ false → v ≡ declaration.without
-  generics-other t l p = sym (took-value (sym (passed-over _ _ _ p) ∙ ap (reading.generics (c .row)) (sym (l .here)) ∙ i .gives))
+  generics-other t l p = sym
+      (took-value (sym (passed-over _ _ _ p) ∙ ap (reading.generics (c .row)) (sym (l .here)) ∙ i .gives))
 
   pub generics-group : (t : Token) → GroupAt s (c .at) t → v ≡ declaration.without
   generics-group t g = sym (took-value (ap (reading.generics (c .row)) (sym (g .here)) ∙ i .gives))

@@ -1,6 +1,6 @@
 -- Laws on values: the worth of digits, and the text of a negative.
 use mathlib.Core.Path.{_≡_, refl, ap, _∙_, sym, subst, subst⁻¹}
-use mathlib.Core.Bool.{Bool, true, false, cond, _&&_, false≢true}
+use mathlib.Core.Bool.{Bool, true, false, cond}
 use mathlib.Core.List.{List, [], _∷_}
 use Prim.Native.Nat.{ℕ, zero, suc, _+_, _-_, _*_, _≤_, _<_}
 use native.Mathlib.Omega.{arith}
@@ -45,7 +45,8 @@ counting-first {w} {n} {b} {bs} k =
 
 module _ (s : List ℕ) (e : ℕ) (fits : e ≤ length s) where
   pub counting-next : {w n : ℕ} (i : ℕ) → i < e → Counting w n (slice i e s)
-      → (48 ≤ getD s i 0) × (getD s i 0 ≤ 57) × (n * 10 + (getD s i 0 - 48) ≤ 9223372036854775807) × Counting w (n * 10 + (getD s i 0 - 48)) (slice (i + 1) e s)
+      → (48 ≤ getD s i 0) × (getD s i 0 ≤ 57) × (n * 10 + (getD s i 0 - 48) ≤ 9223372036854775807) × Counting w
+      (n * 10 + (getD s i 0 - 48)) (slice (i + 1) e s)
   counting-next {w} {n} i h k = counting-first (subst (Counting w n) (slice-next s i e h fits) k)
 
 pub counting-end : {w n : ℕ} (s : List ℕ) (i e : ℕ) → e ≤ i → Counting w n (slice i e s) → n ≡ w

@@ -5,8 +5,10 @@ use crate::put::put_number;
 use crate::put::put_refusal;
 use token_list::check::Checked;
 use token_list::check::check;
-ghost use Prim.Native.Nat.{_≤_};
-ghost use Rattle.token_list.specs.Check.{check};
+ghost use mathlib.Core.Path.{_≡_};
+ghost use Prim.Native.Nat.{ℕ, _≤_};
+ghost use Rattle.token_list.specs.Check.{check, refused};
+ghost use Rattle.token_list.specs.Place.{OneRefusal, checkNumber};
 ghost use Rattle.token_list.specs.Contract.{checked};
 ghost use Rattle.report.specs.Text.{answerText};
 ghost use Rattle.report.specs.Contract.{Put};
@@ -29,6 +31,7 @@ fn put_answer(out: &mut [u8], answer: Checked) -> usize
 pub fn report_check(list: &[u8], out: &mut [u8]) -> usize
     ensures { λ r. ⌜ Put (now (out .entry)) (now (out .exit)) 0 r (answerText (check (now (list .entry)))) ⌝ }
     ensures { λ r. ⌜ r ≤ 64 ⌝ }
+    ensures { λ _. ⌜ ((n p : ℕ) → check (now (list .entry)) ≡ refused n p → OneRefusal checkNumber (now (list .entry)) n p) ⌝ }
 {
     put_answer(out, check(list))
 }

@@ -7,9 +7,10 @@ use parse::item::Parse;
 use parse::item::new;
 use token_list::check::Refusal;
 ghost use mathlib.Core.Path.{_≡_};
-ghost use Prim.Native.Nat.{_+_, _*_, _^_, _≤_, _<_};
+ghost use Prim.Native.Nat.{ℕ, _+_, _*_, _^_, _≤_, _<_};
 ghost use lib.ListN.{length};
-ghost use Rattle.reading.specs.Answer.{answer, buffer};
+ghost use Rattle.token_list.specs.Place.{OneRefusal};
+ghost use Rattle.reading.specs.Answer.{refused, answer, buffer, readNumber};
 ghost use Rattle.report.specs.Contract.{Put};
 ghost use Rattle.report.specs.Roles.{assigned, roleLine, roleLines, rolesText, readAs};
 
@@ -37,6 +38,7 @@ fn count_assigned(roles: &[u8]) -> usize
 pub fn read_roles(list: &[u8], roles: &mut [u8]) -> Roles
     ensures { λ r. ⌜ readAs r (now (roles .exit)) (answer (now (list .entry)) (length (now (roles .entry)))) ⌝ }
     ensures { λ _. ⌜ now (roles .exit) ≡ buffer (length (now (roles .entry))) (answer (now (list .entry)) (length (now (roles .entry)))) ⌝ }
+    ensures { λ _. ⌜ ((n p : ℕ) → answer (now (list .entry)) (length (now (roles .entry))) ≡ refused n p → OneRefusal readNumber (now (list .entry)) n p) ⌝ }
 {
     match new(list, roles) {
         Parse::Refused(r) => Roles::Refused(r),
@@ -75,6 +77,7 @@ pub fn report_roles(list: &[u8], roles: &mut [u8], out: &mut [u8]) -> usize
     ensures { λ r. ⌜ Put (now (out .entry)) (now (out .exit)) 0 r (rolesText (answer (now (list .entry)) (length (now (roles .entry))))) ⌝ }
     ensures { λ _. ⌜ now (roles .exit) ≡ buffer (length (now (roles .entry))) (answer (now (list .entry)) (length (now (roles .entry)))) ⌝ }
     ensures { λ r. ⌜ r ≤ 65536 ⌝ }
+    ensures { λ _. ⌜ ((n p : ℕ) → answer (now (list .entry)) (length (now (roles .entry))) ≡ refused n p → OneRefusal readNumber (now (list .entry)) n p) ⌝ }
 {
     match read_roles(list, roles) {
         Roles::Refused(r) => put_refusal(out, 0, r),

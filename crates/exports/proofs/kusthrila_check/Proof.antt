@@ -1,6 +1,6 @@
 use Rattle.exports.specs.Code.{checkCode}
 use Rattle.token_list.specs.Contract.{checked}
-use mathlib.Core.Path.{_≡_, sym, _∙_, ap}
+use mathlib.Core.Path.{sym, _∙_, ap}
 use borrow.Author.Needs.{needs}
 use Rattle.exports.proofs.kusthrila_check.Statement.{statement}
 use Rattle.exports.proofs.kusthrila_check.Tie as tie
@@ -21,10 +21,14 @@ coded-requires : tie.Need-coded-requires
 coded-requires c κs = search needs
 
 returns : tie.Need-returns
-returns c = (c .short) .ensures ∙ ap checkCode (sym (ap checked ((c .before .before .rows) .given .1)) ∙ (c .before .before .before .before .check) .ensures)
+returns c =
+    let check = c .before .before .before .before .check in
+    (c .short) .ensures ∙ ap checkCode (sym (ap checked ((c .before .before .rows) .given .1)) ∙ check .ensures)
 
 returns-2 : tie.Need-returns-2
-returns-2 c = (c .coded) .ensures ∙ ap checkCode (sym (ap checked ((c .before .before .r) .given .1)) ∙ (c .before .before .before .before .check) .ensures)
+returns-2 c =
+    let check = c .before .before .before .before .check in
+    (c .coded) .ensures ∙ ap checkCode (sym (ap checked ((c .before .before .r) .given .1)) ∙ check .ensures)
 
 pub kusthrila-check-spec : {M : Type 1} → statement M
 kusthrila-check-spec =

@@ -27,10 +27,12 @@ same-length c = search needs
 
 returns : tie.Need-returns
 returns c =
-    let d = c .before .before .before .before .before .before .write-listing in
-    let e = sym (ap (listedAs (d .last .1 .0)) (c .before .before .n .given .1)) ∙ d .ensures .answer in
+    let write-listing = c .before .before .before .before .before .before .write-listing in
+    let n-2 = c .before .before .n in
+    let d = write-listing in
+    let e = sym (ap (listedAs (d .last .1 .0)) (n-2 .given .1)) ∙ d .ensures .answer in
     let room = d .ensures .room in
-    let n = sym (length-take-le (c .before .before .n .given .0 .0) (d .last .1 .0) (rw (c .before .before .n .given .1) at room)) in
+    let n = sym (length-take-le (n-2 .given .0 .0) (d .last .1 .0) (rw (n-2 .given .1) at room)) in
     record { code = c .long .ensures ∙ (ap (λ k. min k 4294967295) n ∙ ap listingCode e); output = d .ensures .output }
 
 same-length-2 : tie.Need-same-length-2
@@ -38,7 +40,8 @@ same-length-2 c = search needs
 
 returns-2 : tie.Need-returns-2
 returns-2 c =
-    let d = c .before .before .before .before .before .before .write-listing in
+    let write-listing = c .before .before .before .before .before .before .write-listing in
+    let d = write-listing in
     let e = sym (ap (listedAs (d .last .1 .0)) (c .before .before .r .given .1)) ∙ d .ensures .answer in
     record { code = c .coded .ensures ∙ ap listingCode e; output = d .ensures .output }
 

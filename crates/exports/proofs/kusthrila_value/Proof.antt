@@ -43,7 +43,8 @@ same-length c = search needs
 
 returns : tie.Need-returns
 returns c =
-    let d = c .before .before .before .before .value-of in
+    let value-of = c .before .before .before .before .value-of in
+    let d = value-of in
     record { place = d .result; code = sym (ap placeCode (c .enum-told .given .1)); placed = d .ensures }
 
 same-length-2 : tie.Need-same-length-2
@@ -51,7 +52,8 @@ same-length-2 c = search needs
 
 returns-2 : tie.Need-returns-2
 returns-2 c =
-    let d = c .before .before .before .before .before .before .value-of in
+    let value-of = c .before .before .before .before .before .before .value-of in
+    let d = value-of in
     record { place = d .result; code = c .short .ensures ∙ sym (ap placeCode (c .before .before .n .given .1)); placed = d .ensures }
 
 same-length-3 : tie.Need-same-length-3
@@ -59,10 +61,12 @@ same-length-3 c = search needs
 
 returns-3 : tie.Need-returns-3
 returns-3 c =
-    let d = c .before .before .before .before .before .before .before .value-of in
+    let value-of = c .before .before .before .before .before .before .before .value-of in
+    let d = value-of in
     record {
       place = d .result;
-      code = (λ i. c .before .short2 .ensures i * 65536 + c .short3 .ensures i) ∙ sym (ap placeCode (c .before .before .before .start .given .1));
+      code = (λ i. c .before .short2 .ensures i * 65536 + c .short3 .ensures i) ∙ sym
+          (ap placeCode (c .before .before .before .start .given .1));
       placed = d .ensures;
     }
 
@@ -71,7 +75,8 @@ same-length-4 c = search needs
 
 returns-4 : tie.Need-returns-4
 returns-4 c =
-    let d = c .before .before .before .before .before .before .value-of in
+    let value-of = c .before .before .before .before .before .before .value-of in
+    let d = value-of in
     record { place = d .result; code = c .coded .ensures ∙ sym (ap placeCode (c .before .before .r .given .1)); placed = d .ensures }
 
 pub kusthrila-value-spec : {M : Type 1} → statement M

@@ -15,7 +15,9 @@ same-length : tie.Need-same-length
 same-length c = search needs
 
 returns : tie.Need-returns
-returns c = λ x k. fits-not (listing x) ((c .before .before .before .before .put-listing) .result) (omega (arith, (c .before .before .before .before .put-listing) .ensures x k .next)) (omega arith)
+returns c =
+    let put-listing = c .before .before .before .before .put-listing in
+    λ x k. fits-not (listing x) (put-listing .result) (omega (arith, put-listing .ensures x k .next)) (omega arith)
 
 put-listing-requires-2 : tie.Need-put-listing-requires-2
 put-listing-requires-2 c κs = search needs
@@ -27,7 +29,12 @@ same-length-3 : tie.Need-same-length-3
 same-length-3 c = search needs
 
 returns-2 : tie.Need-returns-2
-returns-2 c = λ x k. fits (listing x) ((c .before .before .before .before .before .before .before .before .before .before .before .put-listing) .result) (omega (arith, (c .before .before .before .before .before .before .before .before .before .before .before .put-listing) .ensures x k .next)) (omega arith) ((c .before .before .before .before .put-listing2) .ensures x k)
+returns-2 c =
+    let put-listing = c .before .before .before .before .before .before .before .before .before .before .before .put-listing in
+    let put-listing2 = c .before .before .before .before .put-listing2 in
+    λ x k.
+    fits (listing x) (put-listing .result) (omega (arith, put-listing .ensures x k .next)) (omega arith)
+    (put-listing2 .ensures x k)
 
 pub fit-listing-spec : {M : Type 1} → statement M
 fit-listing-spec =

@@ -27,13 +27,26 @@ is-punct-requires : tie.Need-is-punct-requires
 is-punct-requires c κs = search needs
 
 returns : tie.Need-returns
-returns c = (λ ps k. put-as (ap (λ (g : Generics). numbered parameterLine 0 (parametersOf g)) (generics-other k _ (meeting.peeked _ _ ((c .before .before .before .before .before .peek) .ensures) ((c .before .before .before .t) .given .1)) (meeting.punct-of _ _ _ _ ((meeting.peeked _ _ ((c .before .before .before .before .before .peek) .ensures) ((c .before .before .before .t) .given .1)) .token) ∙ sym ((c .before .is-punct) .ensures) ∙ not-true _ ((c .if1) .taken)))) (nothing _ _), omega arith)
+returns c =
+    let peek = c .before .before .before .before .before .peek in
+    let t = c .before .before .before .t in
+    (λ ps k. put-as (ap (λ (g : Generics). numbered parameterLine 0 (parametersOf g)) (generics-other k _ (meeting.peeked _ _ (peek .ensures) (t .given .1)) (meeting.punct-of _ _ _ _ ((meeting.peeked _ _ (peek .ensures) (t .given .1)) .token) ∙ sym ((c .before .is-punct) .ensures) ∙ not-true _ ((c .if1) .taken)))) (nothing _ _), omega arith)
 
 past-requires : tie.Need-past-requires
-past-requires c κs = ((c .before .before .before .before .before .before .before .before .before .pre) .0, (meeting.peeked _ _ ((c .before .before .before .before .before .peek) .ensures) ((c .before .before .before .t) .given .1)) .token)
+past-requires c κs =
+    let pre = c .before .before .before .before .before .before .before .before .before .pre in
+    let peek = c .before .before .before .before .before .peek in
+    (pre .0, (meeting.peeked _ _ (peek .ensures) ((c .before .before .before .t) .given .1)) .token)
 
 parameter-lines-requires : tie.Need-parameter-lines-requires
-parameter-lines-requires c κs = (meeting.past-in-of _ _ _ _ ((c .before .before .past) .ensures) ((c .before .before .before .before .before .before .before .before .before .before .before .before .pre) .0) ((meeting.peeked _ _ ((c .before .before .before .before .before .before .before .before .peek) .ensures) ((c .before .before .before .before .before .before .t) .given .1)) .token), ((c .before .before .before .before .before .before .before .before .before .before .before .before .pre) .1 .0, (c .before .before .before .before .before .before .before .before .before .before .before .before .pre) .1 .1))
+parameter-lines-requires c κs =
+    let pre = c .before .before .before .before .before .before .before .before .before .before .before .before .pre in
+    let peek = c .before .before .before .before .before .before .before .before .peek in
+    let t = c .before .before .before .before .before .before .t in (
+      meeting.past-in-of _ _ _ _ ((c .before .before .past) .ensures) (pre .0)
+          ((meeting.peeked _ _ (peek .ensures) (t .given .1)) .token),
+      (pre .1 .0, pre .1 .1),
+    )
 
 returns-2 : tie.Need-returns-2
 returns-2 c = (λ ps k. put-as (ap (λ (g : Generics). numbered parameterLine 0 (parametersOf g)) (generics-end k (meeting.peeked _ _ ((c .before .before .peek) .ensures) ((c .enum-told) .given .1)))) (nothing _ _), omega arith)
@@ -48,7 +61,18 @@ same-length-2 : tie.Need-same-length-2
 same-length-2 c = search needs
 
 returns-4 : tie.Need-returns-4
-returns-4 c = (λ ps k. (c .before .before .before .before .parameter-lines) .ensures .0 (parametersOf ps) (generics-angle k _ _ (meeting.peeked _ _ ((c .before .before .before .before .before .before .before .before .before .before .before .before .before .peek) .ensures) ((c .before .before .before .before .before .before .before .before .before .before .before .t) .given .1)) ((c .before .before .before .before .before .before .before .past) .ensures) (meeting.punct-of _ _ _ _ ((meeting.peeked _ _ ((c .before .before .before .before .before .before .before .before .before .before .before .before .before .peek) .ensures) ((c .before .before .before .before .before .before .before .before .before .before .before .t) .given .1)) .token) ∙ sym ((c .before .before .before .before .before .before .before .before .before .is-punct) .ensures) ∙ not-false _ ((c .before .before .before .before .before .before .before .before .if1) .left))), (c .before .before .before .before .parameter-lines) .ensures .1)
+returns-4 c =
+    let peek = c .before .before .before .before .before .before .before .before .before .before .before .before .before .peek in
+    let t = c .before .before .before .before .before .before .before .before .before .before .before .t in
+    let is-punct = c .before .before .before .before .before .before .before .before .before .is-punct in
+    let if1 = c .before .before .before .before .before .before .before .before .if1 in
+    let past = c .before .before .before .before .before .before .before .past in
+    let parameter-lines = c .before .before .before .before .parameter-lines in (
+      λ ps k.
+          parameter-lines .ensures .0 (parametersOf ps)
+          (generics-angle k _ _ (meeting.peeked _ _ (peek .ensures) (t .given .1)) (past .ensures) (meeting.punct-of _ _ _ _ ((meeting.peeked _ _ (peek .ensures) (t .given .1)) .token) ∙ sym (is-punct .ensures) ∙ not-false _ (if1 .left))),
+      parameter-lines .ensures .1,
+    )
 
 pub generics-lines-spec : {M : Type 1} → statement M
 generics-lines-spec =

@@ -17,13 +17,21 @@ use Rattle.describe.proofs.listing.named_lines.Statement.{statement}
 use Rattle.describe.proofs.listing.named_lines.Tie as tie
 
 abbrev Inv-loop : tie.InvT-loop
-Inv-loop s roles₀ out₀ start c₀ at₀ count₀ roles out c at count = Lined namedLine reading.namedField s c₀ c out₀ out start at count × (at ≤ start + 65566 * count) × (length roles ≡ length roles₀) × (length out ≡ length out₀)
+Inv-loop s roles₀ out₀ start c₀ at₀ count₀ roles out c at count =
+    Lined namedLine reading.namedField s c₀ c out₀ out start at
+    count × (at ≤ start + 65566 * count) × (length roles ≡ length roles₀) × (length out ≡ length out₀)
 
 abbrev μ-loop : tie.MeasureT-loop
 μ-loop s roles₀ out₀ start c₀ at₀ count₀ roles out c at count = length s - c .at
 
 loop-holds : tie.Need-loop-holds Inv-loop μ-loop
-loop-holds c = (lined-start namedLine reading.namedField conserved.namedField-round ((c .before .before .before .pre) .0), omega arith, refl, refl)
+loop-holds c = (
+  lined-start namedLine reading.namedField conserved.namedField-round ((c .before .before .before .pre) .0),
+  omega
+      arith,
+  refl,
+  refl,
+)
 
 named-field-requires : tie.Need-named-field-requires Inv-loop μ-loop
 named-field-requires c κs = (c .before .loop) .inv .0 .inList
@@ -32,40 +40,98 @@ enum-known-f : tie.Need-enum-known-f Inv-loop μ-loop
 enum-known-f c = search needs
 
 put-named-requires : tie.Need-put-named-requires Inv-loop μ-loop
-put-named-requires c κs = (meets-tells (meeting.say (contract.fieldShown ((c .before .before .before .before .before .before .before .before .before .before .before .before .before .args) .s .now)) contract.fieldSaid ((c .before .before .before .f) .given .1) ((c .before .before .before .before .before .before .before .named-field) .ensures)) .4 .2 .within, ((c .before .before .before .before .before .before .before .before .before .before .before .before .before .pre) .1 .0, omega (arith, (c .before .before .before .before .before .before .before .before .before .loop) .inv .1, (c .before .before .before .before .before .before .before .before .before .loop) .inv .0 .few, (c .before .before .before .before .before .before .before .before .before .loop) .inv .0 .inList .within, (c .before .before .before .before .before .before .before .before .before .before .before .before .before .pre) .1 .0, (c .before .before .before .before .before .before .before .before .before .before .before .before .before .pre) .1 .1)))
+put-named-requires c κs =
+    let args = c .before .before .before .before .before .before .before .before .before .before .before .before .before .args in
+    let pre = c .before .before .before .before .before .before .before .before .before .before .before .before .before .pre in
+    let loop = c .before .before .before .before .before .before .before .before .before .loop in
+    let named-field = c .before .before .before .before .before .before .before .named-field in (
+      meets-tells
+          (meeting.say (contract.fieldShown (args .s .now)) contract.fieldSaid ((c .before .before .before .f) .given .1) (named-field .ensures)) .4 .2 .within,
+      (pre .1 .0, omega (arith, loop .inv .1, loop .inv .0 .few, loop .inv .0 .inList .within, pre .1 .0, pre .1 .1)),
+    )
 
 add-count : tie.Need-add-count Inv-loop μ-loop
-add-count c = omega (arith, (c .before .before .before .before .before .before .before .before .before .before .before .before .before .loop) .inv .0 .few, (c .before .before .before .before .before .before .before .before .before .before .before .before .before .loop) .inv .0 .inList .within)
+add-count c =
+    let loop = c .before .before .before .before .before .before .before .before .before .before .before .before .before .loop in
+    omega (arith, loop .inv .0 .few, loop .inv .0 .inList .within)
 
 loop-less : tie.Need-loop-less Inv-loop μ-loop
-loop-less c = let n = forward reading.namedField conserved.namedField-round (meeting.say (contract.fieldShown ((c .before .before .before .before .before .before .before .before .before .before .before .before .before .before .before .before .before .args) .s .now)) contract.fieldSaid ((c .before .before .before .before .before .before .before .f) .given .1) ((c .before .before .before .before .before .before .before .before .before .before .before .named-field) .ensures)) (λ v h. h) in omega (arith, n .0, n .1 .within)
+loop-less c =
+    let args = c .before .before .before .before .before .before .before .before .before .before .before .before .before .before .before .before .before .args in
+    let named-field = c .before .before .before .before .before .before .before .before .before .before .before .named-field in
+    let f = c .before .before .before .before .before .before .before .f in
+    let n = forward reading.namedField conserved.namedField-round (meeting.say (contract.fieldShown (args .s .now)) contract.fieldSaid (f .given .1) (named-field .ensures)) (λ v h. h) in omega (arith, n .0, n .1 .within)
 
 loop-again : tie.Need-loop-again Inv-loop μ-loop
-loop-again c = (lined-more namedLine reading.namedField conserved.namedField-round ((c .before .before .before .before .before .before .before .before .before .before .before .before .before .loop) .inv .0) (meeting.say (contract.fieldShown ((c .before .before .before .before .before .before .before .before .before .before .before .before .before .before .before .before .before .args) .s .now)) contract.fieldSaid ((c .before .before .before .before .before .before .before .f) .given .1) ((c .before .before .before .before .before .before .before .before .before .before .before .named-field) .ensures)) (λ v h. h) (λ a t. put-as (ap (λ n. line FIELD n (decimal ((c .before .before .before .before .before .before .before .before .before .before .before .before .before .loop) .count))) (t .bytes)) ((c .before .before .before .put-named) .ensures .0)), omega (arith, (c .before .before .before .put-named) .ensures .1, (c .before .before .before .before .before .before .before .before .before .before .before .before .before .loop) .inv .1), (c .before .before .before .before .before .before .before .before .before .before .before .named-field) .kept .1 .1 .0 ∙ (c .before .before .before .before .before .before .before .before .before .before .before .before .before .loop) .inv .2, (c .before .before .before .put-named) .kept .1 .1 .0 ∙ (c .before .before .before .before .before .before .before .before .before .before .before .before .before .loop) .inv .3)
+loop-again c =
+    let args = c .before .before .before .before .before .before .before .before .before .before .before .before .before .before .before .before .before .args in
+    let loop = c .before .before .before .before .before .before .before .before .before .before .before .before .before .loop in
+    let named-field = c .before .before .before .before .before .before .before .before .before .before .before .named-field in
+    let f = c .before .before .before .before .before .before .before .f in
+    let put-named = c .before .before .before .put-named in (
+      lined-more namedLine reading.namedField conserved.namedField-round (loop .inv .0)
+          (meeting.say (contract.fieldShown (args .s .now)) contract.fieldSaid (f .given .1) (named-field .ensures))
+          (λ v h. h) (λ a t. put-as (ap (λ n. line FIELD n (decimal (loop .count))) (t .bytes)) (put-named .ensures .0)),
+      omega (arith, put-named .ensures .1, loop .inv .1),
+      named-field .kept .1 .1 .0 ∙ loop .inv .2,
+      put-named .kept .1 .1 .0 ∙ loop .inv .3,
+    )
 
 enum-told : tie.Need-enum-told Inv-loop μ-loop
 enum-told c = search needs
 
 same-length : tie.Need-same-length Inv-loop μ-loop
-same-length c = (c .before .before .before .before .named-field) .kept .1 .1 .0 ∙ (c .before .before .before .before .before .before .loop) .inv .2
+same-length c =
+    let loop = c .before .before .before .before .before .before .loop in
+    let named-field = c .before .before .before .before .named-field in
+    named-field .kept .1 .1 .0 ∙ loop .inv .2
 
 same-length-2 : tie.Need-same-length-2 Inv-loop μ-loop
-same-length-2 c = (c .before .before .before .before .before .before .loop) .inv .3
+same-length-2 c =
+    let loop = c .before .before .before .before .before .before .loop in
+    loop .inv .3
 
 returns : tie.Need-returns Inv-loop μ-loop
-returns c = (λ xs k. lined-done namedLine reading.namedField conserved.namedField-round ((c .before .before .before .before .before .before .loop) .inv .0) (meeting.say (contract.fieldShown ((c .before .before .before .before .before .before .before .before .before .before .args) .s .now)) contract.fieldSaid ((c .enum-told) .given .1) ((c .before .before .before .before .named-field) .ensures)) (λ v h. h) xs k, omega (arith, (c .before .before .before .before .before .before .loop) .inv .1, (c .before .before .before .before .before .before .loop) .inv .0 .few, (c .before .before .before .before .before .before .loop) .inv .0 .inList .within, (c .before .before .before .before .before .before .before .before .before .before .pre) .1 .0))
+returns c =
+    let args = c .before .before .before .before .before .before .before .before .before .before .args in
+    let pre = c .before .before .before .before .before .before .before .before .before .before .pre in
+    let loop = c .before .before .before .before .before .before .loop in
+    let named-field = c .before .before .before .before .named-field in (
+      λ xs k.
+          lined-done namedLine reading.namedField conserved.namedField-round (loop .inv .0)
+          (meeting.say (contract.fieldShown (args .s .now)) contract.fieldSaid ((c .enum-told) .given .1)
+          (named-field .ensures))
+          (λ v h. h) xs k,
+      omega (arith, loop .inv .1, loop .inv .0 .few, loop .inv .0 .inList .within, pre .1 .0),
+    )
 
 enum-told-2 : tie.Need-enum-told-2 Inv-loop μ-loop
 enum-told-2 c = search needs
 
 same-length-3 : tie.Need-same-length-3 Inv-loop μ-loop
-same-length-3 c = (c .before .before .before .before .named-field) .kept .1 .1 .0 ∙ (c .before .before .before .before .before .before .loop) .inv .2
+same-length-3 c =
+    let loop = c .before .before .before .before .before .before .loop in
+    let named-field = c .before .before .before .before .named-field in
+    named-field .kept .1 .1 .0 ∙ loop .inv .2
 
 same-length-4 : tie.Need-same-length-4 Inv-loop μ-loop
-same-length-4 c = (c .before .before .before .before .before .before .loop) .inv .3
+same-length-4 c =
+    let loop = c .before .before .before .before .before .before .loop in
+    loop .inv .3
 
 returns-2 : tie.Need-returns-2 Inv-loop μ-loop
-returns-2 c = (λ xs k. lined-refused namedLine reading.namedField conserved.namedField-round ((c .before .before .before .before .before .before .loop) .inv .0) (meeting.say (contract.fieldShown ((c .before .before .before .before .before .before .before .before .before .before .args) .s .now)) contract.fieldSaid ((c .enum-told2) .given .1) ((c .before .before .before .before .named-field) .ensures)) xs k, omega (arith, (c .before .before .before .before .before .before .loop) .inv .1, (c .before .before .before .before .before .before .loop) .inv .0 .few, (c .before .before .before .before .before .before .loop) .inv .0 .inList .within, (c .before .before .before .before .before .before .before .before .before .before .pre) .1 .0))
+returns-2 c =
+    let args = c .before .before .before .before .before .before .before .before .before .before .args in
+    let pre = c .before .before .before .before .before .before .before .before .before .before .pre in
+    let loop = c .before .before .before .before .before .before .loop in
+    let named-field = c .before .before .before .before .named-field in (
+      λ xs k.
+          lined-refused namedLine reading.namedField conserved.namedField-round (loop .inv .0)
+          (meeting.say (contract.fieldShown (args .s .now)) contract.fieldSaid ((c .enum-told2) .given .1)
+          (named-field .ensures))
+          xs k,
+      omega (arith, loop .inv .1, loop .inv .0 .few, loop .inv .0 .inList .within, pre .1 .0),
+    )
 
 pub named-lines-spec : {M : Type 1} → statement M
 named-lines-spec =

@@ -14,7 +14,14 @@ same-length : tie.Need-same-length
 same-length c = search needs
 
 returns : tie.Need-returns
-returns c = (joined ((c .before .before .before .before .before .before .put-bytes) .ensures) ((c .before .before .put-token) .ensures .0), omega (arith, (c .before .before .before .before .before .before .put-bytes) .ensures .next, (c .before .before .put-token) .ensures .1, (c .before .before .before .before .before .before .before .before .before .before .before .pre) .1 .1 .0))
+returns c =
+    let pre = c .before .before .before .before .before .before .before .before .before .before .before .pre in
+    let put-bytes = c .before .before .before .before .before .before .put-bytes in
+    let put-token = c .before .before .put-token in (
+      joined (put-bytes .ensures) (put-token .ensures .0),
+      omega
+          (arith, put-bytes .ensures .next, put-token .ensures .1, pre .1 .1 .0),
+    )
 
 pub put-head-spec : {M : Type 1} → statement M
 put-head-spec = tie.close (tie.spec put-bytes-requires put-token-requires same-length returns)

@@ -20,7 +20,14 @@ same-length : tie.Need-same-length
 same-length c = search needs
 
 returns : tie.Need-returns
-returns c = (put-line FIELD (slice ((c .before .before .before .before .before .before .before .before .before .before .before .args) .name .start) ((c .before .before .before .before .before .before .before .before .before .before .before .args) .name .end) ((c .before .before .before .before .before .before .before .before .before .before .before .args) .s .now)) (decimal ((c .before .before .before .before .before .before .before .before .before .before .before .args) .n)) ((c .before .before .before .before .before .before .put-head) .ensures .0) ((c .before .before .put-position) .ensures .0), omega (arith, (c .before .before .before .before .before .before .put-head) .ensures .1, (c .before .before .put-position) .ensures .1))
+returns c =
+    let args = c .before .before .before .before .before .before .before .before .before .before .before .args in
+    let put-head = c .before .before .before .before .before .before .put-head in
+    let put-position = c .before .before .put-position in (
+      put-line FIELD (slice (args .name .start) (args .name .end) (args .s .now)) (decimal (args .n))
+          (put-head .ensures .0) (put-position .ensures .0),
+      omega (arith, put-head .ensures .1, put-position .ensures .1),
+    )
 
 pub put-named-spec : {M : Type 1} → statement M
 put-named-spec =

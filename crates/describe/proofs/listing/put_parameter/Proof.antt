@@ -25,7 +25,16 @@ same-length : tie.Need-same-length
 same-length c = search needs
 
 returns : tie.Need-returns
-returns c = (λ a k. put-as (ap (λ n. line PARAM n DASH) (quoted a (sym (k .kind) ∙ (c .before .before .before .before .before .before .before .before .before .before .if1) .taken) ∙ ap (λ n. 39 ∷ n) (k .text .bytes))) (put-line PARAM (39 ∷ slice ((c .before .before .before .before .before .before .before .before .before .before .before .before .before .before .args) .p .name .start) ((c .before .before .before .before .before .before .before .before .before .before .before .before .before .before .args) .p .name .end) ((c .before .before .before .before .before .before .before .before .before .before .before .before .before .before .args) .s .now)) DASH ((c .before .before .before .before .before .before .before .put-head) .ensures .0) ((c .before .before .put-bytes) .ensures)), omega (arith, (c .before .before .before .before .before .before .before .put-head) .ensures .1, (c .before .before .put-bytes) .ensures .next))
+returns c =
+    let args = c .before .before .before .before .before .before .before .before .before .before .before .before .before .before .args in
+    let if1 = c .before .before .before .before .before .before .before .before .before .before .if1 in
+    let put-head = c .before .before .before .before .before .before .before .put-head in
+    let put-bytes = c .before .before .put-bytes in (
+      λ a k.
+          put-as (ap (λ n. line PARAM n DASH) (quoted a (sym (k .kind) ∙ if1 .taken) ∙ ap (λ n. 39 ∷ n) (k .text .bytes)))
+          (put-line PARAM (39 ∷ slice (args .p .name .start) (args .p .name .end) (args .s .now)) DASH (put-head .ensures .0) (put-bytes .ensures)),
+      omega (arith, put-head .ensures .1, put-bytes .ensures .next),
+    )
 
 slice-aggregate-put-head-2 : tie.Need-slice-aggregate-put-head-2
 slice-aggregate-put-head-2 c = search needs
@@ -43,7 +52,16 @@ same-length-2 : tie.Need-same-length-2
 same-length-2 c = search needs
 
 returns-2 : tie.Need-returns-2
-returns-2 c = (λ a k. put-as (ap (λ n. line PARAM n DASH) (unquoted a (sym (k .kind) ∙ (c .before .before .before .before .before .before .before .before .before .before .if1) .left) ∙ k .text .bytes)) (put-line PARAM (slice ((c .before .before .before .before .before .before .before .before .before .before .before .before .before .before .args) .p .name .start) ((c .before .before .before .before .before .before .before .before .before .before .before .before .before .before .args) .p .name .end) ((c .before .before .before .before .before .before .before .before .before .before .before .before .before .before .args) .s .now)) DASH ((c .before .before .before .before .before .before .before .put-head2) .ensures .0) ((c .before .before .put-bytes2) .ensures)), omega (arith, (c .before .before .before .before .before .before .before .put-head2) .ensures .1, (c .before .before .put-bytes2) .ensures .next))
+returns-2 c =
+    let args = c .before .before .before .before .before .before .before .before .before .before .before .before .before .before .args in
+    let if1 = c .before .before .before .before .before .before .before .before .before .before .if1 in
+    let put-head2 = c .before .before .before .before .before .before .before .put-head2 in
+    let put-bytes2 = c .before .before .put-bytes2 in (
+      λ a k.
+          put-as (ap (λ n. line PARAM n DASH) (unquoted a (sym (k .kind) ∙ if1 .left) ∙ k .text .bytes))
+          (put-line PARAM (slice (args .p .name .start) (args .p .name .end) (args .s .now)) DASH (put-head2 .ensures .0) (put-bytes2 .ensures)),
+      omega (arith, put-head2 .ensures .1, put-bytes2 .ensures .next),
+    )
 
 pub put-parameter-spec : {M : Type 1} → statement M
 put-parameter-spec =

@@ -17,7 +17,14 @@ same-length : tie.Need-same-length
 same-length c = search needs
 
 returns : tie.Need-returns
-returns c = (joined ((c .before .before .before .before .before .before .before .before .before .before .put-byte) .ensures) (joined ((c .before .before .before .before .before .before .put-number) .ensures .0) ((c .before .before .put-byte2) .ensures)), omega (arith, (c .before .before .before .before .before .before .before .before .before .before .put-byte) .ensures .next, (c .before .before .before .before .before .before .put-number) .ensures .1, (c .before .before .put-byte2) .ensures .next))
+returns c =
+    let put-byte = c .before .before .before .before .before .before .before .before .before .before .put-byte in
+    let put-number = c .before .before .before .before .before .before .put-number in
+    let put-byte2 = c .before .before .put-byte2 in (
+      joined (put-byte .ensures) (joined (put-number .ensures .0) (put-byte2 .ensures)),
+      omega
+          (arith, put-byte .ensures .next, put-number .ensures .1, put-byte2 .ensures .next),
+    )
 
 pub put-position-spec : {M : Type 1} → statement M
 put-position-spec =

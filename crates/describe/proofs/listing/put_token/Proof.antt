@@ -23,10 +23,15 @@ same-length : tie.Need-same-length
 same-length c = search needs
 
 returns : tie.Need-returns
-returns c = let p = put-as (drop-of-take ((c .before .before .before .before .before .before .before .before .args) .t .start) ((c .before .before .before .before .before .before .before .before .args) .t .end) ((c .before .before .before .before .before .before .before .before .args) .s .now)) ((c .before .before .put-bytes) .ensures) in (p, omega (arith, p .next, length-slice ((c .before .before .before .before .before .before .before .before .args) .t .start) ((c .before .before .before .before .before .before .before .before .args) .t .end) ((c .before .before .before .before .before .before .before .before .args) .s .now) ((c .before .before .before .before .before .before .before .before .pre) .0), (c .before .before .before .before .before .before .before .before .pre) .0, (c .before .before .before .before .before .before .before .before .pre) .1 .0))
+returns c =
+    let args = c .before .before .before .before .before .before .before .before .args in
+    let pre = c .before .before .before .before .before .before .before .before .pre in
+    let p = put-as (drop-of-take (args .t .start) (args .t .end) (args .s .now)) ((c .before .before .put-bytes) .ensures) in (p, omega (arith, p .next, length-slice (args .t .start) (args .t .end) (args .s .now) (pre .0), pre .0, pre .1 .0))
 
 returns-2 : tie.Need-returns-2
-returns-2 c = (put-as (slice-none ((c .before .before .before .args) .s .now) ((c .before .before .before .args) .t .start) ((c .before .before .before .args) .t .end) (omega arith)) (nothing _ _), omega arith)
+returns-2 c =
+    let args = c .before .before .before .args in
+    (put-as (slice-none (args .s .now) (args .t .start) (args .t .end) (omega arith)) (nothing _ _), omega arith)
 
 pub put-token-spec : {M : Type 1} → statement M
 put-token-spec =

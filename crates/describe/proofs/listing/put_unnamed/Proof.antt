@@ -19,7 +19,14 @@ same-length : tie.Need-same-length
 same-length c = search needs
 
 returns : tie.Need-returns
-returns c = (put-line FIELD DASH (decimal ((c .before .before .before .before .before .before .before .before .before .before .args) .n)) ((c .before .before .before .before .before .before .put-bytes) .ensures) ((c .before .before .put-position) .ensures .0), omega (arith, (c .before .before .before .before .before .before .put-bytes) .ensures .next, (c .before .before .put-position) .ensures .1))
+returns c =
+    let args = c .before .before .before .before .before .before .before .before .before .before .args in
+    let put-bytes = c .before .before .before .before .before .before .put-bytes in
+    let put-position = c .before .before .put-position in (
+      put-line FIELD DASH (decimal (args .n)) (put-bytes .ensures) (put-position .ensures .0),
+      omega
+          (arith, put-bytes .ensures .next, put-position .ensures .1),
+    )
 
 pub put-unnamed-spec : {M : Type 1} → statement M
 put-unnamed-spec =

@@ -19,7 +19,12 @@ put-byte-requires : tie.Need-put-byte-requires
 put-byte-requires c κs = search needs
 
 put-value-requires : tie.Need-put-value-requires
-put-value-requires c κs = (((c .before .before .before .before .before .before .before .before .before .before .before .before .before .pre) .0 .0 .value, (c .before .before .before .before .before .before .before .before .before .before .before .before .before .pre) .0 .1 .value), ((c .before .before .before .before .before .before .before .before .before .before .before .before .before .pre) .1 .0, omega (arith, (c .before .before .before .before .before .before .before .put-head) .ensures .1, (c .before .before .before .put-byte) .ensures .next, (c .before .before .before .before .before .before .before .before .before .before .before .before .before .pre) .1 .1)))
+put-value-requires c κs =
+    let pre = c .before .before .before .before .before .before .before .before .before .before .before .before .before .pre in
+    let put-head = c .before .before .before .before .before .before .before .put-head in (
+      (pre .0 .0 .value, pre .0 .1 .value),
+      (pre .1 .0, omega (arith, put-head .ensures .1, (c .before .before .before .put-byte) .ensures .next, pre .1 .1)),
+    )
 
 put-byte-requires-2 : tie.Need-put-byte-requires-2
 put-byte-requires-2 c κs = search needs
@@ -28,7 +33,17 @@ same-length : tie.Need-same-length
 same-length c = search needs
 
 returns : tie.Need-returns
-returns c = (λ a k. put-as (ap (λ n. line VARIANT n (number ((c .before .before .before .before .before .before .before .before .before .before .before .before .before .before .before .before .before .before .before .before .args) .n) (a .value))) (k .name .bytes)) (put-line VARIANT (slice ((c .before .before .before .before .before .before .before .before .before .before .before .before .before .before .before .before .before .before .before .before .args) .v .name .start) ((c .before .before .before .before .before .before .before .before .before .before .before .before .before .before .before .before .before .before .before .before .args) .v .name .end) ((c .before .before .before .before .before .before .before .before .before .before .before .before .before .before .before .before .before .before .before .before .args) .s .now)) (number ((c .before .before .before .before .before .before .before .before .before .before .before .before .before .before .before .before .before .before .before .before .args) .n) (a .value)) ((c .before .before .before .before .before .before .before .before .before .before .before .before .before .before .put-head) .ensures .0) (joined ((c .before .before .before .before .before .before .before .before .before .before .put-byte) .ensures) (joined ((c .before .before .before .before .before .before .put-value) .ensures .0 (a .value) (k .value)) ((c .before .before .put-byte2) .ensures)))), omega (arith, (c .before .before .before .before .before .before .before .before .before .before .before .before .before .before .put-head) .ensures .1, (c .before .before .before .before .before .before .before .before .before .before .put-byte) .ensures .next, (c .before .before .before .before .before .before .put-value) .ensures .1, (c .before .before .put-byte2) .ensures .next))
+returns c =
+    let args = c .before .before .before .before .before .before .before .before .before .before .before .before .before .before .before .before .before .before .before .before .args in
+    let put-head = c .before .before .before .before .before .before .before .before .before .before .before .before .before .before .put-head in
+    let put-byte = c .before .before .before .before .before .before .before .before .before .before .put-byte in
+    let put-value = c .before .before .before .before .before .before .put-value in
+    let put-byte2 = c .before .before .put-byte2 in (
+      λ a k.
+          put-as (ap (λ n. line VARIANT n (number (args .n) (a .value))) (k .name .bytes))
+          (put-line VARIANT (slice (args .v .name .start) (args .v .name .end) (args .s .now)) (number (args .n) (a .value)) (put-head .ensures .0) (joined (put-byte .ensures) (joined (put-value .ensures .0 (a .value) (k .value)) (put-byte2 .ensures)))),
+      omega (arith, put-head .ensures .1, put-byte .ensures .next, put-value .ensures .1, put-byte2 .ensures .next),
+    )
 
 pub put-variant-spec : {M : Type 1} → statement M
 put-variant-spec =

@@ -22,8 +22,10 @@ same-length c = search needs
 
 returns : tie.Need-returns
 returns c =
-    let list = c .before .before .before .before .before .before .before .before .before .args .list .now in
-    let answered = c .before .before .before .before .before .write-listing .ensures in
+    let args = c .before .before .before .before .before .before .before .before .before .args in
+    let write-listing = c .before .before .before .before .before .write-listing in
+    let list = args .list .now in
+    let answered = write-listing .ensures in
     let listed = rw (c .before .n .given .1) at answered in
     reported list (listed-put listed) (reported-length list listed)
 
@@ -32,9 +34,12 @@ same-length-2 c = search needs
 
 returns-2 : tie.Need-returns-2
 returns-2 c =
-    let args = c .before .before .before .before .before .before .before .before .before .before .before .before .before .args in
-    let answered = c .before .before .before .before .before .before .before .before .before .write-listing .ensures in
-    let refused = rw (c .before .before .before .before .before .r .given .1) at answered in
+    let args-2 = c .before .before .before .before .before .before .before .before .before .before .before .before .before .args in
+    let write-listing = c .before .before .before .before .before .before .before .before .before .write-listing in
+    let r = c .before .before .before .before .before .r in
+    let args = args-2 in
+    let answered = write-listing .ensures in
+    let refused = rw (r .given .1) at answered in
     let put = c .before .before .put-refusal .ensures in
     reported (args .list .now) (refused-put refused (put .0)) (omega (arith, put .1))
 

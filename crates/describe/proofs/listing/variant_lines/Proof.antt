@@ -16,13 +16,21 @@ use Rattle.describe.proofs.listing.variant_lines.Statement.{statement}
 use Rattle.describe.proofs.listing.variant_lines.Tie as tie
 
 abbrev Inv-loop : tie.InvT-loop
-Inv-loop s roles₀ out₀ start c₀ at₀ count₀ roles out c at count = Lined variantLines reading.variant s c₀ c out₀ out start at count × (at ≤ start + 4300200000 * count) × (length roles ≡ length roles₀) × (length out ≡ length out₀)
+Inv-loop s roles₀ out₀ start c₀ at₀ count₀ roles out c at count =
+    Lined variantLines reading.variant s c₀ c out₀ out start at
+    count × (at ≤ start + 4300200000 * count) × (length roles ≡ length roles₀) × (length out ≡ length out₀)
 
 abbrev μ-loop : tie.MeasureT-loop
 μ-loop s roles₀ out₀ start c₀ at₀ count₀ roles out c at count = length s - c .at
 
 loop-holds : tie.Need-loop-holds Inv-loop μ-loop
-loop-holds c = (lined-start variantLines reading.variant conserved.variant-round ((c .before .before .before .pre) .0), omega arith, refl, refl)
+loop-holds c = (
+  lined-start variantLines reading.variant conserved.variant-round ((c .before .before .before .pre) .0),
+  omega
+      arith,
+  refl,
+  refl,
+)
 
 variant-requires : tie.Need-variant-requires Inv-loop μ-loop
 variant-requires c κs = (c .before .loop) .inv .0 .inList
@@ -31,43 +39,124 @@ enum-known-v : tie.Need-enum-known-v Inv-loop μ-loop
 enum-known-v c = search needs
 
 put-variant-requires : tie.Need-put-variant-requires Inv-loop μ-loop
-put-variant-requires c κs = ((meets-tells (meeting.say (contract.variantShown ((c .before .before .before .before .before .before .before .before .before .before .before .before .args) .s .now)) contract.variantSaid ((c .before .before .v) .given .1) ((c .before .before .before .before .before .before .variant) .ensures)) .4 .0, meets-tells (meeting.say (contract.variantShown ((c .before .before .before .before .before .before .before .before .before .before .before .before .args) .s .now)) contract.variantSaid ((c .before .before .v) .given .1) ((c .before .before .before .before .before .before .variant) .ensures)) .4 .2), ((c .before .before .before .before .before .before .before .before .before .before .before .before .pre) .1 .0, omega (arith, (c .before .before .before .before .before .before .before .before .loop) .inv .1, (c .before .before .before .before .before .before .before .before .loop) .inv .0 .few, (c .before .before .before .before .before .before .before .before .loop) .inv .0 .inList .within, (c .before .before .before .before .before .before .before .before .before .before .before .before .pre) .1 .0, (c .before .before .before .before .before .before .before .before .before .before .before .before .pre) .1 .1)))
+put-variant-requires c κs =
+    let args = c .before .before .before .before .before .before .before .before .before .before .before .before .args in
+    let pre = c .before .before .before .before .before .before .before .before .before .before .before .before .pre in
+    let loop = c .before .before .before .before .before .before .before .before .loop in
+    let variant = c .before .before .before .before .before .before .variant in
+    let v = c .before .before .v in (
+      (meets-tells (meeting.say (contract.variantShown (args .s .now)) contract.variantSaid (v .given .1) (variant .ensures)) .4 .0, meets-tells (meeting.say (contract.variantShown (args .s .now)) contract.variantSaid (v .given .1) (variant .ensures)) .4 .2),
+      (pre .1 .0, omega (arith, loop .inv .1, loop .inv .0 .few, loop .inv .0 .inList .within, pre .1 .0, pre .1 .1)),
+    )
 
 field-lines-requires : tie.Need-field-lines-requires Inv-loop μ-loop
-field-lines-requires c κs = ((meets-tells (meeting.say (contract.variantShown ((c .before .before .before .before .before .before .before .before .before .before .before .before .before .before .before .before .before .args) .s .now)) contract.variantSaid ((c .before .before .before .before .before .before .before .v) .given .1) ((c .before .before .before .before .before .before .before .before .before .before .before .variant) .ensures)) .4 .0 .fields, meets-tells (meeting.say (contract.variantShown ((c .before .before .before .before .before .before .before .before .before .before .before .before .before .before .before .before .before .args) .s .now)) contract.variantSaid ((c .before .before .before .before .before .before .before .v) .given .1) ((c .before .before .before .before .before .before .before .before .before .before .before .variant) .ensures)) .4 .2 .fields), ((c .before .before .before .before .before .before .before .before .before .before .before .before .before .before .before .before .before .pre) .1 .0, omega (arith, (c .before .before .before .before .put-variant) .ensures .1, (c .before .before .before .before .before .before .before .before .before .before .before .before .before .loop) .inv .1, (c .before .before .before .before .before .before .before .before .before .before .before .before .before .loop) .inv .0 .few, (c .before .before .before .before .before .before .before .before .before .before .before .before .before .loop) .inv .0 .inList .within, (c .before .before .before .before .before .before .before .before .before .before .before .before .before .before .before .before .before .pre) .1 .0, (c .before .before .before .before .before .before .before .before .before .before .before .before .before .before .before .before .before .pre) .1 .1)))
+field-lines-requires c κs =
+    let args = c .before .before .before .before .before .before .before .before .before .before .before .before .before .before .before .before .before .args in
+    let pre = c .before .before .before .before .before .before .before .before .before .before .before .before .before .before .before .before .before .pre in
+    let loop = c .before .before .before .before .before .before .before .before .before .before .before .before .before .loop in
+    let variant = c .before .before .before .before .before .before .before .before .before .before .before .variant in
+    let v = c .before .before .before .before .before .before .before .v in
+    let put-variant = c .before .before .before .before .put-variant in (
+      (meets-tells (meeting.say (contract.variantShown (args .s .now)) contract.variantSaid (v .given .1) (variant .ensures)) .4 .0 .fields, meets-tells (meeting.say (contract.variantShown (args .s .now)) contract.variantSaid (v .given .1) (variant .ensures)) .4 .2 .fields),
+      (
+        pre .1 .0,
+        omega (
+          arith,
+          put-variant .ensures .1,
+          loop .inv .1,
+          loop .inv .0 .few,
+          loop .inv .0 .inList .within,
+          pre .1 .0,
+          pre .1 .1,
+        ),
+      ),
+    )
 
 add-count : tie.Need-add-count Inv-loop μ-loop
-add-count c = omega (arith, (c .before .before .before .before .before .before .before .before .before .before .before .before .before .before .before .before .before .before .before .loop) .inv .0 .few, (c .before .before .before .before .before .before .before .before .before .before .before .before .before .before .before .before .before .before .before .loop) .inv .0 .inList .within, (c .before .before .before .before .before .before .before .before .before .before .before .before .before .before .before .before .before .before .before .before .before .before .before .pre) .1 .0)
+add-count c =
+    let pre = c .before .before .before .before .before .before .before .before .before .before .before .before .before .before .before .before .before .before .before .before .before .before .before .pre in
+    let loop = c .before .before .before .before .before .before .before .before .before .before .before .before .before .before .before .before .before .before .before .loop in
+    omega (arith, loop .inv .0 .few, loop .inv .0 .inList .within, pre .1 .0)
 
 loop-less : tie.Need-loop-less Inv-loop μ-loop
-loop-less c = let n = forward reading.variant conserved.variant-round (meeting.say (contract.variantShown ((c .before .before .before .before .before .before .before .before .before .before .before .before .before .before .before .before .before .before .before .before .before .before .before .args) .s .now)) contract.variantSaid ((c .before .before .before .before .before .before .before .before .before .before .before .before .before .v) .given .1) ((c .before .before .before .before .before .before .before .before .before .before .before .before .before .before .before .before .before .variant) .ensures)) (λ v h. h) in omega (arith, n .0, n .1 .within)
+loop-less c =
+    let args = c .before .before .before .before .before .before .before .before .before .before .before .before .before .before .before .before .before .before .before .before .before .before .before .args in
+    let variant = c .before .before .before .before .before .before .before .before .before .before .before .before .before .before .before .before .before .variant in
+    let v-2 = c .before .before .before .before .before .before .before .before .before .before .before .before .before .v in
+    let n = forward reading.variant conserved.variant-round (meeting.say (contract.variantShown (args .s .now)) contract.variantSaid (v-2 .given .1) (variant .ensures)) (λ v h. h) in omega (arith, n .0, n .1 .within)
 
 loop-again : tie.Need-loop-again Inv-loop μ-loop
-loop-again c = (lined-more variantLines reading.variant conserved.variant-round ((c .before .before .before .before .before .before .before .before .before .before .before .before .before .before .before .before .before .before .before .loop) .inv .0) (meeting.say (contract.variantShown ((c .before .before .before .before .before .before .before .before .before .before .before .before .before .before .before .before .before .before .before .before .before .before .before .args) .s .now)) contract.variantSaid ((c .before .before .before .before .before .before .before .before .before .before .before .before .before .v) .given .1) ((c .before .before .before .before .before .before .before .before .before .before .before .before .before .before .before .before .before .variant) .ensures)) (λ v h. h) (λ a t. joined ((c .before .before .before .before .before .before .before .before .before .before .put-variant) .ensures .0 a t) ((c .before .before .before .before .before .field-lines) .ensures .0 (a .fields) (t .fields))), omega (arith, (c .before .before .before .before .before .before .before .before .before .before .put-variant) .ensures .1, (c .before .before .before .before .before .field-lines) .ensures .1, (c .before .before .before .before .before .before .before .before .before .before .before .before .before .before .before .before .before .before .before .loop) .inv .1), (c .before .before .before .before .before .field-lines) .kept .1 .1 .0 ∙ (c .before .before .before .before .before .before .before .before .before .before .before .before .before .before .before .before .before .variant) .kept .1 .1 .0 ∙ (c .before .before .before .before .before .before .before .before .before .before .before .before .before .before .before .before .before .before .before .loop) .inv .2, (c .before .before .before .before .before .field-lines) .kept .1 .1 .1 .0 ∙ (c .before .before .before .before .before .before .before .before .before .before .put-variant) .kept .1 .1 .1 .0 ∙ (c .before .before .before .before .before .before .before .before .before .before .before .before .before .before .before .before .before .before .before .loop) .inv .3)
+loop-again c =
+    let args = c .before .before .before .before .before .before .before .before .before .before .before .before .before .before .before .before .before .before .before .before .before .before .before .args in
+    let loop = c .before .before .before .before .before .before .before .before .before .before .before .before .before .before .before .before .before .before .before .loop in
+    let variant = c .before .before .before .before .before .before .before .before .before .before .before .before .before .before .before .before .before .variant in
+    let v-2 = c .before .before .before .before .before .before .before .before .before .before .before .before .before .v in
+    let put-variant = c .before .before .before .before .before .before .before .before .before .before .put-variant in
+    let field-lines = c .before .before .before .before .before .field-lines in (
+      lined-more variantLines reading.variant conserved.variant-round (loop .inv .0)
+          (meeting.say (contract.variantShown (args .s .now)) contract.variantSaid (v-2 .given .1) (variant .ensures))
+          (λ v h. h) (λ a t. joined (put-variant .ensures .0 a t) (field-lines .ensures .0 (a .fields) (t .fields))),
+      omega
+          (arith, put-variant .ensures .1, field-lines .ensures .1, loop .inv .1),
+      field-lines .kept .1 .1 .0 ∙ variant .kept .1 .1 .0 ∙ loop .inv .2,
+      field-lines .kept .1 .1 .1 .0 ∙ put-variant .kept .1 .1 .1 .0 ∙ loop .inv .3,
+    )
 
 enum-told : tie.Need-enum-told Inv-loop μ-loop
 enum-told c = search needs
 
 same-length : tie.Need-same-length Inv-loop μ-loop
-same-length c = (c .before .before .before .before .variant) .kept .1 .1 .0 ∙ (c .before .before .before .before .before .before .loop) .inv .2
+same-length c =
+    let loop = c .before .before .before .before .before .before .loop in
+    let variant = c .before .before .before .before .variant in
+    variant .kept .1 .1 .0 ∙ loop .inv .2
 
 same-length-2 : tie.Need-same-length-2 Inv-loop μ-loop
-same-length-2 c = (c .before .before .before .before .before .before .loop) .inv .3
+same-length-2 c =
+    let loop = c .before .before .before .before .before .before .loop in
+    loop .inv .3
 
 returns : tie.Need-returns Inv-loop μ-loop
-returns c = (λ xs k. lined-done variantLines reading.variant conserved.variant-round ((c .before .before .before .before .before .before .loop) .inv .0) (meeting.say (contract.variantShown ((c .before .before .before .before .before .before .before .before .before .before .args) .s .now)) contract.variantSaid ((c .enum-told) .given .1) ((c .before .before .before .before .variant) .ensures)) (λ v h. h) xs k, omega (arith, (c .before .before .before .before .before .before .loop) .inv .1, (c .before .before .before .before .before .before .loop) .inv .0 .few, (c .before .before .before .before .before .before .loop) .inv .0 .inList .within, (c .before .before .before .before .before .before .before .before .before .before .pre) .1 .0))
+returns c =
+    let args = c .before .before .before .before .before .before .before .before .before .before .args in
+    let pre = c .before .before .before .before .before .before .before .before .before .before .pre in
+    let loop = c .before .before .before .before .before .before .loop in
+    let variant = c .before .before .before .before .variant in (
+      λ xs k.
+          lined-done variantLines reading.variant conserved.variant-round (loop .inv .0)
+          (meeting.say (contract.variantShown (args .s .now)) contract.variantSaid ((c .enum-told) .given .1)
+          (variant .ensures))
+          (λ v h. h) xs k,
+      omega (arith, loop .inv .1, loop .inv .0 .few, loop .inv .0 .inList .within, pre .1 .0),
+    )
 
 enum-told-2 : tie.Need-enum-told-2 Inv-loop μ-loop
 enum-told-2 c = search needs
 
 same-length-3 : tie.Need-same-length-3 Inv-loop μ-loop
-same-length-3 c = (c .before .before .before .before .variant) .kept .1 .1 .0 ∙ (c .before .before .before .before .before .before .loop) .inv .2
+same-length-3 c =
+    let loop = c .before .before .before .before .before .before .loop in
+    let variant = c .before .before .before .before .variant in
+    variant .kept .1 .1 .0 ∙ loop .inv .2
 
 same-length-4 : tie.Need-same-length-4 Inv-loop μ-loop
-same-length-4 c = (c .before .before .before .before .before .before .loop) .inv .3
+same-length-4 c =
+    let loop = c .before .before .before .before .before .before .loop in
+    loop .inv .3
 
 returns-2 : tie.Need-returns-2 Inv-loop μ-loop
-returns-2 c = (λ xs k. lined-refused variantLines reading.variant conserved.variant-round ((c .before .before .before .before .before .before .loop) .inv .0) (meeting.say (contract.variantShown ((c .before .before .before .before .before .before .before .before .before .before .args) .s .now)) contract.variantSaid ((c .enum-told2) .given .1) ((c .before .before .before .before .variant) .ensures)) xs k, omega (arith, (c .before .before .before .before .before .before .loop) .inv .1, (c .before .before .before .before .before .before .loop) .inv .0 .few, (c .before .before .before .before .before .before .loop) .inv .0 .inList .within, (c .before .before .before .before .before .before .before .before .before .before .pre) .1 .0))
+returns-2 c =
+    let args = c .before .before .before .before .before .before .before .before .before .before .args in
+    let pre = c .before .before .before .before .before .before .before .before .before .before .pre in
+    let loop = c .before .before .before .before .before .before .loop in
+    let variant = c .before .before .before .before .variant in (
+      λ xs k.
+          lined-refused variantLines reading.variant conserved.variant-round (loop .inv .0)
+          (meeting.say (contract.variantShown (args .s .now)) contract.variantSaid ((c .enum-told2) .given .1)
+          (variant .ensures))
+          xs k,
+      omega (arith, loop .inv .1, loop .inv .0 .few, loop .inv .0 .inList .within, pre .1 .0),
+    )
 
 pub variant-lines-spec : {M : Type 1} → statement M
 variant-lines-spec =

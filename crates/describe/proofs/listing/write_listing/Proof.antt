@@ -22,16 +22,32 @@ slice-aggregate-read-listing : tie.Need-slice-aggregate-read-listing
 slice-aggregate-read-listing c = search needs
 
 read-listing-requires : tie.Need-read-listing-requires
-read-listing-requires c κs = (first-in _ _ (sym ((c .before .before .before .before .check) .ensures) ∙ ap checked ((c .before .before .enum-told) .given .1)), bounds ((c .before .before .before .before .before .before .before .args) .list .now) (sym ((c .before .before .before .before .check) .ensures) ∙ ap checked ((c .before .before .enum-told) .given .1)) .bytes)
+read-listing-requires c κs =
+    let args = c .before .before .before .before .before .before .before .args in
+    let check = c .before .before .before .before .check in
+    let enum-told = c .before .before .enum-told in (
+      first-in _ _ (sym (check .ensures) ∙ ap checked (enum-told .given .1)),
+      bounds (args .list .now)
+          (sym (check .ensures) ∙ ap checked (enum-told .given .1)) .bytes,
+    )
 
 returns : tie.Need-returns
-returns c = let e = listing-checked ((c .before .before .before .before .before .before .args) .list .now) (length ((c .before .before .before .before .before .before .args) .out .now)) (sym ((c .before .before .before .check) .ensures) ∙ ap checked ((c .before .r) .given .1)) in listed-refused (sym e) (sym (ap (output ((c .before .before .before .before .before .before .args) .out .now)) e))
+returns c =
+    let args = c .before .before .before .before .before .before .args in
+    let e = listing-checked (args .list .now) (length (args .out .now)) (sym ((c .before .before .before .check) .ensures) ∙ ap checked ((c .before .r) .given .1)) in listed-refused (sym e) (sym (ap (output (args .out .now)) e))
 
 same-length : tie.Need-same-length
 same-length c = search needs
 
 returns-2 : tie.Need-returns-2
-returns-2 c = listed-as (listing-read ((c .before .before .before .before .before .before .before .before .before .before .before .args) .list .now) (length ((c .before .before .before .before .before .before .before .before .before .before .before .args) .out .now)) (sym ((c .before .before .before .before .before .before .before .before .check) .ensures) ∙ ap checked ((c .before .before .before .before .before .before .enum-told) .given .1))) ((c .before .before .before .read-listing) .ensures)
+returns-2 c =
+    let args = c .before .before .before .before .before .before .before .before .before .before .before .args in
+    let check = c .before .before .before .before .before .before .before .before .check in
+    let enum-told = c .before .before .before .before .before .before .enum-told in
+    listed-as
+    (listing-read (args .list .now) (length (args .out .now))
+    (sym (check .ensures) ∙ ap checked (enum-told .given .1)))
+    ((c .before .before .before .read-listing) .ensures)
 
 pub write-listing-spec : {M : Type 1} → statement M
 write-listing-spec =

@@ -32,37 +32,70 @@ enum-known-v : tie.Need-enum-known-v Inv-loop μ-loop
 enum-known-v c = search needs
 
 same-length : tie.Need-same-length Inv-loop μ-loop
-same-length c = (c .before .before .before .before .before .before .variant) .kept .1 .1 .0 ∙ (c .before .before .before .before .before .before .before .before .loop) .inv .1
+same-length c =
+    let loop = c .before .before .before .before .before .before .before .before .loop in
+    let variant = c .before .before .before .before .before .before .variant in
+    variant .kept .1 .1 .0 ∙ loop .inv .1
 
 returns : tie.Need-returns Inv-loop μ-loop
-returns c = λ vs i. let o = (c .before .before .before .before .before .before .before .before .loop) .inv .2 vs i in let m = inside-more reading.variant conserved.variant-round (o .1) (meeting.say (contract.variantShown ((c .before .before .before .before .before .before .before .before .before .before .before .args) .s .now)) contract.variantSaid ((c .before .before .v) .given .1) ((c .before .before .before .before .before .before .variant) .ensures)) (λ v h. h) in subst⁻¹ (contract.ValueOf ((c .before .before .before .before .before .before .before .before .before .before .before .args) .s .now) ((c .before .before .v) .given .0 .0 .value)) (o .2 ∙ value-first (omega arith) (m .split)) (m .shown .value)
+returns c =
+    let args = c .before .before .before .before .before .before .before .before .before .before .before .args in
+    let loop = c .before .before .before .before .before .before .before .before .loop in
+    let variant = c .before .before .before .before .before .before .variant in
+    let v-2 = c .before .before .v in
+    λ vs i. let o = loop .inv .2 vs i in let m = inside-more reading.variant conserved.variant-round (o .1) (meeting.say (contract.variantShown (args .s .now)) contract.variantSaid (v-2 .given .1) (variant .ensures)) (λ v h. h) in subst⁻¹ (contract.ValueOf (args .s .now) (v-2 .given .0 .0 .value)) (o .2 ∙ value-first (omega arith) (m .split)) (m .shown .value)
 
 sub-left : tie.Need-sub-left Inv-loop μ-loop
 sub-left c = omega arith
 
 loop-less : tie.Need-loop-less Inv-loop μ-loop
-loop-less c = let f = forward reading.variant conserved.variant-round (meeting.say (contract.variantShown ((c .before .before .before .before .before .before .before .before .before .before .before .before .args) .s .now)) contract.variantSaid ((c .before .before .before .v) .given .1) ((c .before .before .before .before .before .before .before .variant) .ensures)) (λ v h. h) in omega (arith, f .0, f .1 .within)
+loop-less c =
+    let args = c .before .before .before .before .before .before .before .before .before .before .before .before .args in
+    let variant = c .before .before .before .before .before .before .before .variant in
+    let f = forward reading.variant conserved.variant-round (meeting.say (contract.variantShown (args .s .now)) contract.variantSaid ((c .before .before .before .v) .given .1) (variant .ensures)) (λ v h. h) in omega (arith, f .0, f .1 .within)
 
 loop-again : tie.Need-loop-again Inv-loop μ-loop
-loop-again c = (forward reading.variant conserved.variant-round (meeting.say (contract.variantShown ((c .before .before .before .before .before .before .before .before .before .before .before .before .args) .s .now)) contract.variantSaid ((c .before .before .before .v) .given .1) ((c .before .before .before .before .before .before .before .variant) .ensures)) (λ v h. h) .1, (c .before .before .before .before .before .before .before .variant) .kept .1 .1 .0 ∙ (c .before .before .before .before .before .before .before .before .before .loop) .inv .1, λ vs i. let o = (c .before .before .before .before .before .before .before .before .before .loop) .inv .2 vs i in let m = inside-more reading.variant conserved.variant-round (o .1) (meeting.say (contract.variantShown ((c .before .before .before .before .before .before .before .before .before .before .before .before .args) .s .now)) contract.variantSaid ((c .before .before .before .v) .given .1) ((c .before .before .before .before .before .before .before .variant) .ensures)) (λ v h. h) in (m .others, m .inside, o .2 ∙ value-later (λ e. omega arith) (m .split)))
+loop-again c =
+    let args = c .before .before .before .before .before .before .before .before .before .before .before .before .args in
+    let loop = c .before .before .before .before .before .before .before .before .before .loop in
+    let variant = c .before .before .before .before .before .before .before .variant in
+    let v-2 = c .before .before .before .v in
+    (forward reading.variant conserved.variant-round (meeting.say (contract.variantShown (args .s .now)) contract.variantSaid (v-2 .given .1) (variant .ensures)) (λ v h. h) .1, variant .kept .1 .1 .0 ∙ loop .inv .1, λ vs i. let o = loop .inv .2 vs i in let m = inside-more reading.variant conserved.variant-round (o .1) (meeting.say (contract.variantShown (args .s .now)) contract.variantSaid (v-2 .given .1) (variant .ensures)) (λ v h. h) in (m .others, m .inside, o .2 ∙ value-later (λ e. omega arith) (m .split)))
 
 enum-told : tie.Need-enum-told Inv-loop μ-loop
 enum-told c = search needs
 
 same-length-2 : tie.Need-same-length-2 Inv-loop μ-loop
-same-length-2 c = (c .before .before .before .before .variant) .kept .1 .1 .0 ∙ (c .before .before .before .before .before .before .loop) .inv .1
+same-length-2 c =
+    let loop = c .before .before .before .before .before .before .loop in
+    let variant = c .before .before .before .before .variant in
+    variant .kept .1 .1 .0 ∙ loop .inv .1
 
 returns-2 : tie.Need-returns-2 Inv-loop μ-loop
-returns-2 c = λ vs i. let o = (c .before .before .before .before .before .before .loop) .inv .2 vs i in o .2 ∙ ap (valueAt ((c .before .before .before .before .before .before .loop) .left)) (inside-done reading.variant conserved.variant-round (o .1) (meeting.say (contract.variantShown ((c .before .before .before .before .before .before .before .before .before .args) .s .now)) contract.variantSaid ((c .enum-told) .given .1) ((c .before .before .before .before .variant) .ensures)) (λ v h. h))
+returns-2 c =
+    let args = c .before .before .before .before .before .before .before .before .before .args in
+    let loop = c .before .before .before .before .before .before .loop in
+    let variant = c .before .before .before .before .variant in
+    λ vs i. let o = loop .inv .2 vs i in o .2 ∙ ap (valueAt (loop .left)) (inside-done reading.variant conserved.variant-round (o .1) (meeting.say (contract.variantShown (args .s .now)) contract.variantSaid ((c .enum-told) .given .1) (variant .ensures)) (λ v h. h))
 
 enum-told-2 : tie.Need-enum-told-2 Inv-loop μ-loop
 enum-told-2 c = search needs
 
 same-length-3 : tie.Need-same-length-3 Inv-loop μ-loop
-same-length-3 c = (c .before .before .before .before .variant) .kept .1 .1 .0 ∙ (c .before .before .before .before .before .before .loop) .inv .1
+same-length-3 c =
+    let loop = c .before .before .before .before .before .before .loop in
+    let variant = c .before .before .before .before .variant in
+    variant .kept .1 .1 .0 ∙ loop .inv .1
 
 returns-3 : tie.Need-returns-3 Inv-loop μ-loop
-returns-3 c = λ vs i. inside-refused reading.variant conserved.variant-round ((c .before .before .before .before .before .before .loop) .inv .2 vs i .1) (meeting.say (contract.variantShown ((c .before .before .before .before .before .before .before .before .before .args) .s .now)) contract.variantSaid ((c .enum-told2) .given .1) ((c .before .before .before .before .variant) .ensures))
+returns-3 c =
+    let args = c .before .before .before .before .before .before .before .before .before .args in
+    let loop = c .before .before .before .before .before .before .loop in
+    let variant = c .before .before .before .before .variant in
+    λ vs i.
+    inside-refused reading.variant conserved.variant-round (loop .inv .2 vs i .1)
+    (meeting.say (contract.variantShown (args .s .now)) contract.variantSaid ((c .enum-told2) .given .1)
+    (variant .ensures))
 
 pub find-spec : {M : Type 1} → statement M
 find-spec =

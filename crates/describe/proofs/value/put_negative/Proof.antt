@@ -12,7 +12,9 @@ same-length : tie.Need-same-length
 same-length c = search needs
 
 returns : tie.Need-returns
-returns c = (put-as (negative-none _ (omega arith)) ((c .before .before .put-byte) .ensures), omega (arith, (c .before .before .put-byte) .ensures .next))
+returns c =
+    let put-byte = c .before .before .put-byte in
+    (put-as (negative-none _ (omega arith)) (put-byte .ensures), omega (arith, put-byte .ensures .next))
 
 put-byte-requires-2 : tie.Need-put-byte-requires-2
 put-byte-requires-2 c κs = search needs
@@ -24,7 +26,14 @@ same-length-2 : tie.Need-same-length-2
 same-length-2 c = search needs
 
 returns-2 : tie.Need-returns-2
-returns-2 c = (put-as (negative-some _ (λ h. omega arith)) (joined ((c .before .before .before .before .before .before .put-byte2) .ensures) ((c .before .before .put-number) .ensures .0)), omega (arith, (c .before .before .before .before .before .before .put-byte2) .ensures .next, (c .before .before .put-number) .ensures .0 .next, decimal-i64 _ ((c .before .before .before .before .before .before .before .before .before .before .pre) .1)))
+returns-2 c =
+    let pre = c .before .before .before .before .before .before .before .before .before .before .pre in
+    let put-byte2 = c .before .before .before .before .before .before .put-byte2 in
+    let put-number = c .before .before .put-number in (
+      put-as (negative-some _ (λ h. omega arith)) (joined (put-byte2 .ensures) (put-number .ensures .0)),
+      omega
+          (arith, put-byte2 .ensures .next, put-number .ensures .0 .next, decimal-i64 _ (pre .1)),
+    )
 
 pub put-negative-spec : {M : Type 1} → statement M
 put-negative-spec =

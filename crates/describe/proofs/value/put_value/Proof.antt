@@ -17,7 +17,10 @@ enum-known-v-2 : tie.Need-enum-known-v-2
 enum-known-v-2 c = search needs
 
 worth-requires : tie.Need-worth-requires
-worth-requires c κs = let h = subst (λ v. contract.ValueOf ((c .before .before .before .before .before .args) .s .now) v ((c .before .before .before .before .before .pre) .0)) ((c .before .v2) .given .1) ((c .before .before .before .before .before .pre) .1) in (h .1 .within, ap negatable (sym (h .1 .bytes)) ∙ h .2)
+worth-requires c κs =
+    let args = c .before .before .before .before .before .args in
+    let pre = c .before .before .before .before .before .pre in
+    let h = subst (λ v. contract.ValueOf (args .s .now) v (pre .0)) ((c .before .v2) .given .1) (pre .1) in (h .1 .within, ap negatable (sym (h .1 .bytes)) ∙ h .2)
 
 put-negative-requires : tie.Need-put-negative-requires
 put-negative-requires c κs = (omega arith, (c .before .worth) .ensures .1)
@@ -32,7 +35,13 @@ same-length : tie.Need-same-length
 same-length c = search needs
 
 returns-3 : tie.Need-returns-3
-returns-3 c = λ w k room. placed-negative w k _ ((c .before .before .before .before .before .before .v2) .given .1) ((c .before .before .before .before .worth) .ensures .0) ((c .before .before .put-negative) .ensures .0) ((c .before .before .put-negative) .ensures .1) room
+returns-3 c =
+    let v2 = c .before .before .before .before .before .before .v2 in
+    let worth = c .before .before .before .before .worth in
+    let put-negative = c .before .before .put-negative in
+    λ w k room.
+    placed-negative w k _ (v2 .given .1) (worth .ensures .0) (put-negative .ensures .0) (put-negative .ensures .1)
+    room
 
 pub put-value-spec : {M : Type 1} → statement M
 put-value-spec =

@@ -19,22 +19,35 @@ enum-told : tie.Need-enum-told
 enum-told c = search needs
 
 returns : tie.Need-returns
-returns c = let e = value-short ((c .before .before .before .before .before .before .args) .list .now) ((c .before .before .before .before .before .before .args) .position) (length ((c .before .before .before .before .before .before .args) .scratch .now)) (sym ((c .before .before .before .check) .ensures) ∙ ap checked ((c .before .enum-told) .given .1)) (omega arith) in placed-refused (sym e) (sym (ap (scratch ((c .before .before .before .before .before .before .args) .scratch .now)) e))
+returns c =
+    let args = c .before .before .before .before .before .before .args in
+    let e = value-short (args .list .now) (args .position) (length (args .scratch .now)) (sym ((c .before .before .before .check) .ensures) ∙ ap checked ((c .before .enum-told) .given .1)) (omega arith) in placed-refused (sym e) (sym (ap (scratch (args .scratch .now)) e))
 
 slice-aggregate-read-value : tie.Need-slice-aggregate-read-value
 slice-aggregate-read-value c = search needs
 
 read-value-requires : tie.Need-read-value-requires
-read-value-requires c κs = (first-in _ _ (sym ((c .before .before .before .before .before .check) .ensures) ∙ ap checked ((c .before .before .before .enum-told) .given .1)), omega arith)
+read-value-requires c κs =
+    let check = c .before .before .before .before .before .check in
+    (first-in _ _ (sym (check .ensures) ∙ ap checked ((c .before .before .before .enum-told) .given .1)), omega arith)
 
 returns-2 : tie.Need-returns-2
-returns-2 c = let e = value-checked ((c .before .before .before .before .before .before .args) .list .now) ((c .before .before .before .before .before .before .args) .position) (length ((c .before .before .before .before .before .before .args) .scratch .now)) (sym ((c .before .before .before .check) .ensures) ∙ ap checked ((c .before .r) .given .1)) in placed-refused (sym e) (sym (ap (scratch ((c .before .before .before .before .before .before .args) .scratch .now)) e))
+returns-2 c =
+    let args = c .before .before .before .before .before .before .args in
+    let e = value-checked (args .list .now) (args .position) (length (args .scratch .now)) (sym ((c .before .before .before .check) .ensures) ∙ ap checked ((c .before .r) .given .1)) in placed-refused (sym e) (sym (ap (scratch (args .scratch .now)) e))
 
 same-length : tie.Need-same-length
 same-length c = search needs
 
 returns-3 : tie.Need-returns-3
-returns-3 c = placed-as (value-read ((c .before .before .before .before .before .before .before .before .before .before .before .before .args) .list .now) ((c .before .before .before .before .before .before .before .before .before .before .before .before .args) .position) (length ((c .before .before .before .before .before .before .before .before .before .before .before .before .args) .scratch .now)) (sym ((c .before .before .before .before .before .before .before .before .before .check) .ensures) ∙ ap checked ((c .before .before .before .before .before .before .before .enum-told) .given .1)) (omega arith)) ((c .before .before .before .read-value) .ensures)
+returns-3 c =
+    let args = c .before .before .before .before .before .before .before .before .before .before .before .before .args in
+    let check = c .before .before .before .before .before .before .before .before .before .check in
+    let enum-told = c .before .before .before .before .before .before .before .enum-told in
+    placed-as
+    (value-read (args .list .now) (args .position) (length (args .scratch .now))
+    (sym (check .ensures) ∙ ap checked (enum-told .given .1)) (omega arith))
+    ((c .before .before .before .read-value) .ensures)
 
 pub value-of-spec : {M : Type 1} → statement M
 value-of-spec =

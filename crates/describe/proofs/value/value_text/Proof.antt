@@ -27,13 +27,23 @@ slice-aggregate-result-3 : tie.Need-slice-aggregate-result-3
 slice-aggregate-result-3 c = search needs
 
 returns : tie.Need-returns
-returns c = sym (ap (λ p. textOf (placed ((c .before .before .before .before .before .args) .list .now) ((c .before .before .before .before .before .args) .scratch .now) p)) ((c .before .before .before .place) .given .1) ∙ part-beyond ((c .before .before .before .place) .given .0 .0) ((c .before .before .before .place) .given .0 .1 .0) ((c .before .before .before .before .before .args) .list .now) (omega arith))
+returns c =
+    let args = c .before .before .before .before .before .args in
+    let place = c .before .before .before .place in
+    sym
+    (ap (λ p. textOf (placed (args .list .now) (args .scratch .now) p)) (place .given .1) ∙ part-beyond
+    (place .given .0 .0) (place .given .0 .1 .0) (args .list .now) (omega arith))
 
 slice-aggregate-result-4 : tie.Need-slice-aggregate-result-4
 slice-aggregate-result-4 c = search needs
 
 returns-2 : tie.Need-returns-2
-returns-2 c = sym (ap (λ p. textOf (placed ((c .before .before .before .before .before .before .args) .list .now) ((c .before .before .before .before .before .before .args) .scratch .now) p)) ((c .before .before .before .before .place) .given .1) ∙ part-none ((c .before .before .before .before .place) .given .0 .0) ((c .before .before .before .before .place) .given .0 .1 .0) ((c .before .before .before .before .before .before .args) .list .now) (omega arith) (omega arith))
+returns-2 c =
+    let args = c .before .before .before .before .before .before .args in
+    let place = c .before .before .before .before .place in
+    sym
+    (ap (λ p. textOf (placed (args .list .now) (args .scratch .now) p)) (place .given .1) ∙ part-none
+    (place .given .0 .0) (place .given .0 .1 .0) (args .list .now) (omega arith) (omega arith))
 
 part-result-start : tie.Need-part-result-start
 part-result-start c = search needs
@@ -48,10 +58,17 @@ slice-aggregate-result-5 : tie.Need-slice-aggregate-result-5
 slice-aggregate-result-5 c = search needs
 
 returns-3 : tie.Need-returns-3
-returns-3 c = sym (ap (λ p. textOf (placed ((c .before .before .before .before .before .args) .list .now) ((c .before .before .before .before .before .args) .scratch .now) p)) ((c .before .before .before .place2) .given .1) ∙ part-beyond 0 ((c .before .before .before .place2) .given .0 .0) ((c .before .before .before .before .before .args) .scratch .now) (omega arith))
+returns-3 c =
+    let args = c .before .before .before .before .before .args in
+    let place2 = c .before .before .before .place2 in
+    sym
+    (ap (λ p. textOf (placed (args .list .now) (args .scratch .now) p)) (place2 .given .1) ∙ part-beyond 0
+    (place2 .given .0 .0) (args .scratch .now) (omega arith))
 
 slice-aggregate-result-6 : tie.Need-slice-aggregate-result-6
-slice-aggregate-result-6 c = sym (length-take-le ((c .before .before .before .place2) .given .0 .0) ((c .before .before .before .before .before .args) .scratch .now) (omega arith))
+slice-aggregate-result-6 c =
+    let args = c .before .before .before .before .before .args in
+    sym (length-take-le ((c .before .before .before .place2) .given .0 .0) (args .scratch .now) (omega arith))
 
 returns-4 : tie.Need-returns-4
 returns-4 c = search needs
@@ -60,10 +77,20 @@ returns-5 : tie.Need-returns-5
 returns-5 c = search needs
 
 returns-6 : tie.Need-returns-6
-returns-6 c = sym (ap (λ p. textOf (placed ((c .before .before .before .before .before .before .args) .list .now) ((c .before .before .before .before .before .before .args) .scratch .now) p)) ((c .before .before .before .before .place) .given .1) ∙ part-some ((c .before .before .before .before .place) .given .0 .0) ((c .before .before .before .before .place) .given .0 .1 .0) ((c .before .before .before .before .before .before .args) .list .now) (omega arith))
+returns-6 c =
+    let args = c .before .before .before .before .before .before .args in
+    let place = c .before .before .before .before .place in
+    sym
+    (ap (λ p. textOf (placed (args .list .now) (args .scratch .now) p)) (place .given .1) ∙ part-some
+    (place .given .0 .0) (place .given .0 .1 .0) (args .list .now) (omega arith))
 
 returns-7 : tie.Need-returns-7
-returns-7 c = sym (ap (λ p. textOf (placed ((c .before .before .before .before .before .args) .list .now) ((c .before .before .before .before .before .args) .scratch .now) p)) ((c .before .before .before .place2) .given .1) ∙ part-front ((c .before .before .before .place2) .given .0 .0) ((c .before .before .before .before .before .args) .scratch .now) (omega arith))
+returns-7 c =
+    let args = c .before .before .before .before .before .args in
+    let place2 = c .before .before .before .place2 in
+    sym
+    (ap (λ p. textOf (placed (args .list .now) (args .scratch .now) p)) (place2 .given .1) ∙ part-front
+    (place2 .given .0 .0) (args .scratch .now) (omega arith))
 
 pub value-text-spec : {M : Type 1} → statement M
 value-text-spec =

@@ -19,16 +19,24 @@ shared-slice-read-digit : tie.Need-shared-slice-read-digit Inv-loop μ-loop
 shared-slice-read-digit c = omega (arith, (c .before .before .before .pre) .0)
 
 sub-digit : tie.Need-sub-digit Inv-loop μ-loop
-sub-digit c = omega (arith, counting-next _ _ ((c .before .before .before .pre) .0) ((c .before .before .loop) .i) (omega arith) ((c .before .before .loop) .inv) .0)
+sub-digit c =
+    let loop = c .before .before .loop in
+    omega (arith, counting-next _ _ ((c .before .before .before .pre) .0) (loop .i) (omega arith) (loop .inv) .0)
 
 mul-tens : tie.Need-mul-tens Inv-loop μ-loop
-mul-tens c = omega (arith, counting-next _ _ ((c .before .before .before .pre) .0) ((c .before .before .loop) .i) (omega arith) ((c .before .before .loop) .inv) .2)
+mul-tens c =
+    let loop = c .before .before .loop in
+    omega (arith, counting-next _ _ ((c .before .before .before .pre) .0) (loop .i) (omega arith) (loop .inv) .2)
 
 cast-n : tie.Need-cast-n Inv-loop μ-loop
-cast-n c = omega (arith, counting-next _ _ ((c .before .before .before .pre) .0) ((c .before .before .loop) .i) (omega arith) ((c .before .before .loop) .inv) .1)
+cast-n c =
+    let loop = c .before .before .loop in
+    omega (arith, counting-next _ _ ((c .before .before .before .pre) .0) (loop .i) (omega arith) (loop .inv) .1)
 
 add-n : tie.Need-add-n Inv-loop μ-loop
-add-n c = omega (arith, counting-next _ _ ((c .before .before .before .pre) .0) ((c .before .before .loop) .i) (omega arith) ((c .before .before .loop) .inv) .2)
+add-n c =
+    let loop = c .before .before .loop in
+    omega (arith, counting-next _ _ ((c .before .before .before .pre) .0) (loop .i) (omega arith) (loop .inv) .2)
 
 add-i : tie.Need-add-i Inv-loop μ-loop
 add-i c = omega arith
@@ -37,7 +45,9 @@ loop-less : tie.Need-loop-less Inv-loop μ-loop
 loop-less c = omega arith
 
 loop-again : tie.Need-loop-again Inv-loop μ-loop
-loop-again c = counting-next _ _ ((c .before .before .before .pre) .0) ((c .before .before .loop) .i) (omega arith) ((c .before .before .loop) .inv) .3
+loop-again c =
+    let loop = c .before .before .loop in
+    counting-next _ _ ((c .before .before .before .pre) .0) (loop .i) (omega arith) (loop .inv) .3
 
 returns : tie.Need-returns Inv-loop μ-loop
 returns c =

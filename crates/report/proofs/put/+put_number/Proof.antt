@@ -116,7 +116,9 @@ put-number-same-length-2 : (t : ℕ) → put-number-lts.Need-same-length-2 (
   put-number.Post,
 ) (put-number-at t) put-number.Post
 put-number-same-length-2 t c =
-    kept (joined (c .before .before .before .before .before .before .put-number .ensures .0) (c .before .before .put-byte2 .ensures))
+    kept
+    (joined (c .before .before .before .before .before .before .put-number .ensures .0)
+    (c .before .before .put-byte2 .ensures))
 
 put-number-returns-2 : (t : ℕ) → put-number-lts.Need-returns-2 (
   put-byte-reads.Asked,

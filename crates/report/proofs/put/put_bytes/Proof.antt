@@ -34,7 +34,8 @@ loop-less c = omega arith
 
 loop-again : tie.Need-loop-again Inv-loop μ-loop
 loop-again c =
-    let l = c .before .before .before .before .before .before in
+    let before = c .before .before .before .before .before .before in
+    let l = before in
     let t = l .before .before .before .args .text .now in
     let more : l .loop .i < length t = omega arith in (
       omega arith,
@@ -46,7 +47,8 @@ same-length c = kept (c .before .loop .inv .1)
 
 returns : tie.Need-returns Inv-loop μ-loop
 returns c =
-    let t = c .before .before .before .before .args .text .now in
+    let args = c .before .before .before .before .args in
+    let t = args .text .now in
     rw (take-all (c .before .loop .i) t (omega arith)) at (c .before .loop .inv .1)
 
 pub put-bytes-spec : {M : Type 1} → statement M

@@ -1,6 +1,6 @@
 use native.Mathlib.Omega.{arith}
 use lib.ListN.{length, drop}
-use Prim.Native.Nat.{_+_, _-_, _≤_, _<_}
+use Prim.Native.Nat.{_+_, _-_, _≤_}
 use mathlib.Core.Path.{_≡_}
 use Rattle.report.specs.Roles.{assigned}
 use Rattle.report.proofs.Lines.{assigned-here, assigned-next, assigned-end}
@@ -20,7 +20,10 @@ shared-slice-read-if1 : tie.Need-shared-slice-read-if1 Inv-loop μ-loop
 shared-slice-read-if1 c = omega arith
 
 returns : tie.Need-returns Inv-loop μ-loop
-returns c = omega (arith, (c .before .before .before .loop) .inv .1, assigned-here ((c .before .before .before .before .args) .roles .now) ((c .before .before .before .loop) .i) (omega arith) ((c .if1) .taken))
+returns c =
+    let args = c .before .before .before .before .args in
+    let loop = c .before .before .before .loop in
+    omega (arith, loop .inv .1, assigned-here (args .roles .now) (loop .i) (omega arith) ((c .if1) .taken))
 
 add-i : tie.Need-add-i Inv-loop μ-loop
 add-i c = omega arith
@@ -29,10 +32,14 @@ loop-less : tie.Need-loop-less Inv-loop μ-loop
 loop-less c = omega arith
 
 loop-again : tie.Need-loop-again Inv-loop μ-loop
-loop-again c = (omega arith, omega (arith, (c .before .before .before .loop) .inv .1, assigned-next ((c .before .before .before .before .args) .roles .now) ((c .before .before .before .loop) .i) (omega arith) ((c .if1) .left)))
+loop-again c =
+    let args = c .before .before .before .before .args in
+    let loop = c .before .before .before .loop in
+    (omega arith, omega (arith, loop .inv .1, assigned-next (args .roles .now) (loop .i) (omega arith) ((c .if1) .left)))
 
 returns-2 : tie.Need-returns-2 Inv-loop μ-loop
-returns-2 c = omega (arith, (c .before .loop) .inv .1, assigned-end ((c .before .before .args) .roles .now) ((c .before .loop) .i) (omega arith))
+returns-2 c =
+    omega (arith, (c .before .loop) .inv .1, assigned-end ((c .before .before .args) .roles .now) ((c .before .loop) .i) (omega arith))
 
 pub count-assigned-spec : {M : Type 1} → statement M
 count-assigned-spec =

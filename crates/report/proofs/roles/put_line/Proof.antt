@@ -22,10 +22,15 @@ same-length c = search needs
 
 returns : tie.Need-returns
 unfolding roleLine
-returns c = (
-  joined ((c .before .before .before .before .before .before .before .before .before .before .before .before .before .before .put-number) .ensures .0) (joined ((c .before .before .before .before .before .before .before .before .before .before .put-byte) .ensures) (joined ((c .before .before .before .before .before .before .put-number2) .ensures .0) ((c .before .before .put-byte2) .ensures))),
-  omega (arith, (c .before .before .before .before .before .before .before .before .before .before .before .before .before .before .put-number) .ensures .0 .next, (c .before .before .before .before .before .before .before .before .before .before .put-byte) .ensures .next, (c .before .before .before .before .before .before .put-number2) .ensures .0 .next, (c .before .before .put-byte2) .ensures .next, decimal-within 3 ((c .before .before .before .before .before .before .before .before .before .before .before .before .before .before .before .before .before .args) .row) (omega arith), decimal-within 2 ((c .before .before .before .before .before .before .before .before .before .before .before .before .before .before .before .before .before .args) .role) (omega arith)),
-)
+returns c =
+    let args = c .before .before .before .before .before .before .before .before .before .before .before .before .before .before .before .before .before .args in
+    let put-number = c .before .before .before .before .before .before .before .before .before .before .before .before .before .before .put-number in
+    let put-byte = c .before .before .before .before .before .before .before .before .before .before .put-byte in
+    let put-number2 = c .before .before .before .before .before .before .put-number2 in
+    let put-byte2 = c .before .before .put-byte2 in (
+      joined (put-number .ensures .0) (joined (put-byte .ensures) (joined (put-number2 .ensures .0) (put-byte2 .ensures))),
+      omega (arith, put-number .ensures .0 .next, put-byte .ensures .next, put-number2 .ensures .0 .next, put-byte2 .ensures .next, decimal-within 3 (args .row) (omega arith), decimal-within 2 (args .role) (omega arith)),
+    )
 
 pub put-line-spec : {M : Type 1} → statement M
 put-line-spec =

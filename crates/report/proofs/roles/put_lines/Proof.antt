@@ -3,8 +3,8 @@ use native.Mathlib.Numerals.{add-one}
 use Prim.Native.Nat.{ℕ, _+_, _*_, _-_, _≤_, _<_}
 use lib.ListN.{length, take, getD}
 use lib.Seq.{take-suc, take-all, length-take-le}
-use mathlib.Core.List.{List, _++_}
-use mathlib.Core.Path.{_≡_, sym, ap, _∙_, subst}
+use mathlib.Core.List.{_++_}
+use mathlib.Core.Path.{_≡_, ap, _∙_}
 use Rattle.report.specs.Roles.{roleLine, roleLines}
 use Rattle.report.specs.Contract.{Put}
 use Rattle.report.proofs.Lines.{lines-more}
@@ -13,7 +13,8 @@ use Rattle.report.proofs.roles.put_lines.Statement.{statement}
 use Rattle.report.proofs.roles.put_lines.Tie as tie
 
 abbrev Inv-loop : tie.InvT-loop
-Inv-loop out₀ at roles i₀ end₀ out i end = (i ≤ length roles) × (end ≤ at + 9 * i) × Put out₀ out at end (roleLines 0 (take i roles))
+Inv-loop out₀ at roles i₀ end₀ out i end =
+    (i ≤ length roles) × (end ≤ at + 9 * i) × Put out₀ out at end (roleLines 0 (take i roles))
 
 abbrev μ-loop : tie.MeasureT-loop
 μ-loop out₀ at roles i₀ end₀ out i end = length roles - i
@@ -35,15 +36,18 @@ loop-less c = omega arith
 
 loop-again : tie.Need-loop-again Inv-loop μ-loop
 loop-again c =
-    let l = (c .before .before .before .before .before .before .loop) in
-    let t = (c .before .before .before .before .before .before .before .before .before .args) .roles .now in
+    let args = c .before .before .before .before .before .before .before .before .before .args in
+    let loop = c .before .before .before .before .before .before .loop in
+    let put-line = c .before .before .put-line in
+    let l = loop in
+    let t = args .roles .now in
     let more : l .i < length t = omega arith in
     let count : 0 + length (take (l .i) t) ≡ l .i = omega (arith, length-take-le (l .i) t (l .inv .0)) in
     let lines : roleLines 0 (take (l .i + 1) t) ≡ roleLines 0 (take (l .i) t) ++ roleLine (l .i) (getD t (l .i) 0) =
     ap (roleLines 0) (ap (λ (k : ℕ). take k t) (add-one (l .i)) ∙ take-suc t (l .i) 0 more) ∙ lines-more 0 (take (l .i) t) (getD t (l .i) 0) ∙ ap (λ (k : ℕ). roleLines 0 (take (l .i) t) ++ roleLine k (getD t (l .i) 0)) count in (
       omega arith,
-      omega (arith, l .inv .1, (c .before .before .put-line) .ensures .1),
-      rw lines (joined (l .inv .2) ((c .before .before .put-line) .ensures .0)),
+      omega (arith, l .inv .1, put-line .ensures .1),
+      rw lines (joined (l .inv .2) (put-line .ensures .0)),
     )
 
 same-length : tie.Need-same-length Inv-loop μ-loop
@@ -51,7 +55,8 @@ same-length c = kept ((c .before .loop) .inv .2)
 
 returns : tie.Need-returns Inv-loop μ-loop
 returns c =
-    let t = (c .before .before .before .before .args) .roles .now in
+    let args = c .before .before .before .before .args in
+    let t = args .roles .now in
     (rw (take-all ((c .before .loop) .i) t (omega arith)) at ((c .before .loop) .inv .2), omega (arith, (c .before .loop) .inv .1))
 
 pub put-lines-spec : {M : Type 1} → statement M

@@ -27,19 +27,39 @@ same-length : tie.Need-same-length
 same-length c = search needs
 
 returns : tie.Need-returns
-returns c = (refusal-read ((c .before .before .before .before .before .before .before .before .before .args) .list .now) ((c .before .before .before .before .before .before .before .before .before .args) .roles .now) ((c .before .r) .given .0 .0) ((c .before .r) .given .1) ((c .before .before .before .before .before .new) .ensures .0), (c .before .before .before .before .before .new) .ensures .0 .buffer)
+returns c =
+    let args = c .before .before .before .before .before .before .before .before .before .args in
+    let new = c .before .before .before .before .before .new in (
+      refusal-read (args .list .now) (args .roles .now) ((c .before .r) .given .0 .0) ((c .before .r) .given .1)
+          (new .ensures .0),
+      (new .ensures .0 .buffer, new .ensures .0 .refusal),
+    )
 
 same-length-2 : tie.Need-same-length-2
 same-length-2 c = search needs
 
 returns-2 : tie.Need-returns-2
-returns-2 c = (rows-read ((c .before .before .before .before .before .before .before .before .before .before .args) .list .now) ((c .before .before .before .before .before .before .before .before .before .before .args) .roles .now) ((c .before .before .before .before .before .before .new) .ensures .0) (ap accepted ((c .before .before .enum-told) .given .1)) ((c .count-assigned) .result) ((c .count-assigned) .ensures), (c .before .before .before .before .before .before .new) .ensures .0 .buffer)
+returns-2 c =
+    let args = c .before .before .before .before .before .before .before .before .before .before .args in
+    let new = c .before .before .before .before .before .before .new in (
+      rows-read (args .list .now) (args .roles .now) (new .ensures .0)
+          (ap accepted ((c .before .before .enum-told) .given .1)) ((c .count-assigned) .result)
+          ((c .count-assigned) .ensures),
+      (new .ensures .0 .buffer, new .ensures .0 .refusal),
+    )
 
 same-length-3 : tie.Need-same-length-3
 same-length-3 c = search needs
 
 returns-3 : tie.Need-returns-3
-returns-3 c = (rows-read ((c .before .before .before .before .before .before .before .before .before .before .args) .list .now) ((c .before .before .before .before .before .before .before .before .before .before .args) .roles .now) ((c .before .before .before .before .before .before .new) .ensures .0) (ap accepted ((c .before .before .enum-told2) .given .1)) ((c .count-assigned2) .result) ((c .count-assigned2) .ensures), (c .before .before .before .before .before .before .new) .ensures .0 .buffer)
+returns-3 c =
+    let args = c .before .before .before .before .before .before .before .before .before .before .args in
+    let new = c .before .before .before .before .before .before .new in (
+      rows-read (args .list .now) (args .roles .now) (new .ensures .0)
+          (ap accepted ((c .before .before .enum-told2) .given .1)) ((c .count-assigned2) .result)
+          ((c .count-assigned2) .ensures),
+      (new .ensures .0 .buffer, new .ensures .0 .refusal),
+    )
 
 pub read-roles-spec : {M : Type 1} → statement M
 read-roles-spec =

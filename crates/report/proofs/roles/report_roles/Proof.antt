@@ -1,9 +1,8 @@
 use native.Mathlib.Omega.{arith}
-use mathlib.Core.Path.{_≡_, sym, ap}
+use mathlib.Core.Path.{sym}
 use lib.ListN.{length}
 use lib.Seq.{length-take-le}
 use Rattle.reading.specs.Answer.{answer}
-use Rattle.report.specs.Roles.{rolesText}
 use Rattle.report.proofs.Lines.{found, not-found, few-roles}
 use Rattle.report.proofs.Texts.{joined}
 use borrow.Author.Needs.{needs}
@@ -29,17 +28,33 @@ put-bytes-requires : tie.Need-put-bytes-requires
 put-bytes-requires c κs = search needs
 
 slice-reshare-prefix-put-lines : tie.Need-slice-reshare-prefix-put-lines
-slice-reshare-prefix-put-lines c = found ((c .before .before .before .before .before .before .before .n) .given .0 .0) (answer ((c .before .before .before .before .before .before .before .before .before .before .before .before .before .before .before .before .args) .list .now) (length ((c .before .before .before .before .before .before .before .before .before .before .before .before .before .before .before .before .args) .roles .now))) ((c .before .before .before .before .before .before .before .n) .given .1) ((c .before .before .before .before .before .before .before .before .before .before .before .read-roles) .ensures .0) .within
+slice-reshare-prefix-put-lines c =
+    let args = c .before .before .before .before .before .before .before .before .before .before .before .before .before .before .before .before .args in
+    let read-roles = c .before .before .before .before .before .before .before .before .before .before .before .read-roles in
+    let n = c .before .before .before .before .before .before .before .n in
+    found (n .given .0 .0) (answer (args .list .now) (length (args .roles .now))) (n .given .1)
+    (read-roles .ensures .0) .within
 
 slice-aggregate-put-lines : tie.Need-slice-aggregate-put-lines
-slice-aggregate-put-lines c = sym (length-take-le ((c .before .before .before .before .before .before .before .before .n) .given .0 .0) ((c .before .before .before .before .before .before .before .before .before .before .before .before .read-roles) .last .1 .0) (found ((c .before .before .before .before .before .before .before .before .n) .given .0 .0) (answer ((c .before .before .before .before .before .before .before .before .before .before .before .before .before .before .before .before .before .args) .list .now) (length ((c .before .before .before .before .before .before .before .before .before .before .before .before .before .before .before .before .before .args) .roles .now))) ((c .before .before .before .before .before .before .before .before .n) .given .1) ((c .before .before .before .before .before .before .before .before .before .before .before .before .read-roles) .ensures .0) .within))
+slice-aggregate-put-lines c =
+    let args = c .before .before .before .before .before .before .before .before .before .before .before .before .before .before .before .before .before .args in
+    let read-roles = c .before .before .before .before .before .before .before .before .before .before .before .before .read-roles in
+    let n = c .before .before .before .before .before .before .before .before .n in
+    sym
+    (length-take-le (n .given .0 .0) (read-roles .last .1 .0)
+    (found (n .given .0 .0) (answer (args .list .now) (length (args .roles .now))) (n .given .1)
+    (read-roles .ensures .0) .within))
 
 put-lines-requires : tie.Need-put-lines-requires
 put-lines-requires c κs =
-    let a = (c .before .before .before .before .before .before .before .before .before .before .before .before .before .before .before .before .before .args) in
-    let k = (c .before .before .before .before .before .before .before .before .before .before .before .before .read-roles) in
-    let f = found ((c .before .before .before .before .before .before .before .before .n) .given .0 .0) (answer (a .list .now) (length (a .roles .now))) ((c .before .before .before .before .before .before .before .before .n) .given .1) (k .ensures .0) in
-    (omega (arith, (c .before .before .before .before .put-bytes) .ensures .next), few-roles (a .list .now) (length (a .roles .now)) (f .declaration) _ (f .same))
+    let args = c .before .before .before .before .before .before .before .before .before .before .before .before .before .before .before .before .before .args in
+    let read-roles = c .before .before .before .before .before .before .before .before .before .before .before .before .read-roles in
+    let n = c .before .before .before .before .before .before .before .before .n in
+    let put-bytes = c .before .before .before .before .put-bytes in
+    let a = args in
+    let k = read-roles in
+    let f = found (n .given .0 .0) (answer (a .list .now) (length (a .roles .now))) (n .given .1) (k .ensures .0) in
+    (omega (arith, put-bytes .ensures .next), few-roles (a .list .now) (length (a .roles .now)) (f .declaration) _ (f .same))
 
 same-length : tie.Need-same-length
 same-length c = search needs
@@ -49,8 +64,12 @@ same-length-2 c = search needs
 
 returns : tie.Need-returns
 returns c =
-    let none = not-found ((c .before .before .before .before .before .before .before .before .before .read-roles) .last .1 .0) ((c .before .before .before .before .before .r) .given .0 .0) (answer ((c .before .before .before .before .before .before .before .before .before .before .before .before .before .before .args) .list .now) (length ((c .before .before .before .before .before .before .before .before .before .before .before .before .before .before .args) .roles .now))) ((c .before .before .before .before .before .r) .given .1) ((c .before .before .before .before .before .before .before .before .before .read-roles) .ensures .0) in
-    (rw none ((c .before .before .put-refusal) .ensures .0), ((c .before .before .before .before .before .before .before .before .before .read-roles) .ensures .1, omega (arith, (c .before .before .put-refusal) .ensures .1)))
+    let args = c .before .before .before .before .before .before .before .before .before .before .before .before .before .before .args in
+    let read-roles = c .before .before .before .before .before .before .before .before .before .read-roles in
+    let r = c .before .before .before .before .before .r in
+    let put-refusal = c .before .before .put-refusal in
+    let none = not-found (read-roles .last .1 .0) (r .given .0 .0) (answer (args .list .now) (length (args .roles .now))) (r .given .1) (read-roles .ensures .0) in
+    (rw none (put-refusal .ensures .0), (read-roles .ensures .1 .0, (omega (arith, put-refusal .ensures .1), read-roles .ensures .1 .1)))
 
 same-length-3 : tie.Need-same-length-3
 same-length-3 c = search needs
@@ -60,12 +79,17 @@ same-length-4 c = search needs
 
 returns-2 : tie.Need-returns-2
 returns-2 c =
-    let a = (c .before .before .before .before .before .before .before .before .before .before .before .before .before .before .before .before .before .before .before .before .args) in
-    let k = (c .before .before .before .before .before .before .before .before .before .before .before .before .before .before .before .read-roles) in
-    let f = found ((c .before .before .before .before .before .before .before .before .before .before .before .n) .given .0 .0) (answer (a .list .now) (length (a .roles .now))) ((c .before .before .before .before .before .before .before .before .before .before .before .n) .given .1) (k .ensures .0) in
+    let args = c .before .before .before .before .before .before .before .before .before .before .before .before .before .before .before .before .before .before .before .before .args in
+    let read-roles = c .before .before .before .before .before .before .before .before .before .before .before .before .before .before .before .read-roles in
+    let n = c .before .before .before .before .before .before .before .before .before .before .before .n in
+    let put-bytes = c .before .before .before .before .before .before .before .put-bytes in
+    let put-lines = c .before .before .put-lines in
+    let a = args in
+    let k = read-roles in
+    let f = found (n .given .0 .0) (answer (a .list .now) (length (a .roles .now))) (n .given .1) (k .ensures .0) in
     let count = few-roles (a .list .now) (length (a .roles .now)) (f .declaration) _ (f .same) in (
-      rw (f .same) (joined ((c .before .before .before .before .before .before .before .put-bytes) .ensures) ((c .before .before .put-lines) .ensures .0)),
-      (k .ensures .1, omega (arith, (c .before .before .put-lines) .ensures .1, (c .before .before .before .before .before .before .before .put-bytes) .ensures .next, count)),
+      rw (f .same) (joined (put-bytes .ensures) (put-lines .ensures .0)),
+      (k .ensures .1 .0, (omega (arith, put-lines .ensures .1, put-bytes .ensures .next, count), k .ensures .1 .1)),
     )
 
 pub report-roles-spec : {M : Type 1} → statement M
