@@ -1,5 +1,6 @@
 -- Laws on the answers of the calls.
 use mathlib.Core.Path.{_≡_, refl, ap, _∙_, sym, subst, subst⁻¹}
+use mathlib.Core.Bool.{Bool, true, false, cond}
 use mathlib.Core.List.{List}
 use Prim.Native.Nat.{ℕ, _≤_, _<_}
 use native.Mathlib.Omega.{arith}
@@ -7,7 +8,13 @@ use borrow.Author.Tests.{lt-ltb, le-ltb, le-leb}
 use lib.ListN.{length, take}
 use lib.Seq.{slice, sets, length-take-le}
 use Rattle.token_list.specs.Check as list
-use Rattle.token_list.specs.Stream.{Trees, at}
+use lib.Dec.{ltb}
+use Rattle.token_list.specs.Place.{OneRefusal}
+use Rattle.token_list.specs.Stream.{Trees, at, rowStart}
+use Rattle.token_list.proofs.Starts.{next-start}
+use Rattle.reading.specs.Answer.{readNumber}
+use Rattle.reading.specs.Place.{start, valueRow}
+use Rattle.reading.proofs.Places.{check-read, short-read, item-read}
 use Rattle.token_list.specs.Contract.{InList}
 use Rattle.token_list.specs.declared.check.Cursor.{Cursor}
 use Rattle.token_list.specs.declared.check.Refusal.{Refusal}
@@ -18,19 +25,19 @@ use Rattle.report.specs.Contract.{Put}
 use Rattle.report.proofs.Texts.{kept, shown, joined}
 use Rattle.reading.specs.Declaration as declaration
 use Rattle.reading.specs.Token.{worth}
-use Rattle.reading.specs.Took.{Took, took, refuse}
+use Rattle.reading.specs.Took.{Took, took, refuse, Point}
 use Rattle.reading.specs.Reading.{item}
-use Rattle.parse.specs.Contract.{on, no, Meets, stands, refuses, ValueOf}
+use Rattle.parse.specs.Contract.{on, no, Meets, stands, refuses}
 use Rattle.parse.specs.declared.body.ValueAt.{ValueAt}
 use Rattle.parse.specs.declared.body.ValueAt.the-variants as valueAts
-use Rattle.describe.specs.Value.{negativeText, Answer, inList, inScratch, refused, valueAnswer, itemAnswer, checkedAnswer, answer, scratch}
+use Rattle.describe.specs.Value.{negativeText, Answer, refused, bodyValue, valueAnswer, variantAnswer, itemAnswer, checkedAnswer, answer, scratch, textOf}
 use Rattle.describe.specs.Listing as listing
-use Rattle.describe.specs.Contract.{placed, Placed, listedAs, ListedAs}
+use Rattle.describe.specs.Contract.{ValueAs, part, textStart, textEnd, placeOf, Placed, listedAs, ListedAs}
 use Rattle.describe.specs.declared.listing.Listed.{Listed}
 use Rattle.describe.specs.declared.listing.Listed.the-variants as listeds
 use Rattle.describe.specs.declared.value.ValuePlace.{ValuePlace}
 use Rattle.describe.specs.declared.value.ValuePlace.the-variants as places
-use Rattle.describe.proofs.Worths.{part-front}
+use Rattle.describe.proofs.Worths.{part-front, negative-length}
 
 -- ## What a reader's answer tells
 
@@ -43,40 +50,60 @@ meets-refusal (refuses qs q) = refl
 
 -- ## A value
 
-module _ {s : List ℕ} {v : ValueAt} (w : declaration.Value) (k : ValueOf s v w) where
-  pub placed-absent : (x : List ℕ) → v ≡ valueAts.Absent → Placed s x x (valueAnswer w) places.None
-  placed-absent x e =
-      let a = subst (λ (u : ValueAt). ValueOf s u w) e k in
-      record { answer = sym (ap valueAnswer a); scratch = sym (ap (λ (u : declaration.Value). scratch x (valueAnswer u)) a) }
+module _ {s : List ℕ} {v : ValueAt} (x : Point) (w : declaration.Value) (k : ValueAs s x v w) where
+  -- the value and its row, by the code's enum
+  known : {u : ValueAt} → v ≡ u → ValueAs s x u w
+  known e = subst (λ (u : ValueAt). ValueAs s x u w) e k
 
-  pub placed-literal : (x : List ℕ) (t : Token) → v ≡ valueAts.Literal t → Placed s x x (valueAnswer w) (places.InList (t .start) (t .end))
-  placed-literal x t e =
-      let a = subst (λ (u : ValueAt). ValueOf s u w) e k in
+  module _ (u : declaration.Value) (e : w ≡ u) where
+    answered : {a : Answer} → valueAnswer (valueRow x u) u ≡ a → valueAnswer (valueRow x w) w ≡ a
+    answered q = ap (λ (y : declaration.Value). valueAnswer (valueRow x y) y) e ∙ q
+
+  pub placed-absent : (y : List ℕ) → v ≡ valueAts.Absent → Placed s y y (valueAnswer (valueRow x w) w) places.None
+  placed-absent y e =
+      let a = answered declaration.absent (known e .value) refl in
+      record { place = sym (ap (placeOf s) a); text = sym (ap textOf a); range = tt; scratch = sym (ap (scratch y) a) }
+
+  pub placed-literal : (y : List ℕ) (t : Token) → v ≡ valueAts.Literal t → length s ≤ 65536
+      → Placed s y y (valueAnswer (valueRow x w) w) (places.InList (t .start) (t .end))
+  placed-literal y t e short =
+      let b = known e .value in
+      let row = valueRow x w in
+      let token = known e .place in
+      let a = answered (declaration.literal (b .0)) (b .2) refl in
+      let same : valueRow x w ≡ valueRow x (declaration.literal (b .0)) = ap (valueRow x) (b .2) in
+      let next = next-start s row (rowStart s row) (t .end) refl (token .end) in
+      let end : t .end ≡ textEnd s row = omega (arith, next) in
+      let here : places.InList (t .start) (t .end) ≡ places.InList (textStart s row) (textEnd s row) =
+      λ i. places.InList (token .start i) (end i) in
+      let inside : part (t .start) (t .end) s ≡ b .0 = chosen _ _ _ (le-leb (t .end) (length s) (b .1 .within)) ∙ sym (b .1 .bytes) in
       record {
-        answer = ap inList (chosen _ _ _ (le-leb (t .end) (length s) (a .1 .within)) ∙ sym (a .1 .bytes)) ∙ sym
-            (ap valueAnswer (a .2));
-        scratch = sym (ap (λ (u : declaration.Value). scratch x (valueAnswer u)) (a .2));
+        place = here ∙ ap (λ (n : ℕ). places.InList (textStart s n) (textEnd s n)) same ∙ sym (ap (placeOf s) a);
+        text = inside ∙ sym (ap textOf a);
+        range = (omega (arith, token .start), omega (arith, token .start, token .end .text), omega (arith, token .end .within, short));
+        scratch = sym (ap (scratch y) a);
       }
 
-  pub placed-negative : {x y : List ℕ} {n r : ℕ} (t : Token) → v ≡ valueAts.Negative t → n ≡ worth (slice (t .start) (t .end) s) → Put x y 0 r (negativeText n) → r ≤ 20 → 20 ≤ length x
-      → Placed s x y (valueAnswer w) (places.InScratch r)
-  placed-negative {x} {y} {n} {r} t e q p h room =
-      let a = subst (λ (u : ValueAt). ValueOf s u w) e k in
-      let b : n ≡ worth (a .0) = q ∙ ap worth (sym (a .1 .bytes)) in
-      let z = kept p in
+  pub placed-negative : {y z : List ℕ} {n r : ℕ} (t : Token) → v ≡ valueAts.Negative t → n ≡ worth (slice (t .start) (t .end) s) → Put y z 0 r (negativeText n) → r ≤ 20 → 20 ≤ length y
+      → Placed s y z (valueAnswer (valueRow x w) w) (places.InScratch r)
+  placed-negative {y} {z} {n} {r} t e q p h room =
+      let b = known e .value in
+      let m : n ≡ worth (b .0) = q ∙ ap worth (sym (b .1 .bytes)) in
+      let a = answered (declaration.negative (worth (b .0))) (b .3) refl in
+      let long : r ≡ length (negativeText (worth (b .0))) = omega (arith, p .next, ap (λ (k : ℕ). length (negativeText k)) m) in
       record {
-        answer = ap inScratch
-            (part-front r y (omega (arith, z, h, room)) ∙ shown p (omega (arith, h, room)) ∙ ap negativeText b) ∙ sym
-            (ap valueAnswer (a .3));
-        scratch = p .bytes ∙ ap (λ (m : ℕ). sets x 0 (negativeText m)) b ∙ sym (ap (λ (u : declaration.Value). scratch x (valueAnswer u)) (a .3));
+        place = ap places.InScratch long ∙ sym (ap (placeOf s) a);
+        text = part-front r z (omega (arith, kept p, h, room)) ∙ shown p (omega (arith, h, room)) ∙ ap negativeText m ∙ sym (ap textOf a);
+        range = (omega (arith, p .next, negative-length n), h);
+        scratch = p .bytes ∙ ap (λ (k : ℕ). sets y 0 (negativeText k)) m ∙ sym (ap (scratch y) a);
       }
 
 module _ {s x y : List ℕ} {r : ValuePlace} where
   pub placed-as : {a b : Answer} → b ≡ a → Placed s x y a r → Placed s x y b r
   placed-as e p = subst⁻¹ (λ (z : Answer). Placed s x y z r) e p
 
-pub placed-refused : {s x : List ℕ} {a : Answer} {r : ValuePlace} → placed s x r ≡ a → x ≡ scratch x a → Placed s x x a r
-placed-refused e f = record { answer = e; scratch = f }
+pub placed-refused : {s x : List ℕ} {a : Answer} (r : Refusal) → a ≡ refused (r .number) (r .place) → Placed s x x a (places.Refused r)
+placed-refused {s} {x} r e = record { place = sym (ap (placeOf s) e); text = sym (ap textOf e); range = tt; scratch = sym (ap (scratch x) e) }
 
 module _ (s : List ℕ) (k n : ℕ) where
   pub value-checked : {m p : ℕ} → list.check s ≡ list.Answer.refused m p → answer s k n ≡ refused m p
@@ -87,9 +114,41 @@ module _ (s : List ℕ) (k n : ℕ) where
   unfolding answer
   value-short e h = ap (λ (a : list.Answer). checkedAnswer s k n a) e ∙ chosen _ _ _ (lt-ltb n 20 h)
 
-  pub value-read : {r : ℕ} → list.check s ≡ list.Answer.passed r → 20 ≤ n → answer s k n ≡ itemAnswer k (item 0 (at s 10 .here))
+  pub value-read : {r : ℕ} → list.check s ≡ list.Answer.passed r → 20 ≤ n → answer s k n ≡ itemAnswer (start s) k (item 0 (at s 10 .here))
   unfolding answer
   value-read e h = ap (λ (a : list.Answer). checkedAnswer s k n a) e ∙ passed-over _ _ _ (le-ltb n 20 h)
+
+  pub value-refusal : (m p : ℕ) → answer s k n ≡ refused m p → OneRefusal readNumber s m p
+  unfolding answer
+  value-refusal m p e = go (list.check s) refl e
+    where
+      told : {r : ℕ} → list.check s ≡ list.Answer.passed r → (t : Took declaration.Declaration) → item 0 (at s 10 .here) ≡ t → itemAnswer (start s) k t ≡ refused m p
+          → OneRefusal readNumber s m p
+      told {r} c (took d rs us) i q = no-refusal (bodyValue k (d .body)) q
+        where
+          no-refusal : {B : Type 0} (v : declaration.Value) → variantAnswer (start s) k v ≡ refused m p → B
+          no-refusal declaration.absent q = let z : _≡_ {A = ℕ} 0 1 = cc in absurd (omega arith)
+          no-refusal (declaration.literal t) q = let z : _≡_ {A = ℕ} 0 1 = cc in absurd (omega arith)
+          no-refusal (declaration.negative n) q = let z : _≡_ {A = ℕ} 0 1 = cc in absurd (omega arith)
+      told {r} c (refuse i o) f q =
+          let number : i ≡ m = cc in
+          let place : o ≡ p = cc in
+          item-read s r m p c (f ∙ (λ j. refuse (number j) (place j)))
+
+      fits : {r : ℕ} → list.check s ≡ list.Answer.passed r → (b : Bool) → cond b (refused 8 list.END) (itemAnswer (start s) k (item 0 (at s 10 .here))) ≡ refused m p
+          → OneRefusal readNumber s m p
+      fits c true q =
+          let number : 8 ≡ m = cc in
+          let place : list.END ≡ p = cc in
+          subst (λ (i : ℕ). OneRefusal readNumber s i p) number (subst (OneRefusal readNumber s 8) place (short-read s))
+      fits c false q = told c (item 0 (at s 10 .here)) refl q
+
+      go : (a : list.Answer) → list.check s ≡ a → checkedAnswer s k n a ≡ refused m p → OneRefusal readNumber s m p
+      go (list.Answer.refused i o) c q =
+          let number : i ≡ m = cc in
+          let place : o ≡ p = cc in
+          check-read s m p (c ∙ (λ j. list.Answer.refused (number j) (place j)))
+      go (list.Answer.passed r) c q = fits c (ltb n 20) q
 
 -- ## A listing
 
@@ -123,6 +182,32 @@ module _ (s : List ℕ) (n : ℕ) where
   pub listing-read : {r : ℕ} → list.check s ≡ list.Answer.passed r → listing.answer s n ≡ listing.fitted n (listing.itemAnswer (item 0 (at s 10 .here)))
   unfolding listing.answer listing.whole
   listing-read e = ap (λ (a : list.Answer). listing.fitted n (listing.checkedAnswer s a)) e
+
+  pub listing-refusal : (m p : ℕ) → listing.answer s n ≡ listing.refused m p → OneRefusal readNumber s m p
+  unfolding listing.answer listing.whole
+  listing-refusal m p e = go (list.check s) refl e
+    where
+      told : {r : ℕ} → list.check s ≡ list.Answer.passed r → (t : Took declaration.Declaration) → item 0 (at s 10 .here) ≡ t
+          → listing.fitted n (listing.itemAnswer t) ≡ listing.refused m p → OneRefusal readNumber s m p
+      told {r} c (took d rs us) i q = fits (ltb n (length (listing.listing d))) q
+        where
+          fits : (b : Bool) → cond b (listing.refused 8 list.END) (listing.listed (listing.listing d)) ≡ listing.refused m p → OneRefusal readNumber s m p
+          fits true q =
+              let number : 8 ≡ m = cc in
+              let place : list.END ≡ p = cc in
+              subst (λ (i : ℕ). OneRefusal readNumber s i p) number (subst (OneRefusal readNumber s 8) place (short-read s))
+          fits false q = let z : _≡_ {A = ℕ} 0 1 = cc in absurd (omega arith)
+      told {r} c (refuse i o) f q =
+          let number : i ≡ m = cc in
+          let place : o ≡ p = cc in
+          item-read s r m p c (f ∙ (λ j. refuse (number j) (place j)))
+
+      go : (a : list.Answer) → list.check s ≡ a → listing.fitted n (listing.checkedAnswer s a) ≡ listing.refused m p → OneRefusal readNumber s m p
+      go (list.Answer.refused i o) c q =
+          let number : i ≡ m = cc in
+          let place : o ≡ p = cc in
+          check-read s m p (c ∙ (λ j. list.Answer.refused (number j) (place j)))
+      go (list.Answer.passed r) c q = told c (item 0 (at s 10 .here)) refl q
 
 -- what is written is the text of the answer
 module _ {x y : List ℕ} {a : listing.Answer} where

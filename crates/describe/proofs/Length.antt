@@ -4,13 +4,15 @@ use mathlib.Core.Bool.{Bool, true, false, cond, true≢false}
 use mathlib.Core.List.{List, [], _∷_}
 use Prim.Native.Nat.{ℕ, _+_, _*_, _≤_, _<_}
 use native.Mathlib.Omega.{arith}
-use borrow.Author.Tests.{le-ltb}
-use lib.Dec.{ltb}
+use borrow.Author.Tests.{le-ltb, leb-true}
+use lib.Dec.{leb, ltb}
 use lib.ListN.{length, take, length-append}
 use lib.Seq.{length-take-le}
 use Rattle.token_list.specs.Check as list
+use Rattle.token_list.specs.Place.{OneRefusal}
+use Rattle.reading.specs.Answer.{readNumber}
 use Rattle.token_list.specs.Stream.{at}
-use Rattle.token_list.proofs.Texts.{passed-over}
+use Rattle.token_list.proofs.Texts.{passed-over, and-parts}
 use Rattle.token_list.proofs.Passed.{passed-list}
 use Rattle.token_list.proofs.Bounds as bounds
 use Rattle.report.specs.Text.{decimal}
@@ -124,7 +126,7 @@ module _ (s : List ℕ) where
 
   by-check : (a : list.Answer) → list.check s ≡ a → Right (checkedAnswer s a)
   by-check (list.Answer.passed n) e = by-item e (item 0 (at s 10 .here)) refl
-  by-check (list.Answer.refused n p) e = λ q. omega (arith, bounds.refusal-number s e)
+  by-check (list.Answer.refused n p) e = λ q. omega (arith, leb-true n 7 (and-parts (leb 1 n) (leb n 7) (bounds.check-refusal s n p e .one) .1))
 
   right : Right (whole s)
   unfolding whole
@@ -141,8 +143,9 @@ module _ (s : List ℕ) where
 
   -- what is written in any output
   module _ {x y : List ℕ} {n : ℕ} where
-    pub reported : Put x y 0 n (answerText (answer s (length x))) → n ≤ MOST → Reported s x y n
-    reported p short = record { text = p; roomy = λ h. rw (fits (length x) .room h) at p; short = short }
+    pub reported : Put x y 0 n (answerText (answer s (length x))) → n ≤ MOST
+        → ((m p : ℕ) → answer s (length x) ≡ refused m p → OneRefusal readNumber s m p) → Reported s x y n
+    reported p short refusal = record { text = p; roomy = λ h. rw (fits (length x) .room h) at p; short = short; refusal = refusal }
 
     pub reported-length : ListedAs x y (answer s (length x)) (listeds.Written n) → n ≤ MOST
     reported-length l = omega

@@ -11,7 +11,8 @@ use Rattle.token_list.specs.declared.stream.Token.{Token}
 use Rattle.reading.specs.Declaration as declaration
 use Rattle.reading.specs.Took.{Took, took, refuse, Reader, onward, after, pure}
 use Rattle.reading.specs.Reading as reading
-use Rattle.parse.specs.Contract.{stream, pastOf, InsideAt}
+use Rattle.reading.specs.Place.{insideOf, inside}
+use Rattle.parse.specs.Contract.{stream, point, pastOf, InsideAt}
 use Rattle.parse.proofs.Meeting.{past-in}
 use Rattle.token_list.proofs.Texts.{chosen, passed-over}
 use Rattle.describe.specs.Value.{bodyValue}
@@ -48,6 +49,10 @@ struct-fields row (group d ts us) e =
 
 pub struct-value : {s : List ℕ} {c : Cursor} {b : declaration.Body} (k : ℕ) → InsideAt reading.structBody s c b → bodyValue k b ≡ declaration.absent
 struct-value {s} {c} {b} k i = ap (bodyValue k) (struct-fields (c .row) (stream s c) (i .gives) .1)
+
+-- the cursor inside a group
+pub inside-point : (s : List ℕ) (c d : Cursor) (t : Token) → GroupAt s (c .at) t → d ≡ pastOf c t → point s d ≡ inside (point s c)
+inside-point s c d t g e = ap (point s) e ∙ sym (ap (insideOf (c .row)) (g .here))
 
 module _ {s : List ℕ} {c : Cursor} {b : declaration.Body} (i : InsideAt reading.enumBody s c b) where
   -- an enum's body is a group of variants

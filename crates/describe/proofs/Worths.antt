@@ -14,6 +14,9 @@ use Rattle.report.specs.Text.{decimal}
 use Rattle.report.specs.Contract.{Put}
 use Rattle.report.proofs.Texts.{decimal-within}
 use Rattle.reading.specs.Declaration as declaration
+use Rattle.reading.specs.Took.{Point, beyond}
+use Rattle.reading.specs.Reading.{variant}
+use Rattle.reading.specs.Place.{variantAt}
 use Rattle.reading.specs.Token.{negatable, worth, worthFrom}
 use Rattle.describe.specs.Value.{negativeText, valueAt}
 use Rattle.describe.specs.Contract.{part}
@@ -73,6 +76,14 @@ negative-within n h = go (eqb n 0)
     go true = omega arith
     go false = omega (arith, decimal-i64 n h)
 
+pub negative-length : (n : ℕ) → 0 < length (negativeText n)
+unfolding negativeText
+negative-length n = go (eqb n 0)
+  where
+    go : (b : Bool) → 0 < length (cond b (48 ∷ []) (45 ∷ decimal n))
+    go true = omega arith
+    go false = omega arith
+
 pub put-as : {k l s t : List ℕ} {h i : ℕ} → s ≡ t → Put k l h i t → Put k l h i s
 put-as {k} {l} {h = h} {i} e p = subst⁻¹ (Put k l h i) e p
 
@@ -111,3 +122,12 @@ value-later {k} {vs} {ws} {v} e f = ap (valueAt k) f ∙ go k e
     go : (k : ℕ) → (k ≡ 0 → ⊥) → valueAt k (v ∷ ws) ≡ valueAt (k - 1) ws
     go zero e = absurd (e refl)
     go (suc k) e = ap (λ (n : ℕ). valueAt n ws) (omega arith)
+
+pub variant-first : {k : ℕ} (x : Point) → k ≡ 0 → variantAt k x ≡ x
+variant-first x e = ap (λ (k : ℕ). variantAt k x) e
+
+pub variant-later : (k : ℕ) (x y : Point) → (k ≡ 0 → ⊥) → y ≡ beyond variant x → variantAt k x ≡ variantAt (k - 1) y
+variant-later zero x y e f = absurd (e refl)
+variant-later (suc k) x y e f =
+    let n : k ≡ suc k - 1 = omega arith in
+    ap (variantAt k) (sym f) ∙ ap (λ (j : ℕ). variantAt j y) n

@@ -1,17 +1,22 @@
 -- What ties the code's answers to the texts.
 use mathlib.Core.Path.{_≡_}
 use mathlib.Core.List.{List, [], _∷_}
-use Prim.Native.Nat.{ℕ, _≤_}
+use Prim.Native.Nat.{ℕ, _+_, _-_, _≤_, _<_}
 use lib.ListN.{length, take}
 use lib.Dec.{leb, eqb}
 use lib.Seq.{slice}
 use mathlib.Core.Bool.{Bool, true, false, cond}
-use Rattle.token_list.specs.Stream.{Trees}
+use Rattle.token_list.specs.Stream.{Trees, rowStart}
 use Rattle.token_list.specs.declared.check.Cursor.{Cursor}
 use Rattle.reading.specs.Declaration as declaration
 use Rattle.reading.specs.Reading as reading
 use Rattle.report.specs.Contract.{Put}
-use Rattle.parse.specs.Contract.{InsideAt}
+use Rattle.token_list.specs.Place.{OneRefusal}
+use Rattle.reading.specs.Answer.{readNumber}
+use Rattle.reading.specs.Took.{Point}
+use Rattle.reading.specs.Place.{valueRow}
+use Rattle.parse.specs.Contract.{InsideAt, ValueOf, ValueIn}
+use Rattle.parse.specs.declared.body.ValueAt.{ValueAt}
 use Rattle.describe.specs.Value as value
 use Rattle.describe.specs.Listing as listing
 use Rattle.describe.specs.declared.listing.Listed.{Listed}
@@ -25,16 +30,44 @@ use Rattle.describe.specs.declared.value.ValuePlace.the-variants as plac
 abbrev pub part : ℕ → ℕ → List ℕ → List ℕ
 part a e s = cond (leb e (length s)) (slice a e s) []
 
--- what an answer says, of the list s and the scratch x
-abbrev pub placed : List ℕ → List ℕ → ValuePlace → value.Answer
-placed s x places.None = value.none
-placed s x (places.InList a e) = value.inList (part a e s)
-placed s x (places.InScratch n) = value.inScratch (part 0 n x)
-placed s x (places.Refused r) = value.refused (r .number) (r .place)
+-- a value of the variant that begins at x: what it is, and the row of its literal
+pub record ValueAs (s : List ℕ) (x : Point) (r : ValueAt) (v : declaration.Value) : Type 0 where
+  pub value : ValueOf s r v
+  pub place : ValueIn s (valueRow x v) r
 
--- the scratch was `before` and is `after`
+-- the part of the list s or of the scratch x that an answer names
+abbrev pub partOf : List ℕ → List ℕ → ValuePlace → List ℕ
+partOf s x places.None = []
+partOf s x (places.InList a e) = part a e s
+partOf s x (places.InScratch n) = part 0 n x
+partOf s x (places.Refused r) = []
+
+-- where the text of a row stands in a list
+abbrev pub textStart : List ℕ → ℕ → ℕ
+textStart s row = rowStart s row + 2
+
+abbrev pub textEnd : List ℕ → ℕ → ℕ
+textEnd s row = rowStart s (row + 1) - 1
+
+-- the answer, by its own enum
+abbrev pub placeOf : List ℕ → value.Answer → ValuePlace
+placeOf s value.none = places.None
+placeOf s (value.inList row t) = places.InList (textStart s row) (textEnd s row)
+placeOf s (value.inScratch t) = places.InScratch (length t)
+placeOf s (value.refused n p) = places.Refused (record { number = n; place = p })
+
+-- a text of the list is past its first byte and not empty, and the list's last byte is none of it; one of the scratch has 1 to 20 bytes
+abbrev pub InRange : ValuePlace → Type 0
+InRange places.None = Unit
+InRange (places.InList a e) = (0 < a) × (a < e) × (e < 65536)
+InRange (places.InScratch n) = (0 < n) × (n ≤ 20)
+InRange (places.Refused r) = Unit
+
+-- the place, the text that stands there, and the scratch, which was `before` and is `after`
 pub record Placed (s before after : List ℕ) (a : value.Answer) (r : ValuePlace) : Type 0 where
-  pub answer : placed s after r ≡ a
+  pub place : r ≡ placeOf s a
+  pub text : partOf s after r ≡ value.textOf a
+  pub range : InRange r
   pub scratch : after ≡ value.scratch before a
 
 -- ## The answers of listing
@@ -68,3 +101,5 @@ pub record Reported (s before after : List ℕ) (r : ℕ) : Type 0 where
   -- an output of MOST bytes has room for every listing, so the text is never that of refusal 8
   pub roomy : listing.MOST ≤ length before → Put before after 0 r (listing.answerText (listing.whole s))
   pub short : r ≤ listing.MOST
+  -- what holds of a refusal that is printed
+  pub refusal : (n p : ℕ) → listing.answer s (length before) ≡ listing.refused n p → OneRefusal readNumber s n p

@@ -8,8 +8,9 @@ use Rattle.token_list.specs.Check as list
 use Rattle.token_list.specs.Stream.{at}
 use Rattle.report.specs.Text.{decimal}
 use Rattle.reading.specs.Declaration.{Value, absent, literal, negative, Variant, Body, fields, variants, Declaration}
-use Rattle.reading.specs.Took.{Took, took, refuse}
+use Rattle.reading.specs.Took.{Took, took, refuse, Point}
 use Rattle.reading.specs.Reading.{item}
+use Rattle.reading.specs.Place.{start, inside, bodyAt, variantAt, valueRow}
 
 -- a negative, written anew: `-7` for `-007`, `0` for `-0`
 unfoldable pub negativeText : ℕ → List ℕ
@@ -27,26 +28,31 @@ bodyValue k (variants vs) = valueAt k vs
 
 pub data Answer : Type 0 where
   none : Answer
-  -- a text that is a part of the list itself
-  inList : List ℕ → Answer
+  -- a part of the list itself: the row of the literal, and its text
+  inList : ℕ → List ℕ → Answer
   -- a text that is written into the scratch
   inScratch : List ℕ → Answer
   -- the refusal's number and place
   refused : ℕ → ℕ → Answer
 
-abbrev pub valueAnswer : Value → Answer
-valueAnswer absent = none
-valueAnswer (literal t) = inList t
-valueAnswer (negative n) = inScratch (negativeText n)
+-- a value whose literal stands in this row
+abbrev pub valueAnswer : ℕ → Value → Answer
+valueAnswer row absent = none
+valueAnswer row (literal t) = inList row t
+valueAnswer row (negative n) = inScratch (negativeText n)
 
-abbrev pub itemAnswer : ℕ → Took Declaration → Answer
-itemAnswer k (took d rs us) = valueAnswer (bodyValue k (d .body))
-itemAnswer k (refuse n p) = refused n p
+-- the value v of the variant at position k of an item that begins at x
+abbrev pub variantAnswer : Point → ℕ → Value → Answer
+variantAnswer x k v = valueAnswer (valueRow (variantAt k (inside (bodyAt x))) v) v
+
+abbrev pub itemAnswer : Point → ℕ → Took Declaration → Answer
+itemAnswer x k (took d rs us) = variantAnswer x k (bodyValue k (d .body))
+itemAnswer x k (refuse n p) = refused n p
 
 -- a list that was checked, the variant at position k, and a scratch of n bytes
 abbrev pub checkedAnswer : List ℕ → ℕ → ℕ → list.Answer → Answer
 checkedAnswer s k n (list.Answer.refused m p) = refused m p
-checkedAnswer s k n (list.Answer.passed rows) = cond (ltb n 20) (refused 8 list.END) (itemAnswer k (item 0 (at s 10 .here)))
+checkedAnswer s k n (list.Answer.passed rows) = cond (ltb n 20) (refused 8 list.END) (itemAnswer (start s) k (item 0 (at s 10 .here)))
 
 unfoldable pub answer : List ℕ → ℕ → ℕ → Answer
 answer s k n = checkedAnswer s k n (list.check s)
@@ -54,13 +60,13 @@ answer s k n = checkedAnswer s k n (list.check s)
 -- the scratch is written where the answer is a part of it, and past that part it stays
 abbrev pub scratch : List ℕ → Answer → List ℕ
 scratch x none = x
-scratch x (inList t) = x
+scratch x (inList row t) = x
 scratch x (inScratch t) = sets x 0 t
 scratch x (refused n p) = x
 
 -- the value's text, empty where there is none
 abbrev pub textOf : Answer → List ℕ
 textOf none = []
-textOf (inList t) = t
+textOf (inList row t) = t
 textOf (inScratch t) = t
 textOf (refused n p) = []

@@ -38,13 +38,15 @@ ghost use Prim.Native.Nat.{ℕ, _+_, _≤_, _<_};
 ghost use lib.ListN.{length};
 ghost use lib.Seq.{slice};
 ghost use Rattle.token_list.specs.Stream.{Trees, at};
+ghost use Rattle.token_list.specs.Place.{OneRefusal};
 ghost use Rattle.token_list.specs.Contract.{InList};
 ghost use Rattle.report.specs.Text.{decimal};
 ghost use Rattle.report.specs.Contract.{Put};
 ghost use Rattle.reading.specs.Declaration.{Parameter, Generics, parametersOf, Field, Fields, Value, Variant, Body, Declaration};
 ghost use Rattle.reading.specs.Reading.{every, namedField, tupleField, variant, parameter, generics, bodyOf, item};
+ghost use Rattle.reading.specs.Answer.{readNumber};
 ghost use Rattle.parse.specs.Contract.{kindOf, InsideAt, TextOf, ValueOf, FieldsOf, VariantOf, ParameterOf, ItemOf};
-ghost use Rattle.describe.specs.Listing.{FIELD, DASH, line, numbered, kindText, number, parameterLine, namedLine, tupleLine, fieldLines, variantLine, variantLines, bodyLines, itemLines, listing, listed, itemAnswer, fitted, answer};
+ghost use Rattle.describe.specs.Listing.{FIELD, DASH, line, numbered, kindText, number, parameterLine, namedLine, tupleLine, fieldLines, variantLine, variantLines, bodyLines, itemLines, listing, listed, refused, itemAnswer, fitted, answer};
 ghost use Rattle.describe.specs.Contract.{StructAt, ListedAs, Reported};
 
 // The listing's length, or a refusal.
@@ -433,6 +435,7 @@ fn read_listing(s: &[u8], out: &mut [u8], roles: &mut [u8]) -> Listed
 // Writes the listing of the declaration at the start of the output; on a refusal nothing is written.
 pub fn write_listing(list: &[u8], out: &mut [u8]) -> Listed
     ensures { λ r. ⌜ ListedAs (now (out .entry)) (now (out .exit)) (answer (now (list .entry)) (length (now (out .entry)))) r ⌝ }
+    ensures { λ _. ⌜ ((n p : ℕ) → answer (now (list .entry)) (length (now (out .entry))) ≡ refused n p → OneRefusal readNumber (now (list .entry)) n p) ⌝ }
 {
     match check(list) {
         Checked::Refused(r) => Listed::Refused(r),

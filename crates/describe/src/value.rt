@@ -23,14 +23,18 @@ ghost use Prim.Native.Nat.{ℕ, _+_, _^_, _≤_, _<_};
 ghost use lib.ListN.{length};
 ghost use lib.Seq.{slice};
 ghost use Rattle.token_list.specs.Stream.{at};
+ghost use Rattle.token_list.specs.Place.{OneRefusal};
 ghost use Rattle.token_list.specs.Contract.{InList};
 ghost use Rattle.report.specs.Contract.{Put};
 ghost use Rattle.reading.specs.Token.{negatable, worth};
 ghost use Rattle.reading.specs.Declaration.{Value, Variant, Body};
+ghost use Rattle.reading.specs.Took.{Point};
 ghost use Rattle.reading.specs.Reading.{every, variant, bodyOf, item};
-ghost use Rattle.parse.specs.Contract.{kindOf, InsideAt, ValueOf};
-ghost use Rattle.describe.specs.Value.{negativeText, valueAt, bodyValue, valueAnswer, itemAnswer, answer, textOf};
-ghost use Rattle.describe.specs.Contract.{Placed, placed};
+ghost use Rattle.reading.specs.Place.{start, inside, variantAt, valueRow};
+ghost use Rattle.reading.specs.Answer.{readNumber};
+ghost use Rattle.parse.specs.Contract.{point, kindOf, InsideAt, ValueOf};
+ghost use Rattle.describe.specs.Value.{negativeText, valueAt, bodyValue, valueAnswer, itemAnswer, refused, answer};
+ghost use Rattle.describe.specs.Contract.{ValueAs, Placed, partOf};
 
 // Where a value's text stands: nowhere, from one place of the list to another, or in so many bytes
 // at the start of the scratch.
@@ -76,7 +80,7 @@ pub fn put_negative(out: &mut [u8], at: usize, n: usize) -> usize
 // The value of the variant at this position of those that are read from `from` on.
 fn find(s: &[u8], from: Cursor, roles: &mut [u8], position: usize) -> ValueAt
     requires { ⌜ InList (now s) from ⌝ }
-    ensures { λ r. ⌜ ((vs : List Variant) → InsideAt (every variant) (now (s .entry)) from vs → ValueOf (now (s .entry)) r (valueAt position vs)) ⌝ }
+    ensures { λ r. ⌜ ((vs : List Variant) → InsideAt (every variant) (now (s .entry)) from vs → ValueAs (now (s .entry)) (variantAt position (point (now (s .entry)) from)) r (valueAt position vs)) ⌝ }
 {
     let mut c = from;
     let mut left = position;
@@ -102,7 +106,7 @@ fn find(s: &[u8], from: Cursor, roles: &mut [u8], position: usize) -> ValueAt
 // The value of the variant at this position of a declaration.
 fn value(s: &[u8], d: ItemAt, roles: &mut [u8], position: usize) -> ValueAt
     requires { ⌜ InList (now s) (d .body) ⌝ }
-    ensures { λ r. ⌜ ((b : Body) → InsideAt (bodyOf (kindOf (d .kind))) (now (s .entry)) (d .body) b → ValueOf (now (s .entry)) r (bodyValue position b)) ⌝ }
+    ensures { λ r. ⌜ ((b : Body) → InsideAt (bodyOf (kindOf (d .kind))) (now (s .entry)) (d .body) b → ValueAs (now (s .entry)) (variantAt position (inside (point (now (s .entry)) (d .body)))) r (bodyValue position b)) ⌝ }
 {
     let kind = d.kind;
     match kind {
@@ -124,7 +128,8 @@ fn value(s: &[u8], d: ItemAt, roles: &mut [u8], position: usize) -> ValueAt
 // Writes a negative into the scratch; a literal stays where it is.
 fn put_value(s: &[u8], v: ValueAt, scratch: &mut [u8]) -> ValuePlace
     requires { ⌜ ((w : Value) × ValueOf (now s) v w) ⌝ }
-    ensures { λ r. ⌜ ((w : Value) → ValueOf (now (s .entry)) v w → 20 ≤ length (now (scratch .entry)) → Placed (now (s .entry)) (now (scratch .entry)) (now (scratch .exit)) (valueAnswer w) r) ⌝ }
+    requires { ⌜ length (now s) ≤ 65536 ⌝ }
+    ensures { λ r. ⌜ ((x : Point) (w : Value) → ValueAs (now (s .entry)) x v w → 20 ≤ length (now (scratch .entry)) → Placed (now (s .entry)) (now (scratch .entry)) (now (scratch .exit)) (valueAnswer (valueRow x w) w) r) ⌝ }
 {
     match v {
         ValueAt::Absent => ValuePlace::None,
@@ -147,7 +152,8 @@ fn put_value(s: &[u8], v: ValueAt, scratch: &mut [u8]) -> ValuePlace
 fn read_value(s: &[u8], position: usize, scratch: &mut [u8], roles: &mut [u8]) -> ValuePlace
     requires { ⌜ InList (now s) (record { at = 10; row = 0 }) ⌝ }
     requires { ⌜ 20 ≤ length (now scratch) ⌝ }
-    ensures { λ r. ⌜ Placed (now (s .entry)) (now (scratch .entry)) (now (scratch .exit)) (itemAnswer position (item 0 (at (now (s .entry)) 10 .here))) r ⌝ }
+    requires { ⌜ length (now s) ≤ 65536 ⌝ }
+    ensures { λ r. ⌜ Placed (now (s .entry)) (now (scratch .entry)) (now (scratch .exit)) (itemAnswer (start (now (s .entry))) position (item 0 (at (now (s .entry)) 10 .here))) r ⌝ }
 {
     let c = Cursor { at: 10, row: 0 };
     match item(s, c, roles) {
@@ -163,6 +169,7 @@ fn read_value(s: &[u8], position: usize, scratch: &mut [u8], roles: &mut [u8]) -
 // that the answer is a part of it; 20 bytes are enough for every list, and must be there.
 pub fn value_of(list: &[u8], position: usize, scratch: &mut [u8]) -> ValuePlace
     ensures { λ r. ⌜ Placed (now (list .entry)) (now (scratch .entry)) (now (scratch .exit)) (answer (now (list .entry)) position (length (now (scratch .entry)))) r ⌝ }
+    ensures { λ _. ⌜ ((n p : ℕ) → answer (now (list .entry)) position (length (now (scratch .entry))) ≡ refused n p → OneRefusal readNumber (now (list .entry)) n p) ⌝ }
 {
     match check(list) {
         Checked::Refused(r) => ValuePlace::Refused(r),
@@ -181,7 +188,7 @@ pub fn value_of(list: &[u8], position: usize, scratch: &mut [u8]) -> ValuePlace
 
 // The text that stands there: a part of the list or of the scratch, empty where there is none.
 pub fn value_text<'a>(list: &'a [u8], scratch: &'a [u8], place: ValuePlace) -> &'a [u8]
-    ensures { λ r. ⌜ now r ≡ textOf (placed (now (list .entry)) (now (scratch .entry)) place) ⌝ }
+    ensures { λ r. ⌜ now r ≡ partOf (now (list .entry)) (now (scratch .entry)) place ⌝ }
 {
     match place {
         ValuePlace::None => &list[..0],

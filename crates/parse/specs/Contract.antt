@@ -13,7 +13,7 @@ use Rattle.token_list.specs.declared.check.Refusal.{Refusal}
 use Rattle.token_list.specs.declared.stream.Token.{Token}
 use Rattle.reading.specs.Took.{Took, took, refuse, Reader, onward, pure, _>>=_, Point, beyond}
 use Rattle.reading.specs.Reading as reading
-use Rattle.reading.specs.Place.{wordRow, startAt, itemNameRow, genericsAt, bodyAt, parameterNameRow, variantNameRow, variantName, groupAt, literalRow, valueRow}
+use Rattle.reading.specs.Place.{start, wordRow, startAt, itemNameRow, genericsAt, bodyAt, parameterNameRow, variantNameRow, variantName, groupAt, literalRow, valueRow}
 use Rattle.parse.specs.declared.utils.Step.{Step}
 use Rattle.parse.specs.declared.utils.Step.the-variants as steps
 use Rattle.parse.specs.declared.utils.MaybeWord.{MaybeWord}
@@ -470,10 +470,6 @@ abbrev pub accepted : Parse → Bool
 accepted (parses.Struct i) = true
 accepted (parses.Enum i) = true
 accepted (parses.Refused r) = false
-
--- the first row of a list
-abbrev pub start : List ℕ → Point
-start s = record { row = 0; stream = at s 10 .here }
 
 -- the answer, by its own enum: the declaration's kind, name and counts and where its parts stand, or the refusal's number and place
 abbrev pub ParsedAs : List ℕ → Parse → answers.Answer → Type 0

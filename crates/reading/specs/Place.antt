@@ -1,14 +1,14 @@
 -- Where the parts of a declaration stand: each is told by the readers of what stands before it (document 01, "Role grammar").
 use mathlib.Core.Bool.{Bool, cond, _||_}
 use mathlib.Core.List.{List}
-use Prim.Native.Nat.{ℕ, _+_}
+use Prim.Native.Nat.{ℕ, zero, suc, _+_}
 use Rattle.token_list.specs.Row.{Row}
-use Rattle.token_list.specs.Stream.{Trees, end, leaf, group}
+use Rattle.token_list.specs.Stream.{Trees, end, leaf, group, at}
 use Rattle.reading.specs.Role as role
 use Rattle.reading.specs.Token.{starts, isPunct, isWord, CONST}
 use Rattle.reading.specs.Declaration.{Value, absent, literal, negative}
 use Rattle.reading.specs.Took.{Reader, Point, beyond, _>>=_}
-use Rattle.reading.specs.Reading.{attributes, visibility, word, named!, kindOf, dataType, generics, clause, variantFields}
+use Rattle.reading.specs.Reading.{attributes, visibility, word, named!, kindOf, dataType, generics, clause, variantFields, variant}
 
 -- the ident of a word: in the word's own row, or inside what wraps it
 abbrev pub identRow : ℕ → Trees → ℕ
@@ -22,6 +22,19 @@ wordRow x = identRow (x .row) (x .stream)
 -- past attributes and visibility: a field's name, or the item's word
 abbrev pub startAt : Point → Point
 startAt x = beyond visibility (beyond attributes x)
+
+-- the first row of a list
+abbrev pub start : List ℕ → Point
+start s = record { row = 0; stream = at s 10 .here }
+
+-- the inside of a group that stands at a point
+abbrev pub insideOf : ℕ → Trees → Point
+insideOf row end = record { row = row; stream = end }
+insideOf row (leaf r us) = record { row = row; stream = end }
+insideOf row (group d ts us) = record { row = row + 1; stream = ts }
+
+abbrev pub inside : Point → Point
+inside x = insideOf (x .row) (x .stream)
 
 -- ## The item
 
@@ -65,3 +78,8 @@ literalRow row (negative n) = row + 1
 
 abbrev pub valueRow : Point → Value → ℕ
 valueRow x v = literalRow (equalsAt x .row + 1) v
+
+-- the variant at a position, from the point where the first one begins
+abbrev pub variantAt : ℕ → Point → Point
+variantAt zero x = x
+variantAt (suc k) x = variantAt k (beyond variant x)

@@ -1,3 +1,4 @@
+use Rattle.reading.specs.Place.{parameterNameRow}
 use borrow.Author.Needs.{needs}
 use native.Mathlib.Omega.{arith}
 use Prim.Native.Nat.{ℕ, _+_, _-_, _*_, _≤_}
@@ -44,16 +45,17 @@ put-parameter-requires c κs =
     let loop = c .before .before .before .before .before .before .before .before .loop in
     let parameter = c .before .before .before .before .before .before .parameter in
     let p = c .before .before .p in (
-      (meets-tells (meeting.say (contract.parameterShown (args .s .now)) contract.parameterSaid (p .given .1) (parameter .ensures)) .4 .0, meets-tells (meeting.say (contract.parameterShown (args .s .now)) contract.parameterSaid (p .given .1) (parameter .ensures)) .4 .2),
+      (meets-tells (meeting.say (contract.parameterShown (args .s .now) (parameterNameRow (contract.point (args .s .now) (loop .c)))) contract.parameterSaid (p .given .1) (parameter .ensures)) .4 .0, meets-tells (meeting.say (contract.parameterShown (args .s .now) (parameterNameRow (contract.point (args .s .now) (loop .c)))) contract.parameterSaid (p .given .1) (parameter .ensures)) .4 .2),
       (pre .1 .0, omega (arith, loop .inv .2, loop .inv .1 .few, loop .inv .1 .inList .within, pre .1 .0, pre .1 .1)),
     )
 
 loop-less : tie.Need-loop-less Inv-loop μ-loop
 loop-less c =
     let args = c .before .before .before .before .before .before .before .before .before .before .before .before .before .before .before .before .args in
+    let loop = c .before .before .before .before .before .before .before .before .before .before .before .before .loop in
     let parameter = c .before .before .before .before .before .before .before .before .before .before .parameter in
     let p = c .before .before .before .before .before .before .p in
-    let n = forward (reading.parameter (args .angle)) (conserved.parameter-round (args .angle)) (meeting.say (contract.parameterShown (args .s .now)) contract.parameterSaid (p .given .1) (parameter .ensures)) (λ v h. h) in omega (arith, n .0, n .1 .within)
+    let n = forward (reading.parameter (args .angle)) (conserved.parameter-round (args .angle)) (meeting.say (contract.parameterShown (args .s .now) (parameterNameRow (contract.point (args .s .now) (loop .c)))) contract.parameterSaid (p .given .1) (parameter .ensures)) (λ v h. (h .0, h .1, h .2)) in omega (arith, n .0, n .1 .within)
 
 loop-again : tie.Need-loop-again Inv-loop μ-loop
 loop-again c =
@@ -65,8 +67,8 @@ loop-again c =
       loop .inv .0 + 1,
       lined-more parameterLine (reading.parameter (args .angle))
           (conserved.parameter-round (args .angle)) (loop .inv .1)
-          (meeting.say (contract.parameterShown (args .s .now)) contract.parameterSaid (p .given .1) (parameter .ensures))
-          (λ v h. h) (λ a t. put-parameter .ensures .0 a t),
+          (meeting.say (contract.parameterShown (args .s .now) (parameterNameRow (contract.point (args .s .now) (loop .c)))) contract.parameterSaid (p .given .1) (parameter .ensures))
+          (λ v h. (h .0, h .1, h .2)) (λ a t. put-parameter .ensures .0 a t),
       omega (arith, put-parameter .ensures .1, loop .inv .2),
       parameter .kept .1 .1 .0 ∙ loop .inv .3,
       put-parameter .kept .1 .1 .0 ∙ loop .inv .4,
@@ -95,7 +97,7 @@ returns c =
       λ xs k.
           lined-done parameterLine (reading.parameter (args .angle)) (conserved.parameter-round (args .angle))
           (loop .inv .1)
-          (meeting.say (contract.parameterShown (args .s .now)) contract.parameterSaid ((c .enum-told) .given .1)
+          (meeting.say (contract.parameterShown (args .s .now) (parameterNameRow (contract.point (args .s .now) (loop .c)))) contract.parameterSaid ((c .enum-told) .given .1)
           (parameter .ensures))
           (λ v h. h) xs k,
       omega (arith, loop .inv .2, loop .inv .1 .few, loop .inv .1 .inList .within, pre .1 .0),
@@ -124,7 +126,7 @@ returns-2 c =
       λ xs k.
           lined-refused parameterLine (reading.parameter (args .angle)) (conserved.parameter-round (args .angle))
           (loop .inv .1)
-          (meeting.say (contract.parameterShown (args .s .now)) contract.parameterSaid ((c .enum-told2) .given .1)
+          (meeting.say (contract.parameterShown (args .s .now) (parameterNameRow (contract.point (args .s .now) (loop .c)))) contract.parameterSaid ((c .enum-told2) .given .1)
           (parameter .ensures))
           xs k,
       omega (arith, loop .inv .2, loop .inv .1 .few, loop .inv .1 .inList .within, pre .1 .0),

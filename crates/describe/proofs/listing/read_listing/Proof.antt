@@ -1,4 +1,5 @@
 use Rattle.parse.specs.Contract.{itemShown, itemSaid}
+use Rattle.parse.proofs.Items.{first}
 use lib.ListN.{length}
 use mathlib.Core.Path.{sym, ap}
 use Rattle.parse.proofs.Meeting as meeting
@@ -22,7 +23,8 @@ fit-listing-requires c κs =
     let args = c .before .before .before .before .before .before .before .before .before .before .before .before .args in
     let pre = c .before .before .before .before .before .before .before .before .before .before .before .before .pre in
     let item = c .before .before .before .before .before .before .before .item in
-    let m = meets-tells (meeting.say (itemShown (args .s .now)) itemSaid ((c .before .before .before .d) .given .1) (item .ensures)) in ((m .0, m .4), pre .1)
+    let m = meets-tells (meeting.say (itemShown (args .s .now) first) itemSaid ((c .before .before .before .d) .given .1) (item .ensures)) in
+    ((m .0, m .4 .0), pre .1)
 
 same-length : tie.Need-same-length
 same-length c = search needs
@@ -31,7 +33,7 @@ returns : tie.Need-returns
 returns c =
     let args = c .before .before .before .before .before .before .before .before .before .before .args in
     let item = c .before .before .before .before .before .item in
-    let e = meets-refusal (meeting.say (itemShown (args .s .now)) itemSaid ((c .before .r) .given .1) (item .ensures)) in listed-refused (sym (ap (λ t. fitted (length (args .out .now)) (itemAnswer t)) e)) (sym (ap (λ t. output (args .out .now) (fitted (length (args .out .now)) (itemAnswer t))) e))
+    let e = meets-refusal (meeting.say (itemShown (args .s .now) first) itemSaid ((c .before .r) .given .1) (item .ensures)) in listed-refused (sym (ap (λ t. fitted (length (args .out .now)) (itemAnswer t)) e)) (sym (ap (λ t. output (args .out .now) (fitted (length (args .out .now)) (itemAnswer t))) e))
 
 same-length-2 : tie.Need-same-length-2
 same-length-2 c = search needs
@@ -45,7 +47,7 @@ returns-2 c =
     let item = c .before .before .before .before .before .before .before .before .before .before .before .before .item in
     let d = c .before .before .before .before .before .before .before .before .d in
     let fit-listing = c .before .before .before .before .fit-listing in
-    let m = meets-tells (meeting.say (itemShown (args .s .now)) itemSaid (d .given .1) (item .ensures)) in listed-as (ap (λ t. fitted (length (args .out .now)) (itemAnswer t)) (m .3)) (fit-listing .ensures (m .0) (m .4))
+    let m = meets-tells (meeting.say (itemShown (args .s .now) first) itemSaid (d .given .1) (item .ensures)) in listed-as (ap (λ t. fitted (length (args .out .now)) (itemAnswer t)) (m .3)) (fit-listing .ensures (m .0) (m .4 .0))
 
 pub read-listing-spec : {M : Type 1} → statement M
 read-listing-spec =

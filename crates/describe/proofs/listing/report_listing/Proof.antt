@@ -25,9 +25,9 @@ returns c =
     let args = c .before .before .before .before .before .before .before .before .before .args in
     let write-listing = c .before .before .before .before .before .write-listing in
     let list = args .list .now in
-    let answered = write-listing .ensures in
+    let answered = write-listing .ensures .0 in
     let listed = rw (c .before .n .given .1) at answered in
-    reported list (listed-put listed) (reported-length list listed)
+    reported list (listed-put listed) (reported-length list listed) (write-listing .ensures .1)
 
 same-length-2 : tie.Need-same-length-2
 same-length-2 c = search needs
@@ -38,10 +38,10 @@ returns-2 c =
     let write-listing = c .before .before .before .before .before .before .before .before .before .write-listing in
     let r = c .before .before .before .before .before .r in
     let args = args-2 in
-    let answered = write-listing .ensures in
+    let answered = write-listing .ensures .0 in
     let refused = rw (r .given .1) at answered in
     let put = c .before .before .put-refusal .ensures in
-    reported (args .list .now) (refused-put refused (put .0)) (omega (arith, put .1))
+    reported (args .list .now) (refused-put refused (put .0)) (omega (arith, put .1)) (write-listing .ensures .1)
 
 pub report-listing-spec : {M : Type 1} → statement M
 report-listing-spec =

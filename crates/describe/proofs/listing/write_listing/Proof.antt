@@ -3,7 +3,7 @@ use Rattle.token_list.specs.Contract.{checked}
 use lib.ListN.{length}
 use mathlib.Core.Path.{sym, _∙_, ap}
 use Rattle.token_list.proofs.Bounds.{bounds}
-use Rattle.describe.proofs.Answers.{listed-as, listed-refused, listing-checked, listing-read}
+use Rattle.describe.proofs.Answers.{listed-as, listed-refused, listing-checked, listing-read, listing-refusal}
 use Rattle.describe.specs.Listing.{output}
 use borrow.Author.Needs.{needs}
 use Rattle.describe.proofs.listing.write_listing.Statement.{statement}
@@ -26,15 +26,16 @@ read-listing-requires c κs =
     let args = c .before .before .before .before .before .before .before .args in
     let check = c .before .before .before .before .check in
     let enum-told = c .before .before .enum-told in (
-      first-in _ _ (sym (check .ensures) ∙ ap checked (enum-told .given .1)),
+      first-in _ _ (sym (check .ensures .answer) ∙ ap checked (enum-told .given .1)),
       bounds (args .list .now)
-          (sym (check .ensures) ∙ ap checked (enum-told .given .1)) .bytes,
+          (sym (check .ensures .answer) ∙ ap checked (enum-told .given .1)) .bytes,
     )
 
 returns : tie.Need-returns
 returns c =
     let args = c .before .before .before .before .before .before .args in
-    let e = listing-checked (args .list .now) (length (args .out .now)) (sym ((c .before .before .before .check) .ensures) ∙ ap checked ((c .before .r) .given .1)) in listed-refused (sym e) (sym (ap (output (args .out .now)) e))
+    let e = listing-checked (args .list .now) (length (args .out .now)) (sym (c .before .before .before .check .ensures .answer) ∙ ap checked ((c .before .r) .given .1)) in
+    (listed-refused (sym e) (sym (ap (output (args .out .now)) e)), listing-refusal (args .list .now) (length (args .out .now)))
 
 same-length : tie.Need-same-length
 same-length c = search needs
@@ -43,11 +44,12 @@ returns-2 : tie.Need-returns-2
 returns-2 c =
     let args = c .before .before .before .before .before .before .before .before .before .before .before .args in
     let check = c .before .before .before .before .before .before .before .before .check in
-    let enum-told = c .before .before .before .before .before .before .enum-told in
-    listed-as
-    (listing-read (args .list .now) (length (args .out .now))
-    (sym (check .ensures) ∙ ap checked (enum-told .given .1)))
-    ((c .before .before .before .read-listing) .ensures)
+    let enum-told = c .before .before .before .before .before .before .enum-told in (
+      listed-as
+          (listing-read (args .list .now) (length (args .out .now)) (sym (check .ensures .answer) ∙ ap checked (enum-told .given .1)))
+          ((c .before .before .before .read-listing) .ensures),
+      listing-refusal (args .list .now) (length (args .out .now)),
+    )
 
 pub write-listing-spec : {M : Type 1} → statement M
 write-listing-spec =

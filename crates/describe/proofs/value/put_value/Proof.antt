@@ -20,16 +20,17 @@ worth-requires : tie.Need-worth-requires
 worth-requires c κs =
     let args = c .before .before .before .before .before .args in
     let pre = c .before .before .before .before .before .pre in
-    let h = subst (λ v. contract.ValueOf (args .s .now) v (pre .0)) ((c .before .v2) .given .1) (pre .1) in (h .1 .within, ap negatable (sym (h .1 .bytes)) ∙ h .2)
+    let h = subst (λ v. contract.ValueOf (args .s .now) v (pre .0 .0)) ((c .before .v2) .given .1) (pre .0 .1) in
+    (h .1 .within, ap negatable (sym (h .1 .bytes)) ∙ h .2)
 
 put-negative-requires : tie.Need-put-negative-requires
 put-negative-requires c κs = (omega arith, (c .before .worth) .ensures .1)
 
 returns : tie.Need-returns
-returns c = λ w k room. placed-absent w k _ ((c .enum-told) .given .1)
+returns c = λ x w k room. placed-absent x w k _ ((c .enum-told) .given .1)
 
 returns-2 : tie.Need-returns-2
-returns-2 c = λ w k room. placed-literal w k _ _ ((c .before .v) .given .1)
+returns-2 c = λ x w k room. placed-literal x w k _ _ ((c .before .v) .given .1) (c .before .before .before .before .before .pre .1)
 
 same-length : tie.Need-same-length
 same-length c = search needs
@@ -39,8 +40,8 @@ returns-3 c =
     let v2 = c .before .before .before .before .before .before .v2 in
     let worth = c .before .before .before .before .worth in
     let put-negative = c .before .before .put-negative in
-    λ w k room.
-    placed-negative w k _ (v2 .given .1) (worth .ensures .0) (put-negative .ensures .0) (put-negative .ensures .1)
+    λ x w k room.
+    placed-negative x w k _ (v2 .given .1) (worth .ensures .0) (put-negative .ensures .0) (put-negative .ensures .1)
     room
 
 pub put-value-spec : {M : Type 1} → statement M

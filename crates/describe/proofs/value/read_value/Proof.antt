@@ -1,8 +1,12 @@
-use mathlib.Core.Path.{ap, sym}
+use mathlib.Core.Path.{ap, subst}
+use Rattle.reading.specs.Took.{Point}
+use Rattle.reading.specs.Place.{start, inside, variantAt}
+use Rattle.describe.specs.Contract.{ValueAs}
 use Rattle.parse.proofs.Meeting as meeting
 use Rattle.describe.proofs.Answers.{meets-tells, meets-refusal, placed-as, placed-refused}
 use Rattle.parse.specs.Contract.{itemShown, itemSaid}
-use Rattle.describe.specs.Value.{itemAnswer, scratch}
+use Rattle.parse.proofs.Items.{first}
+use Rattle.describe.specs.Value.{itemAnswer, bodyValue}
 use borrow.Author.Needs.{needs}
 use Rattle.describe.proofs.value.read_value.Statement.{statement}
 use Rattle.describe.proofs.value.read_value.Tie as tie
@@ -21,17 +25,17 @@ value-requires c κs =
     let args = c .before .before .before .before .before .before .before .before .before .before .before .args in
     let item = c .before .before .before .before .before .before .item in
     meets-tells
-    (meeting.say (itemShown (args .s .now)) itemSaid ((c .before .before .d) .given .1) (item .ensures)) .4 .body .inList
+    (meeting.say (itemShown (args .s .now) first) itemSaid ((c .before .before .d) .given .1) (item .ensures)) .4 .0 .body .inList
 
 put-value-requires : tie.Need-put-value-requires
 put-value-requires c κs =
     let args = c .before .before .before .before .before .before .before .before .before .before .before .before .before .before .before .args in
+    let pre = c .before .before .before .before .before .before .before .before .before .before .before .before .before .before .before .pre in
     let item = c .before .before .before .before .before .before .before .before .before .before .item in
-    let d = c .before .before .before .before .before .before .d in (
-      _,
-      (c .before .before .before .value) .ensures _
-          (meets-tells (meeting.say (itemShown (args .s .now)) itemSaid (d .given .1) (item .ensures)) .4 .body),
-    )
+    let d = c .before .before .before .before .before .before .d in
+    let value = c .before .before .before .value in
+    let m = meets-tells (meeting.say (itemShown (args .s .now) first) itemSaid (d .given .1) (item .ensures)) in
+    ((_, value .ensures _ (m .4 .0 .body) .value), pre .1 .1)
 
 same-length : tie.Need-same-length
 same-length c = search needs
@@ -40,7 +44,8 @@ returns : tie.Need-returns
 returns c =
     let args = c .before .before .before .before .before .before .before .before .before .before .args in
     let item = c .before .before .before .before .before .item in
-    let e = meets-refusal (meeting.say (itemShown (args .s .now)) itemSaid ((c .before .r) .given .1) (item .ensures)) in placed-refused (sym (ap (itemAnswer (args .position)) e)) (sym (ap (λ t. scratch (args .scratch .now) (itemAnswer (args .position) t)) e))
+    let e = meets-refusal (meeting.say (itemShown (args .s .now) first) itemSaid ((c .before .r) .given .1) (item .ensures)) in
+    placed-refused _ (ap (itemAnswer (start (args .s .now)) (args .position)) e)
 
 same-length-2 : tie.Need-same-length-2
 same-length-2 c = search needs
@@ -55,7 +60,10 @@ returns-2 c =
     let item = c .before .before .before .before .before .before .before .before .before .before .before .before .before .item in
     let d = c .before .before .before .before .before .before .before .before .before .d in
     let value = c .before .before .before .before .before .before .value in
-    let m = meets-tells (meeting.say (itemShown (args .s .now)) itemSaid (d .given .1) (item .ensures)) in placed-as (ap (itemAnswer (args .position)) (m .3)) ((c .before .before .put-value) .ensures _ (value .ensures _ (m .4 .body)) (pre .1))
+    let m = meets-tells (meeting.say (itemShown (args .s .now) first) itemSaid (d .given .1) (item .ensures)) in
+    let there = ap (λ (x : Point). variantAt (args .position) (inside x)) (m .4 .1 .body .here) in
+    let v = subst (λ (x : Point). ValueAs (args .s .now) x (value .result) (bodyValue (args .position) (m .0 .body))) there (value .ensures _ (m .4 .0 .body)) in
+    placed-as (ap (itemAnswer (start (args .s .now)) (args .position)) (m .3)) ((c .before .before .put-value) .ensures _ _ v (pre .1 .0))
 
 pub read-value-spec : {M : Type 1} → statement M
 read-value-spec =

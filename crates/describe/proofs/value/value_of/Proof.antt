@@ -3,8 +3,8 @@ use lib.ListN.{length}
 use native.Mathlib.Omega.{arith}
 use mathlib.Core.Path.{ap, sym, _∙_}
 use Rattle.token_list.specs.Contract.{checked}
-use Rattle.describe.proofs.Answers.{placed-as, placed-refused, value-checked, value-short, value-read}
-use Rattle.describe.specs.Value.{scratch}
+use Rattle.describe.proofs.Answers.{placed-as, placed-refused, value-checked, value-short, value-read, value-refusal}
+use Rattle.token_list.proofs.Bounds.{bounds}
 use borrow.Author.Needs.{needs}
 use Rattle.describe.proofs.value.value_of.Statement.{statement}
 use Rattle.describe.proofs.value.value_of.Tie as tie
@@ -21,20 +21,24 @@ enum-told c = search needs
 returns : tie.Need-returns
 returns c =
     let args = c .before .before .before .before .before .before .args in
-    let e = value-short (args .list .now) (args .position) (length (args .scratch .now)) (sym ((c .before .before .before .check) .ensures) ∙ ap checked ((c .before .enum-told) .given .1)) (omega arith) in placed-refused (sym e) (sym (ap (scratch (args .scratch .now)) e))
+    let e = value-short (args .list .now) (args .position) (length (args .scratch .now)) (sym (c .before .before .before .check .ensures .answer) ∙ ap checked ((c .before .enum-told) .given .1)) (omega arith) in
+    (placed-refused _ e, value-refusal (args .list .now) (args .position) (length (args .scratch .now)))
 
 slice-aggregate-read-value : tie.Need-slice-aggregate-read-value
 slice-aggregate-read-value c = search needs
 
 read-value-requires : tie.Need-read-value-requires
 read-value-requires c κs =
+    let args = c .before .before .before .before .before .before .before .before .args in
     let check = c .before .before .before .before .before .check in
-    (first-in _ _ (sym (check .ensures) ∙ ap checked ((c .before .before .before .enum-told) .given .1)), omega arith)
+    let passed = sym (check .ensures .answer) ∙ ap checked ((c .before .before .before .enum-told) .given .1) in
+    (first-in _ _ passed, (omega arith, bounds (args .list .now) passed .bytes))
 
 returns-2 : tie.Need-returns-2
 returns-2 c =
     let args = c .before .before .before .before .before .before .args in
-    let e = value-checked (args .list .now) (args .position) (length (args .scratch .now)) (sym ((c .before .before .before .check) .ensures) ∙ ap checked ((c .before .r) .given .1)) in placed-refused (sym e) (sym (ap (scratch (args .scratch .now)) e))
+    let e = value-checked (args .list .now) (args .position) (length (args .scratch .now)) (sym (c .before .before .before .check .ensures .answer) ∙ ap checked ((c .before .r) .given .1)) in
+    (placed-refused _ e, value-refusal (args .list .now) (args .position) (length (args .scratch .now)))
 
 same-length : tie.Need-same-length
 same-length c = search needs
@@ -44,10 +48,10 @@ returns-3 c =
     let args = c .before .before .before .before .before .before .before .before .before .before .before .before .args in
     let check = c .before .before .before .before .before .before .before .before .before .check in
     let enum-told = c .before .before .before .before .before .before .before .enum-told in
-    placed-as
-    (value-read (args .list .now) (args .position) (length (args .scratch .now))
-    (sym (check .ensures) ∙ ap checked (enum-told .given .1)) (omega arith))
-    ((c .before .before .before .read-value) .ensures)
+    let passed = sym (check .ensures .answer) ∙ ap checked (enum-told .given .1) in (
+      placed-as (value-read (args .list .now) (args .position) (length (args .scratch .now)) passed (omega arith)) ((c .before .before .before .read-value) .ensures),
+      value-refusal (args .list .now) (args .position) (length (args .scratch .now)),
+    )
 
 pub value-of-spec : {M : Type 1} → statement M
 value-of-spec =

@@ -1,8 +1,7 @@
 use native.Mathlib.Omega.{arith}
 use lib.Seq.{length-take-le}
 use mathlib.Core.Path.{sym, _∙_, ap}
-use Rattle.describe.specs.Contract.{placed}
-use Rattle.describe.specs.Value.{textOf}
+use Rattle.describe.specs.Contract.{partOf}
 use Rattle.describe.proofs.Worths.{part-beyond, part-none, part-some, part-front}
 use borrow.Author.Needs.{needs}
 use Rattle.describe.proofs.value.value_text.Statement.{statement}
@@ -31,7 +30,7 @@ returns c =
     let args = c .before .before .before .before .before .args in
     let place = c .before .before .before .place in
     sym
-    (ap (λ p. textOf (placed (args .list .now) (args .scratch .now) p)) (place .given .1) ∙ part-beyond
+    (ap (partOf (args .list .now) (args .scratch .now)) (place .given .1) ∙ part-beyond
     (place .given .0 .0) (place .given .0 .1 .0) (args .list .now) (omega arith))
 
 slice-aggregate-result-4 : tie.Need-slice-aggregate-result-4
@@ -42,7 +41,7 @@ returns-2 c =
     let args = c .before .before .before .before .before .before .args in
     let place = c .before .before .before .before .place in
     sym
-    (ap (λ p. textOf (placed (args .list .now) (args .scratch .now) p)) (place .given .1) ∙ part-none
+    (ap (partOf (args .list .now) (args .scratch .now)) (place .given .1) ∙ part-none
     (place .given .0 .0) (place .given .0 .1 .0) (args .list .now) (omega arith) (omega arith))
 
 part-result-start : tie.Need-part-result-start
@@ -62,7 +61,7 @@ returns-3 c =
     let args = c .before .before .before .before .before .args in
     let place2 = c .before .before .before .place2 in
     sym
-    (ap (λ p. textOf (placed (args .list .now) (args .scratch .now) p)) (place2 .given .1) ∙ part-beyond 0
+    (ap (partOf (args .list .now) (args .scratch .now)) (place2 .given .1) ∙ part-beyond 0
     (place2 .given .0 .0) (args .scratch .now) (omega arith))
 
 slice-aggregate-result-6 : tie.Need-slice-aggregate-result-6
@@ -81,7 +80,7 @@ returns-6 c =
     let args = c .before .before .before .before .before .before .args in
     let place = c .before .before .before .before .place in
     sym
-    (ap (λ p. textOf (placed (args .list .now) (args .scratch .now) p)) (place .given .1) ∙ part-some
+    (ap (partOf (args .list .now) (args .scratch .now)) (place .given .1) ∙ part-some
     (place .given .0 .0) (place .given .0 .1 .0) (args .list .now) (omega arith))
 
 returns-7 : tie.Need-returns-7
@@ -89,7 +88,7 @@ returns-7 c =
     let args = c .before .before .before .before .before .args in
     let place2 = c .before .before .before .place2 in
     sym
-    (ap (λ p. textOf (placed (args .list .now) (args .scratch .now) p)) (place2 .given .1) ∙ part-front
+    (ap (partOf (args .list .now) (args .scratch .now)) (place2 .given .1) ∙ part-front
     (place2 .given .0 .0) (args .scratch .now) (omega arith))
 
 pub value-text-spec : {M : Type 1} → statement M
