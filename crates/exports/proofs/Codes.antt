@@ -1,22 +1,159 @@
--- The number of an answer, by the case of the reader's enum.
-use mathlib.Core.Path.{_≡_, ap, sym}
+-- A number gives its case back; the cases of the answers are small enough for it.
+use mathlib.Core.Path.{_≡_, refl, ap, _∙_, sym, subst}
+use mathlib.Core.Logic.{⊎-elim}
+use mathlib.Core.Bool.{Bool, true, false, _&&_, _||_, cond, false≢true}
 use mathlib.Core.List.{List}
-use Prim.Native.Nat.{ℕ}
+use Prim.Native.Nat.{ℕ, _+_, _*_, _/_, _%_, _≤_, _<_}
+use native.Mathlib.Nat.{mul-add-div-right, mul-add-mod-self-right, div-eq-of-lt, mod-eq-of-lt}
+use native.Mathlib.Omega.{arith}
+use borrow.Author.Tests.{leb-true, lt-ltb, le-ltb, eq-eqb, ne-eqb}
+use lib.Dec.{leb}
+use lib.ListN.{length}
+use Rattle.token_list.specs.Text.{between}
+use Rattle.token_list.specs.Check as list
+use Rattle.token_list.specs.Place.{OneRefusal, checkNumber}
 use Rattle.token_list.specs.declared.check.Refusal.{Refusal}
-use Rattle.reading.specs.Answer.{Answer, declared, refused}
+use Rattle.token_list.proofs.Texts.{and-parts, chosen, passed-over}
+use Rattle.token_list.proofs.Bounds.{bounds, check-refusal}
+use Rattle.reading.specs.Declaration.{Kind, struct, enum}
+use Rattle.reading.specs.Answer as answers
+use Rattle.reading.specs.Answer.{readNumber}
+use Rattle.reading.proofs.Places.{answer-read}
 use Rattle.parse.specs.Contract.{ParsedAs}
 use Rattle.parse.specs.declared.item.ItemAt.{ItemAt}
 use Rattle.parse.specs.declared.item.Parse.the-variants as parses
-use Rattle.exports.specs.Code.{refusalCode, kindCode, readCode}
+use Rattle.describe.specs.Listing as listing
+use Rattle.describe.specs.Value as value
+use Rattle.describe.specs.Contract.{InRange, placeOf, Placed}
+use Rattle.describe.specs.declared.value.ValuePlace.{ValuePlace}
+use Rattle.describe.specs.declared.value.ValuePlace.the-variants as places
+use Rattle.describe.proofs.Answers.{listing-refusal}
+use Rattle.describe.proofs.Length.{fits}
+use Rattle.exports.specs.Code.{Case, accepted, refusal, REFUSED, code, decoded, Coded, checkCase, kindCode, readCase, listingCase, placeCase, decodedPlace, ValueInto}
 
-pub struct-code : (s : List ℕ) (i : ItemAt) (a : Answer) → ParsedAs s (parses.Struct i) a → 0 ≡ readCode a
-struct-code s i (declared d rs) h = sym (ap kindCode (h .0))
-struct-code s i (refused n p) h = absurd h
+-- ## A number gives back its case, number and place
 
-pub enum-code : (s : List ℕ) (i : ItemAt) (a : Answer) → ParsedAs s (parses.Enum i) a → 1 ≡ readCode a
-enum-code s i (declared d rs) h = sym (ap kindCode (h .0))
-enum-code s i (refused n p) h = absurd h
+abbrev pub Small : Case → Type 0
+Small (accepted v) = v < REFUSED
+Small (refusal n p) = (1 ≤ n) × (p < REFUSED)
 
-pub refused-code : (s : List ℕ) (r : Refusal) (a : Answer) → ParsedAs s (parses.Refused r) a → refusalCode (r .number) (r .place) ≡ readCode a
-refused-code s r (declared d rs) h = absurd h
-refused-code s r (refused n p) h = λ i. refusalCode (h .0 i) (h .1 i)
+-- what stands above and below in one number
+pub upper : (m n p : ℕ) → 0 < m → p < m → (n * m + p) / m ≡ n
+upper m n p h l = mul-add-div-right h n p ∙ (let z = div-eq-of-lt l in omega (arith, z))
+
+pub lower : (m n p : ℕ) → p < m → (n * m + p) % m ≡ p
+lower m n p l = mul-add-mod-self-right n m p ∙ mod-eq-of-lt l
+
+pub gives-back : (c : Case) → Small c → decoded (code c) ≡ c
+unfolding decoded
+gives-back (accepted v) h = chosen _ _ _ (lt-ltb v REFUSED h)
+gives-back (refusal n p) h =
+    passed-over _ _ _ (le-ltb (n * REFUSED + p) REFUSED (omega (arith, h .0)))
+    ∙ (λ i. refusal (upper REFUSED n p (omega arith) (h .1) i) (lower REFUSED n p (h .1) i))
+
+pub coded-as : (c : Case) {r : ℕ} → Small c → r ≡ code c → Coded c r
+coded-as c h e = record { code = e; back = ap decoded e ∙ gives-back c h }
+
+-- a value's place too
+pub place-back : (p : ValuePlace) → InRange p → decodedPlace (placeCase p) ≡ p
+unfolding decodedPlace
+place-back places.None h = refl
+place-back (places.InScratch n) h =
+    passed-over _ _ _ (ne-eqb n 0 (λ e. omega (arith, h .0, e))) ∙ chosen _ _ _ (lt-ltb n 65536 (omega (arith, h .1)))
+place-back (places.InList a e) h =
+    passed-over _ _ _ (ne-eqb (a * 65536 + e) 0 (λ q. omega (arith, h .0, q)))
+    ∙ passed-over _ _ _ (le-ltb (a * 65536 + e) 65536 (omega (arith, h .0)))
+    ∙ (λ i. places.InList (upper 65536 a e (omega arith) (h .2) i) (lower 65536 a e (h .2) i))
+place-back (places.Refused r) h = refl
+
+-- ## The cases are small
+
+-- the numbers begin at 1
+from-one : (n : ℕ) → readNumber n ≡ true → 1 ≤ n
+from-one n e = go (between 1 8 n) refl e
+  where
+    go : (b : Bool) → between 1 8 n ≡ b → (b || between 11 27 n) ≡ true → 1 ≤ n
+    go true q h = leb-true 1 n (and-parts (leb 1 n) (leb n 8) q .0)
+    go false q h = omega (arith, leb-true 11 n (and-parts (leb 11 n) (leb n 27) h .0))
+
+place-low : {f : ℕ → Bool} {s : List ℕ} {n p : ℕ} → OneRefusal f s n p → p ≤ 65535
+place-low o = ⊎-elim (λ e. omega (arith, e)) (λ k. omega (arith, k .low)) (o .stands)
+
+pub read-small : {s : List ℕ} {n p : ℕ} → OneRefusal readNumber s n p → (1 ≤ n) × (p ≤ 65535)
+read-small {n = n} o = (from-one n (o .one), place-low o)
+
+pub check-small : {s : List ℕ} {n p : ℕ} → OneRefusal checkNumber s n p → (1 ≤ n) × (p ≤ 65535)
+check-small {n = n} o = (leb-true 1 n (and-parts (leb 1 n) (leb n 7) (o .one) .0), place-low o)
+
+below : {n p : ℕ} → (1 ≤ n) × (p ≤ 65535) → Small (refusal n p)
+below h = (h .0, omega (arith, h .1))
+
+pub checked-small : (s : List ℕ) → Small (checkCase (list.check s))
+checked-small s = go (list.check s) refl
+  where
+    go : (a : list.Answer) → list.check s ≡ a → Small (checkCase a)
+    go (list.Answer.passed n) e = omega (arith, bounds s e .rows)
+    go (list.Answer.refused n p) e = below (check-small (check-refusal s n p e))
+
+kind-small : (k : Kind) → kindCode k < REFUSED
+kind-small struct = omega arith
+kind-small enum = omega arith
+
+pub answered-small : (s : List ℕ) (room : ℕ) → Small (readCase (answers.answer s room))
+answered-small s room = go (answers.answer s room) refl
+  where
+    go : (a : answers.Answer) → answers.answer s room ≡ a → Small (readCase a)
+    go (answers.declared d rs) e = kind-small (d .kind)
+    go (answers.refused n p) e = below (read-small (answer-read s room n p e))
+
+pub listed-small : (s : List ℕ) (room : ℕ) → Small (listingCase (listing.answer s room))
+listed-small s room = go (listing.answer s room) refl
+  where
+    go : (a : listing.Answer) → listing.answer s room ≡ a → Small (listingCase a)
+    go (listing.listed text) e = omega (arith, fits s room .longest text e)
+    go (listing.refused n p) e = below (read-small (listing-refusal s room n p e))
+
+pub placed-small : (s : List ℕ) (a : value.Answer) → InRange (placeOf s a) → ((n p : ℕ) → a ≡ value.refused n p → OneRefusal readNumber s n p)
+    → Small (placeCase (placeOf s a))
+placed-small s value.none h k = omega arith
+placed-small s (value.inList row t) h k = omega (arith, h .1, h .2)
+placed-small s (value.inScratch t) h k = omega (arith, h .1)
+placed-small s (value.refused n p) h k = below (read-small (k n p refl))
+
+-- ## The number of an answer, by the case of the reader's enum
+
+pub struct-code : (s : List ℕ) (i : ItemAt) (a : answers.Answer) → ParsedAs s (parses.Struct i) a → 0 ≡ code (readCase a)
+struct-code s i (answers.declared d rs) h = sym (ap kindCode (h .0))
+struct-code s i (answers.refused n p) h = absurd h
+
+pub enum-code : (s : List ℕ) (i : ItemAt) (a : answers.Answer) → ParsedAs s (parses.Enum i) a → 1 ≡ code (readCase a)
+enum-code s i (answers.declared d rs) h = sym (ap kindCode (h .0))
+enum-code s i (answers.refused n p) h = absurd h
+
+pub refused-case : (s : List ℕ) (r : Refusal) (a : answers.Answer) → ParsedAs s (parses.Refused r) a → a ≡ answers.refused (r .number) (r .place)
+refused-case s r (answers.declared d rs) h = absurd h
+refused-case s r (answers.refused n p) h = λ i. answers.refused (sym (h .0) i) (sym (h .1) i)
+
+place-refused : (s : List ℕ) (a : value.Answer) (r : Refusal) → placeOf s a ≡ places.Refused r → a ≡ value.refused (r .number) (r .place)
+place-refused s value.none r e = let z : _≡_ {A = ℕ} 0 1 = cc in absurd (omega arith)
+place-refused s (value.inList row t) r e = let z : _≡_ {A = ℕ} 0 1 = cc in absurd (omega arith)
+place-refused s (value.inScratch t) r e = let z : _≡_ {A = ℕ} 0 1 = cc in absurd (omega arith)
+place-refused s (value.refused n p) r e =
+    let same : record { number = n; place = p } ≡ r = cc in
+    ap (λ (x : Refusal). value.refused (x .number) (x .place)) same
+
+-- ## A value's place
+
+module _ (s : List ℕ) (position : ℕ) (x y : List ℕ) {r : ValuePlace} (h : Placed s x y (value.answer s position (length x)) r)
+    (k : (n p : ℕ) → value.answer s position (length x) ≡ value.refused n p → OneRefusal readNumber s n p) where
+  abbrev a : value.Answer
+  a = value.answer s position (length x)
+
+  pub value-low : (f : Refusal) → r ≡ places.Refused f → f .place ≤ 65535
+  value-low f e = read-small (k (f .number) (f .place) (place-refused s a f (sym (h .place) ∙ e))) .1
+
+  pub value-into : {p : ValuePlace} {c : ℕ} → r ≡ p → c ≡ code (placeCase p) → ValueInto s position x y c
+  value-into {p} {c} e q =
+      let range = subst InRange (h .place) (h .range) in
+      let coded = coded-as (placeCase (placeOf s a)) (placed-small s a range k) (q ∙ ap (λ (z : ValuePlace). code (placeCase z)) (sym e ∙ h .place)) in
+      record { coded = coded; back = ap decodedPlace (coded .back) ∙ place-back (placeOf s a) range; scratch = h .scratch }

@@ -1,59 +1,85 @@
 -- Answers as one number: below 2^32 nothing was refused, else the number is 2^32 times the refusal's number, plus its place (a
 -- row, or the end mark 65,535).
 use mathlib.Core.Path.{_≡_}
+use mathlib.Core.Bool.{cond}
 use mathlib.Core.List.{List}
-use Prim.Native.Nat.{ℕ, _+_, _*_, min}
+use Prim.Native.Nat.{ℕ, _+_, _*_, _/_, _%_}
+use lib.Dec.{eqb, ltb}
 use lib.ListN.{length}
 use Rattle.token_list.specs.Check as list
 use Rattle.reading.specs.Declaration.{Kind, struct, enum}
 use Rattle.reading.specs.Answer as answers
 use Rattle.describe.specs.Listing as listing
 use Rattle.describe.specs.Value as value
-use Rattle.describe.specs.Contract.{Placed}
+use Rattle.describe.specs.Contract.{placeOf}
 use Rattle.describe.specs.declared.value.ValuePlace.{ValuePlace}
 use Rattle.describe.specs.declared.value.ValuePlace.the-variants as places
 
-abbrev pub refusalCode : ℕ → ℕ → ℕ
-refusalCode n p = n * 4294967296 + min p 65535
+-- what a number stands for: an acceptance with a number of its own, or a refusal's number and place
+pub data Case : Type 0 where
+  accepted : ℕ → Case
+  refusal : ℕ → ℕ → Case
+
+-- 2^32
+abbrev pub REFUSED : ℕ
+REFUSED = 4294967296
+
+abbrev pub code : Case → ℕ
+code (accepted v) = v
+code (refusal n p) = n * REFUSED + p
+
+unfoldable pub decoded : ℕ → Case
+decoded c = cond (ltb c REFUSED) (accepted c) (refusal (c / REFUSED) (c % REFUSED))
+
+-- the number r stands for this case, and gives it back
+pub record Coded (c : Case) (r : ℕ) : Type 0 where
+  pub code : r ≡ code c
+  pub back : decoded r ≡ c
+
+-- ## Each function's answer
 
 -- the number of rows
-abbrev pub checkCode : list.Answer → ℕ
-checkCode (list.Answer.passed n) = min n 65535
-checkCode (list.Answer.refused n p) = refusalCode n p
+abbrev pub checkCase : list.Answer → Case
+checkCase (list.Answer.passed n) = accepted n
+checkCase (list.Answer.refused n p) = refusal n p
 
 -- 0 for a struct, 1 for an enum
 abbrev pub kindCode : Kind → ℕ
 kindCode struct = 0
 kindCode enum = 1
 
-abbrev pub readCode : answers.Answer → ℕ
-readCode (answers.declared d rs) = kindCode (d .kind)
-readCode (answers.refused n p) = refusalCode n p
+abbrev pub readCase : answers.Answer → Case
+readCase (answers.declared d rs) = accepted (kindCode (d .kind))
+readCase (answers.refused n p) = refusal n p
 
 -- the answer for a list s, and the whole role buffer
 pub record ReadInto (s before after : List ℕ) (r : ℕ) : Type 0 where
-  pub code : r ≡ readCode (answers.answer s (length before))
+  pub coded : Coded (readCase (answers.answer s (length before))) r
   pub buffer : after ≡ answers.buffer (length before) (answers.answer s (length before))
 
 -- the listing's length
-abbrev pub listingCode : listing.Answer → ℕ
-listingCode (listing.listed text) = min (length text) 4294967295
-listingCode (listing.refused n p) = refusalCode n p
+abbrev pub listingCase : listing.Answer → Case
+listingCase (listing.listed text) = accepted (length text)
+listingCase (listing.refused n p) = refusal n p
 
 -- the answer for a list s, and the whole output
 pub record ListedInto (s before after : List ℕ) (r : ℕ) : Type 0 where
-  pub code : r ≡ listingCode (listing.answer s (length before))
+  pub coded : Coded (listingCase (listing.answer s (length before))) r
   pub output : after ≡ listing.output before (listing.answer s (length before))
 
 -- 0 for no value, below 65,536 the length of a part of the scratch, else 65,536 times the start of a part of the list, plus its end
-abbrev pub placeCode : ValuePlace → ℕ
-placeCode places.None = 0
-placeCode (places.InScratch n) = min n 65535
-placeCode (places.InList a e) = min a 65535 * 65536 + min e 65535
-placeCode (places.Refused r) = refusalCode (r .number) (r .place)
+abbrev pub placeCase : ValuePlace → Case
+placeCase places.None = accepted 0
+placeCase (places.InScratch n) = accepted n
+placeCase (places.InList a e) = accepted (a * 65536 + e)
+placeCase (places.Refused r) = refusal (r .number) (r .place)
 
--- the answer for the variant of s at a position: the number of a place where the value's text stands, and the whole scratch
+unfoldable pub decodedPlace : Case → ValuePlace
+decodedPlace (accepted v) = cond (eqb v 0) places.None (cond (ltb v 65536) (places.InScratch v) (places.InList (v / 65536) (v % 65536)))
+decodedPlace (refusal n p) = places.Refused (record { number = n; place = p })
+
+-- the place of the value of the variant of s at a position, and the whole scratch
 pub record ValueInto (s : List ℕ) (position : ℕ) (before after : List ℕ) (r : ℕ) : Type 0 where
-  pub place : ValuePlace
-  pub code : r ≡ placeCode place
-  pub placed : Placed s before after (value.answer s position (length before)) place
+  pub coded : Coded (placeCase (placeOf s (value.answer s position (length before)))) r
+  pub back : decodedPlace (decoded r) ≡ placeOf s (value.answer s position (length before))
+  pub scratch : after ≡ value.scratch before (value.answer s position (length before))

@@ -9,29 +9,9 @@ use token_list::check;
 use token_list::check::Checked;
 use token_list::check::Refusal;
 ghost use mathlib.Core.Path.{_≡_};
-ghost use Prim.Native.Nat.{min};
+ghost use Prim.Native.Nat.{_≤_};
 ghost use Rattle.token_list.specs.Check.{check};
-ghost use Rattle.exports.specs.Code.{refusalCode, checkCode, ReadInto, ListedInto, ValueInto};
-
-// At most 65,535, which no row and no place passes.
-fn short(n: usize) -> u64
-    ensures { λ r. ⌜ r ≡ min n 65535 ⌝ }
-{
-    if n < 65535 {
-        return n as u64;
-    }
-    65535
-}
-
-// At most 4,294,967,295, which no listing's length passes.
-fn long(n: usize) -> u64
-    ensures { λ r. ⌜ r ≡ min n 4294967295 ⌝ }
-{
-    if n < 4294967295 {
-        return n as u64;
-    }
-    4294967295
-}
+ghost use Rattle.exports.specs.Code.{refusal, code, Coded, checkCase, ReadInto, ListedInto, ValueInto};
 
 fn wide(n: u8) -> u64
     ensures { λ r. ⌜ r ≡ n ⌝ }
@@ -40,20 +20,21 @@ fn wide(n: u8) -> u64
 }
 
 fn coded(r: Refusal) -> u64
-    ensures { λ c. ⌜ c ≡ refusalCode (r .number) (r .place) ⌝ }
+    requires { ⌜ r .place ≤ 65535 ⌝ }
+    ensures { λ c. ⌜ c ≡ code (refusal (r .number) (r .place)) ⌝ }
 {
     let number = wide(r.number);
-    let place = short(r.place);
+    let place = r.place as u64;
     number * 4294967296 + place
 }
 
 // Checks a list: the number of its rows, or a refusal.
 #[no_mangle]
 pub extern "C" fn kusthrila_check(list: &[u8]) -> u64
-    ensures { λ r. ⌜ r ≡ checkCode (check (now (list .entry))) ⌝ }
+    ensures { λ r. ⌜ Coded (checkCase (check (now (list .entry)))) r ⌝ }
 {
     match check::check(list) {
-        Checked::Passed(rows) => short(rows),
+        Checked::Passed(rows) => rows as u64,
         Checked::Refused(r) => coded(r),
     }
 }
@@ -76,7 +57,7 @@ pub extern "C" fn kusthrila_listing(list: &[u8], out: &mut [u8]) -> u64
     ensures { λ r. ⌜ ListedInto (now (list .entry)) (now (out .entry)) (now (out .exit)) r ⌝ }
 {
     match listing::write_listing(list, out) {
-        Listed::Written(n) => long(n),
+        Listed::Written(n) => n as u64,
         Listed::Refused(r) => coded(r),
     }
 }
@@ -88,10 +69,10 @@ pub extern "C" fn kusthrila_value(list: &[u8], position: usize, scratch: &mut [u
 {
     match value::value_of(list, position, scratch) {
         ValuePlace::None => 0,
-        ValuePlace::InScratch(n) => short(n),
+        ValuePlace::InScratch(n) => n as u64,
         ValuePlace::InList(start, end) => {
-            let from = short(start);
-            let to = short(end);
+            let from = start as u64;
+            let to = end as u64;
             from * 65536 + to
         }
         ValuePlace::Refused(r) => coded(r),

@@ -1,8 +1,9 @@
-use mathlib.Core.Path.{sym, ap, _∙_}
-use Prim.Native.Nat.{min}
+use mathlib.Core.Path.{sym, _∙_, ap}
+use lib.ListN.{length}
 use lib.Seq.{length-take-le}
 use Rattle.describe.specs.Contract.{listedAs}
-use Rattle.exports.specs.Code.{listingCode}
+use Rattle.exports.specs.Code.{code, listingCase}
+use Rattle.exports.proofs.Codes.{coded-as, listed-small, read-small}
 use borrow.Author.Needs.{needs}
 use Rattle.exports.proofs.kusthrila_listing.Statement.{statement}
 use Rattle.exports.proofs.kusthrila_listing.Tie as tie
@@ -13,37 +14,43 @@ write-listing-requires c κs = search needs
 enum-known-n : tie.Need-enum-known-n
 enum-known-n c = search needs
 
-long-requires : tie.Need-long-requires
-long-requires c κs = search needs
-
 enum-known-r : tie.Need-enum-known-r
 enum-known-r c = search needs
 
 coded-requires : tie.Need-coded-requires
-coded-requires c κs = search needs
+coded-requires c κs =
+    let listed = c .before .before .before .before .before .write-listing in
+    let answer = sym (ap (listedAs (listed .last .1 .0)) (c .before .r .given .1)) ∙ listed .ensures .0 .answer in
+    read-small (listed .ensures .1 _ _ (sym answer)) .1
 
 same-length : tie.Need-same-length
 same-length c = search needs
 
 returns : tie.Need-returns
 returns c =
-    let write-listing = c .before .before .before .before .before .before .write-listing in
-    let n-2 = c .before .before .n in
-    let d = write-listing in
-    let e = sym (ap (listedAs (d .last .1 .0)) (n-2 .given .1)) ∙ d .ensures .answer in
-    let room = d .ensures .room in
-    let n = sym (length-take-le (n-2 .given .0 .0) (d .last .1 .0) (rw (n-2 .given .1) at room)) in
-    record { code = c .long .ensures ∙ (ap (λ k. min k 4294967295) n ∙ ap listingCode e); output = d .ensures .output }
+    let args = c .before .before .before .before .before .before .before .before .before .args in
+    let listed = c .before .before .before .before .before .write-listing in
+    let n = c .before .n in
+    let answer = sym (ap (listedAs (listed .last .1 .0)) (n .given .1)) ∙ listed .ensures .0 .answer in
+    let room = rw (n .given .1) at (listed .ensures .0 .room) in
+    let long = sym (length-take-le (n .given .0 .0) (listed .last .1 .0) room) in
+    record {
+      coded = coded-as _ (listed-small (args .list .now) (length (args .out .now))) (long ∙ ap (λ a. code (listingCase a)) answer);
+      output = listed .ensures .0 .output;
+    }
 
 same-length-2 : tie.Need-same-length-2
 same-length-2 c = search needs
 
 returns-2 : tie.Need-returns-2
 returns-2 c =
-    let write-listing = c .before .before .before .before .before .before .write-listing in
-    let d = write-listing in
-    let e = sym (ap (listedAs (d .last .1 .0)) (c .before .before .r .given .1)) ∙ d .ensures .answer in
-    record { code = c .coded .ensures ∙ ap listingCode e; output = d .ensures .output }
+    let args = c .before .before .before .before .before .before .before .before .before .before .args in
+    let listed = c .before .before .before .before .before .before .write-listing in
+    let answer = sym (ap (listedAs (listed .last .1 .0)) (c .before .before .r .given .1)) ∙ listed .ensures .0 .answer in
+    record {
+      coded = coded-as _ (listed-small (args .list .now) (length (args .out .now))) (c .coded .ensures ∙ ap (λ a. code (listingCase a)) answer);
+      output = listed .ensures .0 .output;
+    }
 
 pub kusthrila-listing-spec : {M : Type 1} → statement M
 kusthrila-listing-spec =
@@ -51,7 +58,6 @@ kusthrila-listing-spec =
     (tie.spec
     write-listing-requires
     enum-known-n
-    long-requires
     enum-known-r
     coded-requires
     same-length

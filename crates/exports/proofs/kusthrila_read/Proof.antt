@@ -1,8 +1,9 @@
-use Rattle.exports.proofs.Codes.{struct-code, enum-code, refused-code}
-use Rattle.parse.specs.Contract.{ParsedAs}
-use Rattle.reading.specs.Answer.{answer}
+use mathlib.Core.Path.{sym, _∙_, ap, subst}
 use lib.ListN.{length}
-use mathlib.Core.Path.{_∙_, subst}
+use Rattle.reading.specs.Answer.{answer}
+use Rattle.parse.specs.Contract.{ParsedAs}
+use Rattle.exports.specs.Code.{code, readCase}
+use Rattle.exports.proofs.Codes.{coded-as, answered-small, read-small, struct-code, enum-code, refused-case}
 use borrow.Author.Needs.{needs}
 use Rattle.exports.proofs.kusthrila_read.Statement.{statement}
 use Rattle.exports.proofs.kusthrila_read.Tie as tie
@@ -20,7 +21,13 @@ enum-known-r : tie.Need-enum-known-r
 enum-known-r c = search needs
 
 coded-requires : tie.Need-coded-requires
-coded-requires c κs = search needs
+coded-requires c κs =
+    let args = c .before .before .before .before .before .before .before .before .before .args in
+    let new = c .before .before .before .before .before .new in
+    let s = args .list .now in
+    let a = answer s (length (args .roles .now)) in
+    let parsed = subst (λ r. ParsedAs s r a) (c .before .r .given .1) (new .ensures .0 .answer) in
+    read-small (new .ensures .0 .refusal _ _ (refused-case s _ a parsed)) .1
 
 same-length : tie.Need-same-length
 same-length c = search needs
@@ -29,8 +36,10 @@ returns : tie.Need-returns
 returns c =
     let args = c .before .before .before .before .before .before .before .before .args in
     let new = c .before .before .before .before .new in
-    let a = answer (args .list .now) (length (args .roles .now)) in
-    record { code = struct-code (args .list .now) _ a (subst (λ r. ParsedAs (args .list .now) r a) ((c .enum-told) .given .1) (new .ensures .0 .answer)); buffer = new .ensures .0 .buffer }
+    let s = args .list .now in
+    let a = answer s (length (args .roles .now)) in
+    let parsed = subst (λ r. ParsedAs s r a) (c .enum-told .given .1) (new .ensures .0 .answer) in
+    record { coded = coded-as _ (answered-small s _) (struct-code s _ a parsed); buffer = new .ensures .0 .buffer }
 
 same-length-2 : tie.Need-same-length-2
 same-length-2 c = search needs
@@ -39,8 +48,10 @@ returns-2 : tie.Need-returns-2
 returns-2 c =
     let args = c .before .before .before .before .before .before .before .before .args in
     let new = c .before .before .before .before .new in
-    let a = answer (args .list .now) (length (args .roles .now)) in
-    record { code = enum-code (args .list .now) _ a (subst (λ r. ParsedAs (args .list .now) r a) ((c .enum-told2) .given .1) (new .ensures .0 .answer)); buffer = new .ensures .0 .buffer }
+    let s = args .list .now in
+    let a = answer s (length (args .roles .now)) in
+    let parsed = subst (λ r. ParsedAs s r a) (c .enum-told2 .given .1) (new .ensures .0 .answer) in
+    record { coded = coded-as _ (answered-small s _) (enum-code s _ a parsed); buffer = new .ensures .0 .buffer }
 
 same-length-3 : tie.Need-same-length-3
 same-length-3 c = search needs
@@ -49,8 +60,11 @@ returns-3 : tie.Need-returns-3
 returns-3 c =
     let args = c .before .before .before .before .before .before .before .before .before .before .args in
     let new = c .before .before .before .before .before .before .new in
-    let a = answer (args .list .now) (length (args .roles .now)) in
-    record { code = (c .coded) .ensures ∙ refused-code (args .list .now) _ a (subst (λ r. ParsedAs (args .list .now) r a) ((c .before .before .r) .given .1) (new .ensures .0 .answer)); buffer = new .ensures .0 .buffer }
+    let s = args .list .now in
+    let a = answer s (length (args .roles .now)) in
+    let parsed = subst (λ r. ParsedAs s r a) (c .before .before .r .given .1) (new .ensures .0 .answer) in
+    let number = c .coded .ensures ∙ ap (λ x. code (readCase x)) (sym (refused-case s _ a parsed)) in
+    record { coded = coded-as _ (answered-small s _) number; buffer = new .ensures .0 .buffer }
 
 pub kusthrila-read-spec : {M : Type 1} → statement M
 kusthrila-read-spec =

@@ -1,6 +1,7 @@
-use mathlib.Core.Path.{sym, ap, _∙_}
-use Prim.Native.Nat.{_+_, _*_}
-use Rattle.exports.specs.Code.{placeCode}
+use mathlib.Core.Path.{refl, subst}
+use native.Mathlib.Omega.{arith}
+use Rattle.describe.specs.Contract.{InRange}
+use Rattle.exports.proofs.Codes.{value-low, value-into}
 use borrow.Author.Needs.{needs}
 use Rattle.exports.proofs.kusthrila_value.Statement.{statement}
 use Rattle.exports.proofs.kusthrila_value.Tie as tie
@@ -14,70 +15,65 @@ enum-told c = search needs
 enum-known-n : tie.Need-enum-known-n
 enum-known-n c = search needs
 
-short-requires : tie.Need-short-requires
-short-requires c κs = search needs
-
 enum-known-start : tie.Need-enum-known-start
 enum-known-start c = search needs
 
-short-requires-2 : tie.Need-short-requires-2
-short-requires-2 c κs = search needs
-
-short-requires-3 : tie.Need-short-requires-3
-short-requires-3 c κs = search needs
-
 mul-result : tie.Need-mul-result
-mul-result c = search needs
+mul-result c =
+    let place = c .before .before .before .before .before .value-of .ensures .0 in
+    let range = subst InRange (c .before .start .given .1) (place .range) in
+    omega (arith, range .1, range .2)
 
 add-result : tie.Need-add-result
-add-result c = search needs
+add-result c =
+    let place = c .before .before .before .before .before .value-of .ensures .0 in
+    let range = subst InRange (c .before .start .given .1) (place .range) in
+    omega (arith, range .1, range .2)
 
 enum-known-r : tie.Need-enum-known-r
 enum-known-r c = search needs
 
 coded-requires : tie.Need-coded-requires
-coded-requires c κs = search needs
+coded-requires c κs =
+    let args = c .before .before .before .before .before .before .before .before .before .args in
+    let placed = c .before .before .before .before .before .value-of .ensures in
+    value-low (args .list .now) (args .position) (args .scratch .now) _ (placed .0) (placed .1) _ (c .before .r .given .1)
 
 same-length : tie.Need-same-length
 same-length c = search needs
 
 returns : tie.Need-returns
 returns c =
-    let value-of = c .before .before .before .before .value-of in
-    let d = value-of in
-    record { place = d .result; code = sym (ap placeCode (c .enum-told .given .1)); placed = d .ensures }
+    let args = c .before .before .before .before .before .before .before .before .args in
+    let placed = c .before .before .before .before .value-of .ensures in
+    value-into (args .list .now) (args .position) (args .scratch .now) _ (placed .0) (placed .1) (c .enum-told .given .1) (refl)
 
 same-length-2 : tie.Need-same-length-2
 same-length-2 c = search needs
 
 returns-2 : tie.Need-returns-2
 returns-2 c =
-    let value-of = c .before .before .before .before .before .before .value-of in
-    let d = value-of in
-    record { place = d .result; code = c .short .ensures ∙ sym (ap placeCode (c .before .before .n .given .1)); placed = d .ensures }
+    let args = c .before .before .before .before .before .before .before .before .before .args in
+    let placed = c .before .before .before .before .before .value-of .ensures in
+    value-into (args .list .now) (args .position) (args .scratch .now) _ (placed .0) (placed .1) (c .before .n .given .1) (refl)
 
 same-length-3 : tie.Need-same-length-3
 same-length-3 c = search needs
 
 returns-3 : tie.Need-returns-3
 returns-3 c =
-    let value-of = c .before .before .before .before .before .before .before .value-of in
-    let d = value-of in
-    record {
-      place = d .result;
-      code = (λ i. c .before .short2 .ensures i * 65536 + c .short3 .ensures i) ∙ sym
-          (ap placeCode (c .before .before .before .start .given .1));
-      placed = d .ensures;
-    }
+    let args = c .before .before .before .before .before .before .before .before .before .args in
+    let placed = c .before .before .before .before .before .value-of .ensures in
+    value-into (args .list .now) (args .position) (args .scratch .now) _ (placed .0) (placed .1) (c .before .start .given .1) (refl)
 
 same-length-4 : tie.Need-same-length-4
 same-length-4 c = search needs
 
 returns-4 : tie.Need-returns-4
 returns-4 c =
-    let value-of = c .before .before .before .before .before .before .value-of in
-    let d = value-of in
-    record { place = d .result; code = c .coded .ensures ∙ sym (ap placeCode (c .before .before .r .given .1)); placed = d .ensures }
+    let args = c .before .before .before .before .before .before .before .before .before .before .args in
+    let placed = c .before .before .before .before .before .before .value-of .ensures in
+    value-into (args .list .now) (args .position) (args .scratch .now) _ (placed .0) (placed .1) (c .before .before .r .given .1) (c .coded .ensures)
 
 pub kusthrila-value-spec : {M : Type 1} → statement M
 kusthrila-value-spec =
@@ -86,10 +82,7 @@ kusthrila-value-spec =
     value-of-requires
     enum-told
     enum-known-n
-    short-requires
     enum-known-start
-    short-requires-2
-    short-requires-3
     mul-result
     add-result
     enum-known-r
