@@ -41,7 +41,7 @@ module _ (every : Bool) (s rs : List ℕ) (e : ℕ) (fits : e ≤ length s) wher
 
 -- ## Parts of a part
 
-take-part : (s : List ℕ) (k i e : ℕ) → i + k ≤ e → e ≤ length s → take k (slice i e s) ≡ slice i (i + k) s
+pub take-part : (s : List ℕ) (k i e : ℕ) → i + k ≤ e → e ≤ length s → take k (slice i e s) ≡ slice i (i + k) s
 take-part s zero i e h f = sym (slice-none s i (i + 0) (omega arith))
 take-part s (suc k) i e h f =
     let a : i + 1 + k ≡ i + suc k = omega arith in

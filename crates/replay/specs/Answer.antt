@@ -9,8 +9,8 @@ use Rattle.token_list.specs.Check.{check}
 use Rattle.report.specs.Text.{answerText, refusalText}
 use Rattle.reading.specs.Answer.{Answer, declared, refused, answer}
 use Rattle.describe.specs.Listing as listing
-use Rattle.replay.specs.declared.header.Section.{Section}
-use Rattle.replay.specs.declared.header.Section.the-variants.{List as Listed, Check, Roles, Every, Listing, Other}
+use Rattle.replay.specs.declared.header.Topic.{Topic}
+use Rattle.replay.specs.declared.header.Topic.the-variants.{Check, Roles, Every, Listing}
 
 -- the roles whose rows the Rust's answer always names
 abbrev pub NAMED : List ℕ
@@ -48,11 +48,9 @@ abbrev pub listingFits : List ℕ → listing.Answer → Bool
 listingFits bytes (listing.listed text) = same bytes text
 listingFits bytes (listing.refused n p) = same bytes (refusalText n p)
 
--- whether a section's bytes are the answer to a list; one that is passed over has none
-abbrev pub right : Section → List ℕ → List ℕ → Bool
-right Listed l bytes = false
+-- whether a section's bytes are the answer to a list
+abbrev pub right : Topic → List ℕ → List ℕ → Bool
 right Check l bytes = same bytes (answerText (check l))
 right Roles l bytes = rolesFit bytes (answer l 4096)
 right Every l bytes = everyFits bytes (answer l 4096)
 right Listing l bytes = listingFits bytes (listing.answer l 262144)
-right Other l bytes = true

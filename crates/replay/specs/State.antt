@@ -1,29 +1,54 @@
--- Where the replay stands in its buffers.
-use Prim.Native.Nat.{ℕ, _≤_}
-use Rattle.replay.specs.declared.state.State.{State}
+-- What the replay keeps from section to section.
+use mathlib.Core.Bool.{Bool, cond}
+use Prim.Native.Nat.{ℕ, _+_, _-_, _≤_}
+use lib.Dec.{leb, ltb}
+use Rattle.replay.specs.Window.{Within, size, advanced}
 use Rattle.replay.specs.declared.window.Window.{Window}
-use Rattle.replay.specs.declared.header.Header.{Header}
-use Rattle.replay.specs.declared.header.Header.the-variants.{Found, Malformed}
-use Rattle.replay.specs.declared.Turn.{Turn}
-use Rattle.replay.specs.declared.Turn.the-variants.{On, Done, Malformed as Stopped}
-
--- the unread bytes w stand in a buffer of n
-pub record Within (n : ℕ) (w : Window) : Type 0 where
-  pub order : w .from ≤ w .to
-  pub room : w .to ≤ n
+use Rattle.replay.specs.declared.state.State.{State}
+use Rattle.replay.specs.declared.state.Counts.{Counts}
+use Rattle.replay.specs.declared.header.Topic.{Topic}
+use Rattle.replay.specs.declared.header.Topic.the-variants.{Check, Roles, Every, Listing}
 
 -- the unread bytes stand in a buffer of n, the list in one of m
 pub record Placed (n m : ℕ) (s : State) : Type 0 where
-  pub order : s .from ≤ s .to
-  pub room : s .to ≤ n
+  pub unread : Within n (s .at)
   pub list : s .list ≤ m
 
--- a section starts within the unread bytes, which end at `to`
-abbrev pub headed : ℕ → Header → Type 0
-headed to (Found section size start) = start ≤ to
-headed to Malformed = Unit
+-- one more; the largest usize stays
+abbrev pub more : ℕ → ℕ
+more n = cond (ltb n 18446744073709551615) (n + 1) n
 
-abbrev pub onward : ℕ → ℕ → Turn → Type 0
-onward n m (On s) = Placed n m s
-onward n m (Done s) = Unit
-onward n m Stopped = Unit
+-- one more where the answer is not right
+abbrev pub differing : Bool → ℕ → ℕ
+differing ok n = cond ok n (more n)
+
+abbrev pub tally : ℕ → ℕ → ℕ → ℕ → ℕ → Counts
+tally checks roles everys listings differences =
+    record { checks = checks; roles = roles; everys = everys; listings = listings; differences = differences }
+
+-- an answer about a topic is one more of its own, and a difference exactly where it is not right
+abbrev pub counted : Counts → Topic → Bool → Counts
+counted n Check ok = tally (more (n .checks)) (n .roles) (n .everys) (n .listings) (differing ok (n .differences))
+counted n Roles ok = tally (n .checks) (more (n .roles)) (n .everys) (n .listings) (differing ok (n .differences))
+counted n Every ok = tally (n .checks) (n .roles) (more (n .everys)) (n .listings) (differing ok (n .differences))
+counted n Listing ok = tally (n .checks) (n .roles) (n .everys) (more (n .listings)) (differing ok (n .differences))
+
+-- nothing is read, and nothing counted
+abbrev pub START : State
+START = record { at = record { from = 0; to = 0 }; skip = 0; list = 0; cases = 0; counts = tally 0 0 0 0 0 }
+
+-- the same with other unread bytes
+abbrev pub moved : Window → State → State
+moved w s = record { at = w; skip = s .skip; list = s .list; cases = s .cases; counts = s .counts }
+
+-- the same with n bytes to pass over
+abbrev pub skipping : ℕ → State → State
+skipping n s = record { at = s .at; skip = n; list = s .list; cases = s .cases; counts = s .counts }
+
+-- n of them passed over
+abbrev pub skipped : ℕ → State → State
+skipped n s = skipping (s .skip - n) (moved (advanced n (s .at)) s)
+
+-- as many as there are
+abbrev pub passed : State → State
+passed s = skipped (cond (leb (s .skip) (size (s .at))) (s .skip) (size (s .at))) s

@@ -1,5 +1,5 @@
 // This repository's own answers, compared with recorded ones: one function for each section.
-use crate::header::Section;
+use crate::header::Topic;
 use describe::listing::Listed;
 use describe::listing::write_listing;
 use report::check::report_check;
@@ -140,17 +140,15 @@ fn is_listing(list: &[u8], s: &[u8], start: usize, end: usize) -> bool
     }
 }
 
-// Whether the bytes from start to end are the answer that the section asks for.
-pub fn is_right(section: Section, list: &[u8], s: &[u8], start: usize, end: usize) -> bool
+// Whether the bytes from start to end are the answer to the list about a topic.
+pub fn is_right(topic: Topic, list: &[u8], s: &[u8], start: usize, end: usize) -> bool
     requires { ⌜ (start ≤ end) × (end ≤ length (now s)) ⌝ }
-    ensures { λ r. ⌜ r ≡ right section (now (list .entry)) (slice start end (now (s .entry))) ⌝ }
+    ensures { λ r. ⌜ r ≡ right topic (now (list .entry)) (slice start end (now (s .entry))) ⌝ }
 {
-    match section {
-        Section::List => false,
-        Section::Check => is_check(list, s, start, end),
-        Section::Roles => is_roles(list, s, start, end),
-        Section::Every => is_every(list, s, start, end),
-        Section::Listing => is_listing(list, s, start, end),
-        Section::Other => true,
+    match topic {
+        Topic::Check => is_check(list, s, start, end),
+        Topic::Roles => is_roles(list, s, start, end),
+        Topic::Every => is_every(list, s, start, end),
+        Topic::Listing => is_listing(list, s, start, end),
     }
 }

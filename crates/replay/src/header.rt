@@ -1,17 +1,27 @@
 // The line in front of a section: its name, one space, its length.
+use describe::value::worth;
 use report::put::put_bytes;
 use token_list::text::text_is;
+ghost use mathlib.Core.Path.{_≡_};
 ghost use Prim.Native.Nat.{_+_, _^_, _≤_, _<_};
 ghost use lib.ListN.{length};
-ghost use Rattle.replay.specs.State.{headed};
+ghost use lib.Seq.{slice};
+ghost use Rattle.token_list.specs.Text.{between};
+ghost use Rattle.report.specs.Contract.{Put};
+ghost use Rattle.replay.specs.Header.{run, topicName, sectionNamed, sized, header};
 
-// What a section holds: a list, an answer that is compared, or what is passed over.
-pub enum Section {
-    List,
+// What an answer is about.
+pub enum Topic {
     Check,
     Roles,
     Every,
     Listing,
+}
+
+// What a section holds: a list, an answer that is compared, or what is passed over.
+pub enum Section {
+    List,
+    Answer(Topic),
     Other,
 }
 
@@ -21,24 +31,18 @@ pub enum Header {
     Malformed,
 }
 
-// A number and where it ends.
-pub struct Number {
-    pub value: usize,
-    pub end: usize,
-}
-
-// Where the lower-case letters from `from` on end.
-fn letters(s: &[u8], from: usize, to: usize) -> usize
+// Where the bytes from lo to hi that stand from `from` on end.
+fn run_end(s: &[u8], from: usize, to: usize, lo: u8, hi: u8) -> usize
     requires { ⌜ (from ≤ to) × (to ≤ length (now s)) ⌝ }
-    ensures { λ r. ⌜ (from ≤ r) × (r ≤ to) ⌝ }
+    ensures { λ r. ⌜ r ≡ from + run (between lo hi) (slice from to (now (s .entry))) ⌝ }
 {
     let mut i = from;
     while i < to {
         let b = s[i];
-        if b < b'a' {
+        if b < lo {
             return i;
         }
-        if b'z' < b {
+        if hi < b {
             return i;
         }
         i += 1;
@@ -46,95 +50,79 @@ fn letters(s: &[u8], from: usize, to: usize) -> usize
     i
 }
 
-// The number that the digits from `from` on write; it stops before it would pass 1,000,000,000.
-fn read_number(s: &[u8], from: usize, to: usize) -> Number
-    requires { ⌜ (from ≤ to) × (to ≤ length (now s)) ⌝ }
-    ensures { λ r. ⌜ (from ≤ r .end) × (r .end ≤ to) ⌝ }
-{
-    let mut i = from;
-    let mut value = 0;
-    while i < to {
-        let b = s[i];
-        if b < b'0' {
-            return Number { value, end: i };
-        }
-        if b'9' < b {
-            return Number { value, end: i };
-        }
-        if 100000000 <= value {
-            return Number { value, end: i };
-        }
-        let digit = b - b'0';
-        value = value * 10 + digit as usize;
-        i += 1;
-    }
-    Number { value, end: i }
-}
-
 // What the name from start to end stands for.
 fn section_named(s: &[u8], start: usize, end: usize) -> Section
-    requires { ⌜ end ≤ length (now s) ⌝ }
+    ensures { λ r. ⌜ r ≡ sectionNamed (slice start end (now (s .entry))) ⌝ }
 {
     if text_is(s, start, end, b"list") {
         return Section::List;
     }
     if text_is(s, start, end, b"check") {
-        return Section::Check;
+        return Section::Answer(Topic::Check);
     }
     if text_is(s, start, end, b"roles") {
-        return Section::Roles;
+        return Section::Answer(Topic::Roles);
     }
     if text_is(s, start, end, b"every") {
-        return Section::Every;
+        return Section::Answer(Topic::Every);
     }
     if text_is(s, start, end, b"listing") {
-        return Section::Listing;
+        return Section::Answer(Topic::Listing);
     }
     Section::Other
 }
 
-// The name of a section that is compared.
-pub fn put_name(out: &mut [u8], at: usize, section: Section) -> usize
+// The name of the section with the answers about a topic.
+pub fn put_topic(out: &mut [u8], at: usize, topic: Topic) -> usize
     requires { ⌜ at + 7 < 2 ^ 64 ⌝ }
+    ensures { λ r. ⌜ Put (now (out .entry)) (now (out .exit)) at r (topicName topic) ⌝ }
     ensures { λ r. ⌜ r ≤ at + 7 ⌝ }
 {
-    match section {
-        Section::Check => put_bytes(out, at, b"check"),
-        Section::Roles => put_bytes(out, at, b"roles"),
-        Section::Every => put_bytes(out, at, b"every"),
-        Section::Listing => put_bytes(out, at, b"listing"),
-        Section::List => at,
-        Section::Other => at,
+    match topic {
+        Topic::Check => put_bytes(out, at, b"check"),
+        Topic::Roles => put_bytes(out, at, b"roles"),
+        Topic::Every => put_bytes(out, at, b"every"),
+        Topic::Listing => put_bytes(out, at, b"listing"),
     }
 }
 
-// The header from `from` on, within the bytes before `to`.
-pub fn read_header(s: &[u8], from: usize, to: usize) -> Header
+// The header of this section whose digits are looked for from `from` on.
+fn read_size(s: &[u8], from: usize, to: usize, section: Section) -> Header
     requires { ⌜ (from ≤ to) × (to ≤ length (now s)) ⌝ }
-    ensures { λ r. ⌜ headed to r ⌝ }
+    ensures { λ r. ⌜ r ≡ sized section from (slice from to (now (s .entry))) ⌝ }
 {
-    let space = letters(s, from, to);
-    if space == from {
-        return Header::Malformed;
-    }
-    if to <= space {
-        return Header::Malformed;
-    }
-    if s[space] != b' ' {
-        return Header::Malformed;
-    }
-    let digits = space + 1;
-    let size = read_number(s, digits, to);
-    let end = size.end;
-    if end == digits {
-        return Header::Malformed;
-    }
+    let end = run_end(s, from, to, b'0', b'9');
     if to <= end {
         return Header::Malformed;
     }
     if s[end] != b'\n' {
         return Header::Malformed;
     }
-    let start = end + 1;
-    Header::Found(section_named(s, from, space), size.value, start)
+    if end == from {
+        return Header::Malformed;
+    }
+    if 9 < end - from {
+        return Header::Malformed;
+    }
+    let size = worth(s, from, end);
+    Header::Found(section, size, end + 1)
+}
+
+// The header from `from` on, within the bytes before `to`.
+pub fn read_header(s: &[u8], from: usize, to: usize) -> Header
+    requires { ⌜ (from ≤ to) × (to ≤ length (now s)) ⌝ }
+    ensures { λ r. ⌜ r ≡ header from (slice from to (now (s .entry))) ⌝ }
+{
+    let space = run_end(s, from, to, b'a', b'z');
+    if to <= space {
+        return Header::Malformed;
+    }
+    if s[space] != b' ' {
+        return Header::Malformed;
+    }
+    if space == from {
+        return Header::Malformed;
+    }
+    let section = section_named(s, from, space);
+    read_size(s, space + 1, to, section)
 }

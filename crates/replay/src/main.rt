@@ -8,12 +8,18 @@ mod window;
 use crate::answers::is_right;
 use crate::header::Header;
 use crate::header::Section;
-use crate::header::put_name;
+use crate::header::Topic;
+use crate::header::put_topic;
 use crate::header::read_header;
+use crate::state::Counts;
 use crate::state::State;
 use crate::state::count;
 use crate::state::counted;
+use crate::state::moved;
+use crate::state::passed;
 use crate::state::start;
+use crate::window::Window;
+use crate::window::advanced;
 use crate::window::ready;
 use libc::STDOUT_FILENO;
 use report::put::put_byte;
@@ -22,7 +28,9 @@ use report::put::put_number;
 ghost use mathlib.Core.Path.{_≡_};
 ghost use Prim.Native.Nat.{_≤_};
 ghost use lib.ListN.{length};
-ghost use Rattle.replay.specs.State.{Placed, onward};
+ghost use Rattle.replay.specs.State.{Placed};
+ghost use Rattle.replay.specs.Window.{Within};
+ghost use Rattle.replay.specs.Turn.{taken, listAfter, compared, begun, sought, Stepped};
 
 // What follows a turn: the next one, the end of the input, or a stop at what is no section.
 pub enum Turn {
@@ -31,121 +39,150 @@ pub enum Turn {
     Malformed,
 }
 
+// What a header asks for: nothing more, a list, or an answer, of so many bytes.
+pub enum Next {
+    Over(Turn),
+    Take(State, usize),
+    Compare(State, Topic, usize),
+}
+
 // The most unread bytes that a header is looked for in.
 const HEADER: usize = 64;
 
 // Takes the list of a new case.
-fn take_list(buf: &mut [u8], list: &mut [u8], s: State, size: usize) -> Turn
+fn take_list(buf: &[u8], list: &mut [u8], s: State, size: usize) -> Turn
     requires { ⌜ Placed (length (now buf)) (length (now list)) s ⌝ }
-    ensures { λ r. ⌜ onward (length (now (buf .entry))) (length (now (list .entry))) r ⌝ }
+    ensures { λ r. ⌜ r ≡ taken (length (now (list .entry))) s size ⌝ }
+    ensures { λ _. ⌜ now (list .exit) ≡ listAfter (now (buf .entry)) (now (list .entry)) s size ⌝ }
 {
+    let at = s.at;
+    let from = at.from;
     if list.len() < size {
         return Turn::Malformed;
     }
-    let w = ready(buf, s.from, s.to, size);
-    let from = w.from;
-    let to = w.to;
-    if to - from < size {
+    if at.to - from < size {
         return Turn::Malformed;
     }
     let end = from + size;
     put_bytes(list, 0, &buf[from..end]);
-    let mut next = s;
-    next.from = end;
-    next.to = to;
+    let rest = advanced(at, size);
+    let mut next = moved(s, rest);
     next.list = size;
     next.cases = count(s.cases);
     Turn::On(next)
 }
 
-fn name_difference(case: usize, section: Section) {
+fn name_difference(case: usize, topic: Topic) {
     let mut out = [0u8; 64];
     let word = put_bytes(&mut out, 0, b"differs case ");
     let number = put_number(&mut out, word, case);
     let middle = put_bytes(&mut out, number, b" section ");
-    let name = put_name(&mut out, middle, section);
+    let name = put_topic(&mut out, middle, topic);
     let end = put_byte(&mut out, name, b'\n');
     io::write_all(STDOUT_FILENO, &out[..end]);
 }
 
+// Names a case whose answer is not right, for the first ten differences.
+fn tell(right: bool, differences: usize, case: usize, topic: Topic) {
+    if right {
+        return;
+    }
+    if differences < 10 {
+        name_difference(case, topic);
+    }
+}
+
 // Compares an answer of the case at hand.
-fn compare(buf: &mut [u8], list: &[u8], s: State, section: Section, size: usize) -> Turn
+fn compare(buf: &[u8], list: &[u8], s: State, topic: Topic, size: usize) -> Turn
     requires { ⌜ Placed (length (now buf)) (length (now list)) s ⌝ }
-    ensures { λ r. ⌜ onward (length (now (buf .entry))) (length (now (list .entry))) r ⌝ }
+    ensures { λ r. ⌜ r ≡ compared (now (buf .entry)) (now (list .entry)) s topic size ⌝ }
 {
+    let at = s.at;
+    let from = at.from;
     if s.cases == 0 {
         return Turn::Malformed;
     }
-    let w = ready(buf, s.from, s.to, size);
-    let from = w.from;
-    let to = w.to;
-    if to - from < size {
+    if at.to - from < size {
         return Turn::Malformed;
     }
     let end = from + size;
     let length = s.list;
-    let mut next = counted(s, section);
-    next.from = end;
-    next.to = to;
-    if is_right(section, &list[..length], buf, from, end) {
-        return Turn::On(next);
-    }
-    if s.differences < 10 {
-        name_difference(s.cases, section);
-    }
-    next.differences = count(s.differences);
+    let right = is_right(topic, &list[..length], buf, from, end);
+    let counts = s.counts;
+    tell(right, counts.differences, s.cases, topic);
+    let rest = advanced(at, size);
+    let mut next = moved(s, rest);
+    next.counts = counted(counts, topic, right);
     Turn::On(next)
 }
 
-// Passes over what is left of a section.
-fn pass(s: State) -> State
-    requires { ⌜ s .from ≤ s .to ⌝ }
-    ensures { λ r. ⌜ (r .from ≤ r .to) × (r .to ≡ s .to) × (r .list ≡ s .list) ⌝ }
+// What a header asks for; its section starts where the header ends.
+fn begin(s: State, header: Header) -> Next
+    ensures { λ r. ⌜ r ≡ begun s header ⌝ }
 {
-    let unread = s.to - s.from;
-    let mut next = s;
-    if s.skip <= unread {
-        next.from = s.from + s.skip;
-        next.skip = 0;
-        return next;
+    match header {
+        Header::Malformed => Next::Over(Turn::Malformed),
+        Header::Found(section, size, start) => {
+            let at = s.at;
+            let next = moved(
+                s,
+                Window {
+                    from: start,
+                    to: at.to,
+                },
+            );
+            match section {
+                Section::List => Next::Take(next, size),
+                Section::Answer(topic) => Next::Compare(next, topic, size),
+                Section::Other => {
+                    let mut rest = next;
+                    rest.skip = size;
+                    Next::Over(Turn::On(rest))
+                }
+            }
+        }
     }
-    next.from = s.to;
-    next.skip = s.skip - unread;
-    next
+}
+
+// Goes on with what is passed over, or reads a header.
+fn seek(buf: &[u8], s: State) -> Next
+    requires { ⌜ Within (length (now buf)) (s .at) ⌝ }
+    ensures { λ r. ⌜ r ≡ sought (now (buf .entry)) s ⌝ }
+{
+    let at = s.at;
+    let from = at.from;
+    let to = at.to;
+    if from == to {
+        if 0 < s.skip {
+            return Next::Over(Turn::Malformed);
+        }
+        return Next::Over(Turn::Done(s));
+    }
+    if 0 < s.skip {
+        return Next::Over(Turn::On(passed(s)));
+    }
+    let header = read_header(buf, from, to);
+    begin(s, header)
 }
 
 // One section, or a part of one that is passed over.
 fn step(buf: &mut [u8], list: &mut [u8], s: State) -> Turn
     requires { ⌜ Placed (length (now buf)) (length (now list)) s ⌝ }
-    ensures { λ r. ⌜ onward (length (now (buf .entry))) (length (now (list .entry))) r ⌝ }
+    ensures { λ r. ⌜ Stepped (now (buf .entry)) (now (buf .exit)) (now (list .entry)) (now (list .exit)) s r ⌝ }
 {
-    let w = ready(buf, s.from, s.to, HEADER);
-    let from = w.from;
-    let to = w.to;
-    let mut next = s;
-    next.from = from;
-    next.to = to;
-    if from == to {
-        if 0 < s.skip {
-            return Turn::Malformed;
+    let at = s.at;
+    let found = moved(s, ready(buf, at, HEADER));
+    match seek(buf, found) {
+        Next::Over(turn) => turn,
+        Next::Take(next, size) => {
+            let start = next.at;
+            let whole = moved(next, ready(buf, start, size));
+            take_list(buf, list, whole, size)
         }
-        return Turn::Done(next);
-    }
-    if 0 < s.skip {
-        return Turn::On(pass(next));
-    }
-    match read_header(buf, from, to) {
-        Header::Malformed => Turn::Malformed,
-        Header::Found(section, size, start) => {
-            next.from = start;
-            match section {
-                Section::List => take_list(buf, list, next, size),
-                Section::Other => {
-                    next.skip = size;
-                    Turn::On(next)
-                }
-                _ => compare(buf, list, next, section, size),
-            }
+        Next::Compare(next, topic, size) => {
+            let start = next.at;
+            let whole = moved(next, ready(buf, start, size));
+            compare(buf, list, whole, topic, size)
         }
     }
 }
@@ -161,12 +198,12 @@ fn print_count(name: &[u8], count: usize)
     io::write_all(STDOUT_FILENO, &out[..end]);
 }
 
-fn print_counts(s: State) {
-    print_count(b"check ", s.checks);
-    print_count(b"roles ", s.roles);
-    print_count(b"every ", s.everys);
-    print_count(b"listing ", s.listings);
-    print_count(b"differences ", s.differences);
+fn print_counts(counts: Counts) {
+    print_count(b"check ", counts.checks);
+    print_count(b"roles ", counts.roles);
+    print_count(b"every ", counts.everys);
+    print_count(b"listing ", counts.listings);
+    print_count(b"differences ", counts.differences);
 }
 
 // Turns to the end of the input, counted down since nothing says that it ends.
@@ -179,7 +216,7 @@ fn replay(buf: &mut [u8], list: &mut [u8]) {
                 s = next;
             }
             Turn::Done(last) => {
-                print_counts(last);
+                print_counts(last.counts);
                 return;
             }
             Turn::Malformed => {

@@ -29,11 +29,11 @@ slice-aggregate-put-bytes-4 c = search needs
 put-bytes-requires-2 : tie.Need-put-bytes-requires-2
 put-bytes-requires-2 c κs = search needs
 
-slice-aggregate-put-name : tie.Need-slice-aggregate-put-name
-slice-aggregate-put-name c = search needs
+slice-aggregate-put-topic : tie.Need-slice-aggregate-put-topic
+slice-aggregate-put-topic c = search needs
 
-put-name-requires : tie.Need-put-name-requires
-put-name-requires c κs = search needs
+put-topic-requires : tie.Need-put-topic-requires
+put-topic-requires c κs = search needs
 
 slice-aggregate-put-byte : tie.Need-slice-aggregate-put-byte
 slice-aggregate-put-byte c = search needs
@@ -46,12 +46,18 @@ array-share-prefix-out c = search needs
 
 slice-aggregate-write-all : tie.Need-slice-aggregate-write-all
 slice-aggregate-write-all c =
+    let put-bytes = c .before .before .before .before .before .before .before .before .before .before .before .before .before .before .before .put-bytes in
+    let put-number = c .before .before .before .before .before .before .before .before .before .before .before .before .put-number in
+    let put-bytes2 = c .before .before .before .before .before .before .before .before .put-bytes2 in
+    let put-topic = c .before .before .before .before .before .put-topic in
     let e = c .before .before .put-byte in
-    let m = c .before .before .before .before .before .put-name in
-    let v = c .before .before .before .before .before .before .before .before .put-bytes2 in
-    let n = c .before .before .before .before .before .before .before .before .before .before .before .before .put-number in
-    let w = c .before .before .before .before .before .before .before .before .before .before .before .before .before .before .before .put-bytes in
-    sym (length-take-le (e .result) (e .last .0) (omega (arith, e .ensures .next, m .ensures, v .ensures .next, n .ensures .1, w .ensures .next, e .kept .0, m .kept .0, v .kept .0, n .kept .0, w .kept .0)))
+    let m = put-topic in
+    let v = put-bytes2 in
+    let n = put-number in
+    let w = put-bytes in
+    sym
+    (length-take-le (e .result) (e .last .0)
+    (omega (arith, e .ensures .next, m .ensures .1, v .ensures .next, n .ensures .1, w .ensures .next, e .kept .0, m .kept .0, v .kept .0, n .kept .0, w .kept .0)))
 
 write-all-requires : tie.Need-write-all-requires
 write-all-requires c κs = search needs
@@ -71,8 +77,8 @@ name-difference-spec =
     slice-aggregate-put-bytes-3
     slice-aggregate-put-bytes-4
     put-bytes-requires-2
-    slice-aggregate-put-name
-    put-name-requires
+    slice-aggregate-put-topic
+    put-topic-requires
     slice-aggregate-put-byte
     put-byte-requires
     array-share-prefix-out

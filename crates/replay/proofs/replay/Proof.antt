@@ -1,13 +1,15 @@
 use native.Mathlib.Omega.{arith}
-use mathlib.Core.Path.{_≡_, subst}
+use mathlib.Core.Path.{_≡_, refl, subst}
 use lib.ListN.{length}
-use Rattle.replay.specs.State.{Placed, onward}
+use Rattle.replay.specs.State.{Placed}
+use Rattle.replay.proofs.Turns.{onward, stepped-onward}
 use borrow.Author.Needs.{needs}
 use Rattle.replay.proofs.replay.Statement.{statement}
 use Rattle.replay.proofs.replay.Tie as tie
 
 abbrev Inv-loop : tie.InvT-loop
-Inv-loop buf₀ list₀ s₀ turns₀ t7 buf list s turns = Placed (length buf) (length list) s × (length buf ≡ length buf₀) × (length list ≡ length list₀)
+Inv-loop buf₀ list₀ s₀ turns₀ t7 buf list s turns =
+    Placed (length buf) (length list) s × (length buf ≡ length buf₀) × (length list ≡ length list₀)
 
 abbrev μ-loop : tie.MeasureT-loop
 μ-loop buf₀ list₀ s₀ turns₀ t7 buf list s turns = turns
@@ -16,7 +18,11 @@ start-requires : tie.Need-start-requires Inv-loop μ-loop
 start-requires c κs = search needs
 
 loop-holds : tie.Need-loop-holds Inv-loop μ-loop
-loop-holds c = search needs
+loop-holds c = (
+  rw (c .start .ensures) (record { unread = record { order = omega arith; room = omega arith }; list = omega arith }),
+  refl,
+  refl,
+)
 
 step-requires : tie.Need-step-requires Inv-loop μ-loop
 step-requires c κs = search needs
@@ -65,12 +71,15 @@ loop-less c = search needs
 
 loop-again : tie.Need-loop-again Inv-loop μ-loop
 loop-again c =
-    let d = c .before .before .before .before .before .before .before .step in
-    let l = c .before .before .before .before .before .before .before .before .before .before .before .loop in
-    let p = subst (onward (length (l .buf)) (length (l .list))) (c .before .next .given .1) (d .ensures) in (
-      record { order = p .order; room = omega (arith, p .room, d .kept .0); list = omega (arith, p .list, d .kept .1 .0) },
-      omega (arith, d .kept .0),
-      omega (arith, d .kept .1 .0),
+    let turn = c .before .before .before .before .before .before .before .step in
+    let old = c .before .before .before .before .before .before .before .before .before .before .before .loop in
+    let buf = turn .last .0 in
+    let list = old .list in
+    let stepped = stepped-onward (old .buf) buf list (turn .last .1 .0) (old .s) (turn .result) (old .inv .0) in
+    let placed = subst (onward (length buf) (length list)) (c .before .next .given .1) (stepped (turn .ensures)) in (
+      record { unread = placed .unread; list = omega (arith, placed .list, turn .kept .1 .0) },
+      omega (arith, turn .kept .0),
+      omega (arith, turn .kept .1 .0),
     )
 
 same-length-5 : tie.Need-same-length-5 Inv-loop μ-loop

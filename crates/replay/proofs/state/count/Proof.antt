@@ -1,0 +1,18 @@
+use borrow.Author.Tests.{lt-ltb, le-ltb}
+use borrow.Author.Needs.{needs}
+use Rattle.replay.proofs.state.count.Statement.{statement}
+use Rattle.replay.proofs.state.count.Tie as tie
+use Rattle.replay.proofs.state.count.Reads as reads
+use Rattle.replay.proofs.state.count.Lts as lts
+
+add-result : tie.Need-add-result
+add-result c = search needs
+
+returns : tie.Need-returns
+returns c = rw (lt-ltb (c .before .args .n) 18446744073709551615 (c .if1 .taken))
+
+returns-2 : tie.Need-returns-2
+returns-2 c = rw (le-ltb (c .before .args .n) 18446744073709551615 (c .if1 .left))
+
+pub count-spec : {M : Type 1} → statement M
+count-spec = tie.close (tie.spec add-result returns returns-2)

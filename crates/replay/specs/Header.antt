@@ -1,0 +1,59 @@
+-- The line in front of a section (recorded/README.md): a name of lower-case letters, one space, one to nine digits, LF.
+use mathlib.Core.Bool.{Bool, cond, _&&_}
+use mathlib.Core.List.{List, [], _∷_}
+use Prim.Native.Nat.{ℕ, suc, _+_}
+use lib.Dec.{eqb, ltb}
+use lib.ListN.{length, take, drop}
+use Rattle.token_list.specs.Text.{same, between, digit}
+use Rattle.reading.specs.Token.{worth}
+use Rattle.replay.specs.declared.header.Topic.{Topic}
+use Rattle.replay.specs.declared.header.Topic.the-variants.{Check, Roles, Every, Listing}
+use Rattle.replay.specs.declared.header.Section.{Section}
+use Rattle.replay.specs.declared.header.Section.the-variants.{List as Listed, Answer, Other}
+use Rattle.replay.specs.declared.header.Header.{Header}
+use Rattle.replay.specs.declared.header.Header.the-variants.{Found, Malformed}
+
+-- `list`
+abbrev pub LIST : List ℕ
+LIST = 108 ∷ 105 ∷ 115 ∷ 116 ∷ []
+
+-- `check`, `roles`, `every`, `listing`
+abbrev pub topicName : Topic → List ℕ
+topicName Check = 99 ∷ 104 ∷ 101 ∷ 99 ∷ 107 ∷ []
+topicName Roles = 114 ∷ 111 ∷ 108 ∷ 101 ∷ 115 ∷ []
+topicName Every = 101 ∷ 118 ∷ 101 ∷ 114 ∷ 121 ∷ []
+topicName Listing = 108 ∷ 105 ∷ 115 ∷ 116 ∷ 105 ∷ 110 ∷ 103 ∷ []
+
+abbrev pub sectionNamed : List ℕ → Section
+sectionNamed t =
+    cond (same t LIST) Listed
+    (cond (same t (topicName Check)) (Answer Check)
+    (cond (same t (topicName Roles)) (Answer Roles)
+    (cond (same t (topicName Every)) (Answer Every)
+    (cond (same t (topicName Listing)) (Answer Listing) Other))))
+
+-- how many bytes at the start pass the test
+abbrev pub run : (ℕ → Bool) → List ℕ → ℕ
+run p [] = 0
+run p (b ∷ bs) = cond (p b) (suc (run p bs)) 0
+
+-- the digits t, and what follows them; the section would start at `start`
+abbrev pub ended : Section → ℕ → List ℕ → List ℕ → Header
+ended k start t [] = Malformed
+ended k start t (b ∷ bs) = cond (eqb b 10 && between 1 9 (length t)) (Found k (worth t) start) Malformed
+
+-- the bytes u from the place `at` on, after the space
+abbrev pub sized : Section → ℕ → List ℕ → Header
+sized k at u = ended k (at + run digit u + 1) (take (run digit u) u) (drop (run digit u) u)
+
+-- the name t, and what follows it from the place `at` on
+abbrev pub named : ℕ → List ℕ → List ℕ → Header
+named at t [] = Malformed
+named at t (b ∷ bs) = cond (eqb b 32 && ltb 0 (length t)) (sized (sectionNamed t) (at + 1) bs) Malformed
+
+abbrev pub lower : ℕ → Bool
+lower b = between 97 122 b
+
+-- the bytes u from the place `at` on
+abbrev pub header : ℕ → List ℕ → Header
+header at u = named (at + run lower u) (take (run lower u) u) (drop (run lower u) u)
