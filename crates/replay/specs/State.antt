@@ -22,6 +22,7 @@ more n = cond (ltb n 18446744073709551615) (n + 1) n
 abbrev pub differing : Bool → ℕ → ℕ
 differing ok n = cond ok n (more n)
 
+-- the five counts
 abbrev pub tally : ℕ → ℕ → ℕ → ℕ → ℕ → Counts
 tally checks roles everys listings differences =
     record { checks = checks; roles = roles; everys = everys; listings = listings; differences = differences }
@@ -49,6 +50,6 @@ skipping n s = record { at = s .at; skip = n; list = s .list; cases = s .cases; 
 abbrev pub skipped : ℕ → State → State
 skipped n s = skipping (s .skip - n) (moved (advanced n (s .at)) s)
 
--- as many as there are
+-- as many of them as are unread
 abbrev pub passed : State → State
 passed s = skipped (cond (leb (s .skip) (size (s .at))) (s .skip) (size (s .at))) s

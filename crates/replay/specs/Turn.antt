@@ -74,7 +74,7 @@ sought b s =
 
 -- ## A whole turn
 
--- the bytes that a header is looked for in
+-- so many bytes are asked for before a header is read
 abbrev pub HEADER : ℕ
 HEADER = 64
 

@@ -46,7 +46,7 @@ pub enum Next {
     Compare(State, Topic, usize),
 }
 
-// The most unread bytes that a header is looked for in.
+// So many bytes are asked for before a header is read.
 const HEADER: usize = 64;
 
 // Takes the list of a new case.
@@ -124,20 +124,18 @@ fn begin(s: State, header: Header) -> Next
         Header::Malformed => Next::Over(Turn::Malformed),
         Header::Found(section, size, start) => {
             let at = s.at;
-            let next = moved(
-                s,
-                Window {
-                    from: start,
-                    to: at.to,
-                },
-            );
+            let rest = Window {
+                from: start,
+                to: at.to,
+            };
+            let next = moved(s, rest);
             match section {
                 Section::List => Next::Take(next, size),
                 Section::Answer(topic) => Next::Compare(next, topic, size),
                 Section::Other => {
-                    let mut rest = next;
-                    rest.skip = size;
-                    Next::Over(Turn::On(rest))
+                    let mut skipping = next;
+                    skipping.skip = size;
+                    Next::Over(Turn::On(skipping))
                 }
             }
         }

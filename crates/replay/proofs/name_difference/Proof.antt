@@ -1,5 +1,7 @@
+use Prim.Native.Nat.{_≤_}
+use lib.ListN.{length}
 use native.Mathlib.Omega.{arith}
-use mathlib.Core.Path.{sym}
+use mathlib.Core.Path.{_≡_, sym}
 use lib.Seq.{length-take-le}
 use borrow.Author.Needs.{needs}
 use Rattle.replay.proofs.name_difference.Statement.{statement}
@@ -46,18 +48,16 @@ array-share-prefix-out c = search needs
 
 slice-aggregate-write-all : tie.Need-slice-aggregate-write-all
 slice-aggregate-write-all c =
-    let put-bytes = c .before .before .before .before .before .before .before .before .before .before .before .before .before .before .before .put-bytes in
-    let put-number = c .before .before .before .before .before .before .before .before .before .before .before .before .put-number in
-    let put-bytes2 = c .before .before .before .before .before .before .before .before .put-bytes2 in
-    let put-topic = c .before .before .before .before .before .put-topic in
     let e = c .before .before .put-byte in
-    let m = put-topic in
-    let v = put-bytes2 in
-    let n = put-number in
-    let w = put-bytes in
-    sym
-    (length-take-le (e .result) (e .last .0)
-    (omega (arith, e .ensures .next, m .ensures .1, v .ensures .next, n .ensures .1, w .ensures .next, e .kept .0, m .kept .0, v .kept .0, n .kept .0, w .kept .0)))
+    let m = c .before .before .before .before .before .put-topic in
+    let middle = c .before .before .before .before .before .before .before .before in
+    let v = middle .put-bytes2 in
+    let n = middle .before .before .before .before .put-number in
+    let w = middle .before .before .before .before .before .before .before .put-bytes in
+    let room : length (e .last .0) ≡ 64 = omega (arith, e .kept .0, m .kept .0, v .kept .0, n .kept .0, w .kept .0) in
+    let text : e .result ≤ length (e .last .0) =
+    omega (arith, room, e .ensures .next, m .ensures .1, v .ensures .next, n .ensures .1, w .ensures .next) in
+    sym (length-take-le (e .result) (e .last .0) text)
 
 write-all-requires : tie.Need-write-all-requires
 write-all-requires c κs = search needs

@@ -65,7 +65,9 @@ enum-known-next : tie.Need-enum-known-next
 enum-known-next c = search needs
 
 ready-requires-2 : tie.Need-ready-requires-2
-ready-requires-2 c κs = placed (c .before .before .before .before .before) (c .before .before .before .next .given .1) .unread
+ready-requires-2 c κs =
+    let told = c .before .before .before in
+    placed (told .before .before) (told .next .given .1) .unread
 
 moved-requires-2 : tie.Need-moved-requires-2
 moved-requires-2 c κs = search needs
@@ -84,7 +86,9 @@ enum-known-next-2 : tie.Need-enum-known-next-2
 enum-known-next-2 c = search needs
 
 ready-requires-3 : tie.Need-ready-requires-3
-ready-requires-3 c κs = placed (c .before .before .before .before .before) (c .before .before .before .next2 .given .1) .unread
+ready-requires-3 c κs =
+    let told = c .before .before .before in
+    placed (told .before .before) (told .next2 .given .1) .unread
 
 moved-requires-3 : tie.Need-moved-requires-3
 moved-requires-3 c κs = search needs
@@ -108,7 +112,8 @@ returns c = stepped (c .before .before .before) _ (c .before .turn .given .1) (r
 same-length-2 : tie.Need-same-length-2
 same-length-2 c =
     let read = c .before .before .before .before .before .before .before .before in
-    read .ready2 .kept .0 ∙ read .before .before .before .before .before .before .before .before .before .before .before .ready .kept .0
+    let first = read .before .before .before .before .before .before .before .before .before .before .before .ready in
+    read .ready2 .kept .0 ∙ first .kept .0
 
 same-length-3 : tie.Need-same-length-3
 same-length-3 c = search needs
@@ -129,7 +134,8 @@ returns-2 c =
 same-length-4 : tie.Need-same-length-4
 same-length-4 c =
     let read = c .before .before .before .before .before .before in
-    read .ready3 .kept .0 ∙ read .before .before .before .before .before .before .before .before .before .before .before .ready .kept .0
+    let first = read .before .before .before .before .before .before .before .before .before .before .before .ready in
+    read .ready3 .kept .0 ∙ first .kept .0
 
 same-length-5 : tie.Need-same-length-5
 same-length-5 c = search needs
@@ -143,8 +149,9 @@ returns-3 c =
     let read = c .before .before .before .before .before .before .ready3 in
     let topic = next .0 .1 .0 in
     let size = next .0 .1 .1 .0 in
-    let same = ap (λ (t : State). compared (read .last .0) list t topic size) (c .before .before .before .moved3 .ensures) in
-    stepped d _ (next .1) (read .result, read .ensures, c .compare .ensures ∙ same, refl)
+    let same = c .before .before .before .moved3 .ensures in
+    let turn = c .compare .ensures ∙ ap (λ (t : State). compared (read .last .0) list t topic size) same in
+    stepped d _ (next .1) (read .result, read .ensures, turn, refl)
 
 pub step-spec : {M : Type 1} → statement M
 step-spec =

@@ -31,7 +31,8 @@ count d = length-slice (start d .args .from) (end d) (bytes d) (omega (arith, st
 
 line : (d : tie.Else1)
     → sized (start d .args .section) (start d .args .from) (slice (start d .args .from) (start d .args .to) (bytes d))
-    ≡ ended (start d .args .section) (end d + 1) (digits d) (getD (bytes d) (end d) 0 ∷ slice (end d + 1) (start d .args .to) (bytes d))
+    ≡ ended (start d .args .section) (end d + 1) (digits d)
+    (getD (bytes d) (end d) 0 ∷ slice (end d + 1) (start d .args .to) (bytes d))
 line d =
     let a = start d .args in
     let run = d .before .run-end .ensures in
