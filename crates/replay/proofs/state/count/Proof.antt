@@ -2,8 +2,6 @@ use borrow.Author.Tests.{lt-ltb, le-ltb}
 use borrow.Author.Needs.{needs}
 use Rattle.replay.proofs.state.count.Statement.{statement}
 use Rattle.replay.proofs.state.count.Tie as tie
-use Rattle.replay.proofs.state.count.Reads as reads
-use Rattle.replay.proofs.state.count.Lts as lts
 
 add-result : tie.Need-add-result
 add-result c = search needs

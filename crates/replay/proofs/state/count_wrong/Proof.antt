@@ -1,9 +1,6 @@
 use borrow.Author.Needs.{needs}
 use Rattle.replay.proofs.state.count_wrong.Statement.{statement}
 use Rattle.replay.proofs.state.count_wrong.Tie as tie
-use Rattle.replay.proofs.state.count_wrong.Reads as reads
-use Rattle.replay.proofs.state.count_wrong.Lts as lts
-use Rattle.replay.proofs.state.count.Reads as count-reads
 
 count-requires : tie.Need-count-requires
 count-requires c κs = search needs
