@@ -232,15 +232,15 @@ fn variant_lines(s: &[u8], from: Cursor, roles: &mut [u8], out: &mut [u8], start
 {
     let mut c = from;
     let mut at = start;
-    let mut count = 0;
+    let mut number = 0;
     loop {
         match variant(s, c, roles) {
             VariantStep::One(v) => {
-                let line = put_variant(s, v, count, out, at);
+                let line = put_variant(s, v, number, out, at);
                 let fields = v.fields;
                 at = field_lines(s, fields, roles, out, line);
                 c = v.next;
-                count += 1;
+                number += 1;
             }
             VariantStep::Done(_) => {
                 return at;

@@ -32,7 +32,7 @@ array-share-prefix-out c = search needs
 slice-aggregate-write-all : tie.Need-slice-aggregate-write-all
 slice-aggregate-write-all c =
     let d = c .before .before .report-check in
-    sym (length-take-le (d .result) (d .last .1 .0) (omega (arith, d .ensures .1, d .kept .1 .0)))
+    sym (length-take-le (d .result) (d .last .1 .0) (omega (arith, d .ensures .1 .0, d .kept .1 .0)))
 
 write-all-requires : tie.Need-write-all-requires
 write-all-requires c κs = search needs

@@ -16,12 +16,12 @@ use Rattle.describe.proofs.listing.variant_lines.Statement.{statement}
 use Rattle.describe.proofs.listing.variant_lines.Tie as tie
 
 abbrev Inv-loop : tie.InvT-loop
-Inv-loop s roles₀ out₀ start c₀ at₀ count₀ roles out c at count =
+Inv-loop s roles₀ out₀ start c₀ at₀ number₀ roles out c at number =
     Lined variantLines reading.variant s c₀ c out₀ out start at
-    count × (at ≤ start + 4300200000 * count) × (length roles ≡ length roles₀) × (length out ≡ length out₀)
+    number × (at ≤ start + 4300200000 * number) × (length roles ≡ length roles₀) × (length out ≡ length out₀)
 
 abbrev μ-loop : tie.MeasureT-loop
-μ-loop s roles₀ out₀ start c₀ at₀ count₀ roles out c at count = length s - c .at
+μ-loop s roles₀ out₀ start c₀ at₀ number₀ roles out c at number = length s - c .at
 
 loop-holds : tie.Need-loop-holds Inv-loop μ-loop
 loop-holds c = (
@@ -72,8 +72,8 @@ field-lines-requires c κs =
       ),
     )
 
-add-count : tie.Need-add-count Inv-loop μ-loop
-add-count c =
+add-number : tie.Need-add-number Inv-loop μ-loop
+add-number c =
     let pre = c .before .before .before .before .before .before .before .before .before .before .before .before .before .before .before .before .before .before .before .before .before .before .before .pre in
     let loop = c .before .before .before .before .before .before .before .before .before .before .before .before .before .before .before .before .before .before .before .loop in
     omega (arith, loop .inv .0 .few, loop .inv .0 .inList .within, pre .1 .0)
@@ -170,7 +170,7 @@ variant-lines-spec =
     enum-known-v
     put-variant-requires
     field-lines-requires
-    add-count
+    add-number
     loop-less
     loop-again
     enum-told

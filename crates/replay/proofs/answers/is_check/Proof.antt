@@ -28,7 +28,7 @@ returns : tie.Need-returns
 returns c =
     let d = c .before .before .before .report-check in
     let a = c .before .before .before .before .before .before .before .args in
-    c .text-is .ensures ∙ ap (same (slice (a .start) (a .end) (a .s .now))) (shown (d .ensures .0) (d .ensures .1))
+    c .text-is .ensures ∙ ap (same (slice (a .start) (a .end) (a .s .now))) (shown (d .ensures .0) (d .ensures .1 .0))
 
 pub is-check-spec : {M : Type 1} → statement M
 is-check-spec =
