@@ -20,9 +20,9 @@ use Rattle.token_list.specs.declared.check.Cursor.{Cursor}
 use Rattle.token_list.specs.declared.check.Refusal.{Refusal}
 use Rattle.token_list.specs.declared.stream.Token.{Token}
 use Rattle.token_list.proofs.Texts.{chosen, passed-over}
-use Rattle.report.specs.Text.{refusalText}
-use Rattle.report.specs.Contract.{Put}
-use Rattle.report.proofs.Texts.{kept, shown, joined}
+use Rattle.output.specs.Text.{refusalText}
+use Rattle.output.specs.Contract.{Put}
+use Rattle.output.proofs.Texts.{kept, shown, joined}
 use Rattle.reading.specs.Declaration as declaration
 use Rattle.reading.specs.Token.{worth}
 use Rattle.reading.specs.Took.{Took, took, refuse, Point}

@@ -15,9 +15,9 @@ use Rattle.token_list.specs.Stream.{at}
 use Rattle.token_list.proofs.Texts.{passed-over, and-parts}
 use Rattle.token_list.proofs.Passed.{passed-list}
 use Rattle.token_list.proofs.Bounds as bounds
-use Rattle.report.specs.Text.{decimal}
-use Rattle.report.specs.Contract.{Put}
-use Rattle.report.proofs.Texts.{decimal-within}
+use Rattle.output.specs.Text.{decimal}
+use Rattle.output.specs.Contract.{Put}
+use Rattle.output.proofs.Texts.{decimal-within}
 use Rattle.reading.specs.Declaration.{Kind, struct, enum, Fields, unit, named, tuple, Value, absent, literal, negative, Body, fields, variants, Declaration, parametersOf, bodyCount}
 use Rattle.reading.specs.Took.{Took, took, refuse}
 use Rattle.reading.specs.Reading.{item}

@@ -7,8 +7,8 @@ use native.Mathlib.Omega.{arith}
 use lib.ListN.{length, length-append}
 use Rattle.token_list.specs.Contract.{InList}
 use Rattle.token_list.specs.declared.check.Cursor.{Cursor}
-use Rattle.report.specs.Contract.{Put}
-use Rattle.report.proofs.Texts.{nothing, joined}
+use Rattle.output.specs.Contract.{Put}
+use Rattle.output.proofs.Texts.{nothing, joined}
 use Rattle.reading.specs.Took.{Reader}
 use Rattle.reading.specs.Reading.{Maybe, done, one, every}
 use Rattle.parse.specs.Contract.{on, no, Meets, stream, InsideAt}

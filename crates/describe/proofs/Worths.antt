@@ -10,9 +10,9 @@ use lib.Seq.{slice}
 use borrow.Author.Tests.{leb-true, le-leb, lt-leb, eq-eqb, ne-eqb}
 use Rattle.token_list.specs.Text.{all, digit}
 use Rattle.token_list.proofs.Texts.{and-parts, chosen, passed-over, slice-next, slice-none}
-use Rattle.report.specs.Text.{decimal}
-use Rattle.report.specs.Contract.{Put}
-use Rattle.report.proofs.Texts.{decimal-within}
+use Rattle.output.specs.Text.{decimal}
+use Rattle.output.specs.Contract.{Put}
+use Rattle.output.proofs.Texts.{decimal-within}
 use Rattle.reading.specs.Declaration as declaration
 use Rattle.reading.specs.Took.{Point, beyond}
 use Rattle.reading.specs.Reading.{variant}

@@ -10,7 +10,7 @@ use Rattle.token_list.specs.Stream.{Trees, rowStart}
 use Rattle.token_list.specs.declared.check.Cursor.{Cursor}
 use Rattle.reading.specs.Declaration as declaration
 use Rattle.reading.specs.Reading as reading
-use Rattle.report.specs.Contract.{Put}
+use Rattle.output.specs.Contract.{Put}
 use Rattle.token_list.specs.Place.{OneRefusal}
 use Rattle.reading.specs.Answer.{readNumber}
 use Rattle.reading.specs.Took.{Point}

@@ -8,7 +8,7 @@ use lib.ListN.{length}
 use lib.Seq.{sets}
 use Rattle.token_list.specs.Check as list
 use Rattle.token_list.specs.Stream.{Trees, at}
-use Rattle.report.specs.Text.{decimal, refusalText}
+use Rattle.output.specs.Text.{decimal, refusalText}
 use Rattle.reading.specs.Declaration.{Kind, struct, enum, Parameter, lifetime, constant, type, parametersOf, Field, Fields, unit, named, tuple, Value, absent, literal, negative, Variant, Body, fields, variants, Declaration, bodyCount}
 use Rattle.reading.specs.Took.{Took, took, refuse}
 use Rattle.reading.specs.Reading.{item}

@@ -6,7 +6,7 @@ use lib.Dec.{ltb, eqb}
 use lib.Seq.{sets}
 use Rattle.token_list.specs.Check as list
 use Rattle.token_list.specs.Stream.{at}
-use Rattle.report.specs.Text.{decimal}
+use Rattle.output.specs.Text.{decimal}
 use Rattle.reading.specs.Declaration.{Value, absent, literal, negative, Variant, Body, fields, variants, Declaration}
 use Rattle.reading.specs.Took.{Took, took, refuse, Point}
 use Rattle.reading.specs.Reading.{item}

@@ -1,4 +1,6 @@
 // A variant's value: where its text stands, and that text.
+use output::put::put_byte;
+use output::put::put_number;
 use parse::body::ValueAt;
 use parse::body::VariantStep;
 use parse::body::variant;
@@ -7,8 +9,6 @@ use parse::item::ItemAt;
 use parse::item::ItemStep;
 use parse::item::item;
 use parse::utils::past;
-use report::put::put_byte;
-use report::put::put_number;
 use token_list::check::Checked;
 use token_list::check::Cursor;
 use token_list::check::END;
@@ -25,7 +25,7 @@ ghost use lib.Seq.{slice};
 ghost use Rattle.token_list.specs.Stream.{at};
 ghost use Rattle.token_list.specs.Place.{OneRefusal};
 ghost use Rattle.token_list.specs.Contract.{InList};
-ghost use Rattle.report.specs.Contract.{Put};
+ghost use Rattle.output.specs.Contract.{Put};
 ghost use Rattle.reading.specs.Token.{negatable, worth};
 ghost use Rattle.reading.specs.Declaration.{Value, Variant, Body};
 ghost use Rattle.reading.specs.Took.{Point};

@@ -6,7 +6,8 @@ use lib.Dec.{eqb, ltb}
 use lib.ListN.{length, take, drop}
 use Rattle.token_list.specs.Text.{same, member}
 use Rattle.token_list.specs.Check.{check}
-use Rattle.report.specs.Text.{answerText, refusalText}
+use Rattle.output.specs.Text.{refusalText}
+use Rattle.report.specs.Text.{answerText}
 use Rattle.reading.specs.Answer.{Answer, declared, refused, answer}
 use Rattle.describe.specs.Listing as listing
 use Rattle.replay.specs.declared.header.Topic.{Topic}

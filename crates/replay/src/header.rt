@@ -1,13 +1,13 @@
 // The line in front of a section: its name, one space, its length.
 use describe::value::worth;
-use report::put::put_bytes;
+use output::put::put_bytes;
 use token_list::text::text_is;
 ghost use mathlib.Core.Path.{_≡_};
 ghost use Prim.Native.Nat.{_+_, _^_, _≤_, _<_};
 ghost use lib.ListN.{length};
 ghost use lib.Seq.{slice};
 ghost use Rattle.token_list.specs.Text.{between};
-ghost use Rattle.report.specs.Contract.{Put};
+ghost use Rattle.output.specs.Contract.{Put};
 ghost use Rattle.replay.specs.Header.{run, topicName, sectionNamed, sized, header};
 
 // What an answer is about.

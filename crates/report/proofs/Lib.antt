@@ -1,3 +1,2 @@
--- Laws on the texts and on the roles, which the proofs of the functions cite.
-pub mod Texts
+-- Laws on the report of the roles, which the proofs of the functions cite.
 pub mod Lines

@@ -1,5 +1,3 @@
--- What the report crate's contracts say. Text has the texts of answers, from document 01, Roles the report of the roles; Contract says
--- what writing a text means.
+-- What the report crate's contracts say: Text has the report of the list check, Roles that of the roles.
 pub mod Text
 pub mod Roles
-pub mod Contract

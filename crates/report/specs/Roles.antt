@@ -6,7 +6,7 @@ use Prim.Native.Nat.{ℕ, zero, suc, _≤_}
 use lib.Dec.{eqb}
 use lib.ListN.{length, take}
 use Rattle.reading.specs.Answer.{Answer, declared, refused}
-use Rattle.report.specs.Text.{decimal, refusalText}
+use Rattle.output.specs.Text.{decimal, refusalText}
 use Rattle.report.specs.declared.roles.Roles.{Roles}
 use Rattle.report.specs.declared.roles.Roles.the-variants.{Rows, Refused}
 

@@ -1,8 +1,8 @@
 // The report of the list check: `rows N`, or the refusal.
-use crate::put::put_byte;
-use crate::put::put_bytes;
-use crate::put::put_number;
-use crate::put::put_refusal;
+use output::put::put_byte;
+use output::put::put_bytes;
+use output::put::put_number;
+use output::put::put_refusal;
 use token_list::check::Checked;
 use token_list::check::check;
 ghost use mathlib.Core.Path.{_≡_};
@@ -11,7 +11,7 @@ ghost use Rattle.token_list.specs.Check.{check, refused};
 ghost use Rattle.token_list.specs.Place.{OneRefusal, checkNumber};
 ghost use Rattle.token_list.specs.Contract.{checked};
 ghost use Rattle.report.specs.Text.{answerText};
-ghost use Rattle.report.specs.Contract.{Put};
+ghost use Rattle.output.specs.Contract.{Put};
 
 fn put_answer(out: &mut [u8], answer: Checked) -> usize
     ensures { λ r. ⌜ Put (now (out .entry)) (now (out .exit)) 0 r (answerText (checked answer)) ⌝ }

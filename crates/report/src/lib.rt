@@ -1,4 +1,3 @@
 // What the programs print, written into a lent output.
 pub mod check;
-pub mod put;
 pub mod roles;

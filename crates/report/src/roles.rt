@@ -1,8 +1,8 @@
 // The roles of a list: a line for each row, or the refusal.
-use crate::put::put_byte;
-use crate::put::put_bytes;
-use crate::put::put_number;
-use crate::put::put_refusal;
+use output::put::put_byte;
+use output::put::put_bytes;
+use output::put::put_number;
+use output::put::put_refusal;
 use parse::item::Parse;
 use parse::item::new;
 use token_list::check::Refusal;
@@ -11,7 +11,7 @@ ghost use Prim.Native.Nat.{ℕ, _+_, _*_, _^_, _≤_, _<_};
 ghost use lib.ListN.{length};
 ghost use Rattle.token_list.specs.Place.{OneRefusal};
 ghost use Rattle.reading.specs.Answer.{refused, answer, buffer, readNumber};
-ghost use Rattle.report.specs.Contract.{Put};
+ghost use Rattle.output.specs.Contract.{Put};
 ghost use Rattle.report.specs.Roles.{assigned, roleLine, roleLines, rolesText, readAs};
 
 // How many rows have a role, or the refusal.

@@ -9,3 +9,4 @@ pub mod Rows
 pub mod Streams
 pub mod Passed
 pub mod Bounds
+pub mod Stores

@@ -3,7 +3,7 @@ use mathlib.Core.Path.{ap, subst}
 use Rattle.parse.proofs.Meeting as meeting
 use Rattle.parse.specs.Contract as contract
 use Rattle.reading.specs.Reading as reading
-use Rattle.report.proofs.Texts.{nothing}
+use Rattle.output.proofs.Texts.{nothing}
 use Rattle.describe.proofs.Worths.{put-as}
 use Rattle.describe.specs.Listing.{bodyLines}
 use Rattle.describe.proofs.Parts.{struct-group, enum-group, body-leaf, body-end}

@@ -1,7 +1,7 @@
 use native.Mathlib.Omega.{arith}
 use mathlib.Core.Path.{ap, subst}
 use Rattle.parse.specs.Contract as contract
-use Rattle.report.proofs.Texts.{nothing}
+use Rattle.output.proofs.Texts.{nothing}
 use Rattle.describe.proofs.Worths.{put-as}
 use Rattle.describe.specs.Listing.{fieldLines}
 use borrow.Author.Needs.{needs}

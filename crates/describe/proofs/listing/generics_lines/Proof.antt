@@ -2,7 +2,7 @@ use Rattle.reading.specs.Declaration.{Generics, parametersOf}
 use native.Mathlib.Omega.{arith}
 use mathlib.Core.Path.{sym, _∙_, ap}
 use Rattle.parse.proofs.Meeting as meeting
-use Rattle.report.proofs.Texts.{nothing}
+use Rattle.output.proofs.Texts.{nothing}
 use Rattle.describe.proofs.Worths.{put-as}
 use Rattle.describe.specs.Listing.{numbered, parameterLine}
 use borrow.Author.Tests.{not-true, not-false}

@@ -7,7 +7,7 @@ use Rattle.parse.proofs.Meeting as meeting
 use Rattle.reading.proofs.Conserved as conserved
 use Rattle.parse.specs.Contract as contract
 use Rattle.reading.specs.Reading as reading
-use Rattle.report.specs.Text.{decimal}
+use Rattle.output.specs.Text.{decimal}
 use Rattle.describe.proofs.Answers.{meets-tells}
 use Rattle.describe.proofs.Inside.{forward}
 use Rattle.describe.proofs.Lined.{Lined, lined-start, lined-more, lined-done, lined-refused}

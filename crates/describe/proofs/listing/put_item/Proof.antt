@@ -2,8 +2,8 @@ use native.Mathlib.Omega.{arith}
 use lib.Seq.{slice}
 use mathlib.Core.Path.{sym}
 use Rattle.parse.specs.Contract as contract
-use Rattle.report.proofs.Texts.{joined}
-use Rattle.report.specs.Text.{decimal}
+use Rattle.output.proofs.Texts.{joined}
+use Rattle.output.specs.Text.{decimal}
 use Rattle.describe.proofs.Lined.{put-line}
 use Rattle.describe.proofs.Worths.{put-as}
 use Rattle.describe.specs.Listing.{line, kindText}

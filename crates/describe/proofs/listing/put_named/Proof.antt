@@ -1,6 +1,6 @@
 use native.Mathlib.Omega.{arith}
 use lib.Seq.{slice}
-use Rattle.report.specs.Text.{decimal}
+use Rattle.output.specs.Text.{decimal}
 use Rattle.describe.proofs.Lined.{put-line}
 use Rattle.describe.specs.Listing.{FIELD}
 use borrow.Author.Needs.{needs}

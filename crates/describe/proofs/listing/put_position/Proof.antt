@@ -1,5 +1,5 @@
 use native.Mathlib.Omega.{arith}
-use Rattle.report.proofs.Texts.{joined}
+use Rattle.output.proofs.Texts.{joined}
 use borrow.Author.Needs.{needs}
 use Rattle.describe.proofs.listing.put_position.Statement.{statement}
 use Rattle.describe.proofs.listing.put_position.Tie as tie

@@ -1,7 +1,7 @@
 use native.Mathlib.Omega.{arith}
 use lib.Seq.{length-slice}
 use Rattle.token_list.proofs.Texts.{slice-none}
-use Rattle.report.proofs.Texts.{nothing}
+use Rattle.output.proofs.Texts.{nothing}
 use Rattle.describe.proofs.Worths.{put-as, drop-of-take}
 use borrow.Author.Needs.{needs}
 use Rattle.describe.proofs.listing.put_token.Statement.{statement}

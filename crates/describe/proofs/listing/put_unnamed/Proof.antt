@@ -1,5 +1,5 @@
 use native.Mathlib.Omega.{arith}
-use Rattle.report.specs.Text.{decimal}
+use Rattle.output.specs.Text.{decimal}
 use Rattle.describe.proofs.Lined.{put-line}
 use Rattle.describe.specs.Listing.{FIELD, DASH}
 use borrow.Author.Needs.{needs}

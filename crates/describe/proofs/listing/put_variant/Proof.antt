@@ -1,7 +1,7 @@
 use native.Mathlib.Omega.{arith}
 use lib.Seq.{slice}
 use mathlib.Core.Path.{ap}
-use Rattle.report.proofs.Texts.{joined}
+use Rattle.output.proofs.Texts.{joined}
 use Rattle.describe.proofs.Lined.{put-line}
 use Rattle.describe.proofs.Worths.{put-as}
 use Rattle.describe.specs.Listing.{VARIANT, line, number}

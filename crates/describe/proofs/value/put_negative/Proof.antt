@@ -1,5 +1,5 @@
 use native.Mathlib.Omega.{arith}
-use Rattle.report.proofs.Texts.{joined}
+use Rattle.output.proofs.Texts.{joined}
 use Rattle.describe.proofs.Worths.{negative-none, negative-some, decimal-i64, put-as}
 use borrow.Author.Needs.{needs}
 use Rattle.describe.proofs.value.put_negative.Statement.{statement}

@@ -2,7 +2,7 @@ use native.Mathlib.Omega.{arith}
 use mathlib.Core.Path.{sym, ap, _∙_}
 use lib.Seq.{slice, length-take-le}
 use Rattle.token_list.specs.Text.{same}
-use Rattle.report.proofs.Texts.{shown}
+use Rattle.output.proofs.Texts.{shown}
 use borrow.Author.Needs.{needs}
 use Rattle.replay.proofs.answers.is_check.Statement.{statement}
 use Rattle.replay.proofs.answers.is_check.Tie as tie

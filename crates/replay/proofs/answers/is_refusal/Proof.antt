@@ -1,4 +1,4 @@
-use Rattle.report.proofs.Texts.{shown}
+use Rattle.output.proofs.Texts.{shown}
 use Rattle.token_list.specs.Text.{same}
 use lib.Seq.{slice, length-take-le}
 use mathlib.Core.Path.{sym, ap, _∙_}

@@ -1,4 +1,4 @@
-use Rattle.report.proofs.Texts.{joined}
+use Rattle.output.proofs.Texts.{joined}
 use native.Mathlib.Omega.{arith}
 use borrow.Author.Needs.{needs}
 use Rattle.report.proofs.check.put_answer.Statement.{statement}

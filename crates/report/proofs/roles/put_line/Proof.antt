@@ -1,6 +1,6 @@
 use native.Mathlib.Omega.{arith}
 use Rattle.report.specs.Roles.{roleLine}
-use Rattle.report.proofs.Texts.{joined, decimal-within}
+use Rattle.output.proofs.Texts.{joined, decimal-within}
 use borrow.Author.Needs.{needs}
 use Rattle.report.proofs.roles.put_line.Statement.{statement}
 use Rattle.report.proofs.roles.put_line.Tie as tie

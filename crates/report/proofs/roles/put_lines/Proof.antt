@@ -6,9 +6,9 @@ use lib.Seq.{take-suc, take-all, length-take-le}
 use mathlib.Core.List.{_++_}
 use mathlib.Core.Path.{_≡_, ap, _∙_}
 use Rattle.report.specs.Roles.{roleLine, roleLines}
-use Rattle.report.specs.Contract.{Put}
+use Rattle.output.specs.Contract.{Put}
 use Rattle.report.proofs.Lines.{lines-more}
-use Rattle.report.proofs.Texts.{nothing, joined, kept}
+use Rattle.output.proofs.Texts.{nothing, joined, kept}
 use Rattle.report.proofs.roles.put_lines.Statement.{statement}
 use Rattle.report.proofs.roles.put_lines.Tie as tie
 

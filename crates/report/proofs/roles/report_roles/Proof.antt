@@ -4,7 +4,7 @@ use lib.ListN.{length}
 use lib.Seq.{length-take-le}
 use Rattle.reading.specs.Answer.{answer}
 use Rattle.report.proofs.Lines.{found, not-found, few-roles}
-use Rattle.report.proofs.Texts.{joined}
+use Rattle.output.proofs.Texts.{joined}
 use borrow.Author.Needs.{needs}
 use Rattle.report.proofs.roles.report_roles.Statement.{statement}
 use Rattle.report.proofs.roles.report_roles.Tie as tie

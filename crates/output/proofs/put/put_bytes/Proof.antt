@@ -1,12 +1,12 @@
-use Rattle.report.proofs.Texts.{nothing, joined, kept}
-use Rattle.report.specs.Contract.{Put}
+use Rattle.output.proofs.Texts.{nothing, joined, kept}
+use Rattle.output.specs.Contract.{Put}
 use lib.Seq.{take-suc, take-all, length-take-le}
 use lib.ListN.{length, take}
 use Prim.Native.Nat.{_-_, _≤_, _<_}
 use native.Mathlib.Omega.{arith}
 use native.Mathlib.Numerals.{add-one}
-use Rattle.report.proofs.put.put_bytes.Statement.{statement}
-use Rattle.report.proofs.put.put_bytes.Tie as tie
+use Rattle.output.proofs.put.put_bytes.Statement.{statement}
+use Rattle.output.proofs.put.put_bytes.Tie as tie
 
 abbrev Inv-loop : tie.InvT-loop
 Inv-loop out₀ at text i₀ end₀ out i end = (i ≤ length text) × Put out₀ out at end (take i text)

@@ -9,9 +9,9 @@ use lib.ListN.{length, take, length-append}
 use lib.Seq.{sets, length-sets, sets-eq, take-at}
 use lib.Dec.{ltb}
 use borrow.Author.Tests.{lt-ltb, le-ltb}
-use Rattle.parse.proofs.Buffer.{sets-append}
-use Rattle.report.specs.Text.{digits, decimal}
-use Rattle.report.specs.Contract.{Put}
+use Rattle.token_list.proofs.Stores.{sets-append}
+use Rattle.output.specs.Text.{digits, decimal}
+use Rattle.output.specs.Contract.{Put}
 
 -- ## Texts one after the other
 

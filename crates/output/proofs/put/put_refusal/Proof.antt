@@ -1,9 +1,9 @@
-use Rattle.report.proofs.Texts.{joined}
-use Rattle.report.specs.Text.{refusalText}
+use Rattle.output.proofs.Texts.{joined}
+use Rattle.output.specs.Text.{refusalText}
 use native.Mathlib.Omega.{arith}
 use borrow.Author.Needs.{needs}
-use Rattle.report.proofs.put.put_refusal.Statement.{statement}
-use Rattle.report.proofs.put.put_refusal.Tie as tie
+use Rattle.output.proofs.put.put_refusal.Statement.{statement}
+use Rattle.output.proofs.put.put_refusal.Tie as tie
 
 slice-aggregate-put-bytes : tie.Need-slice-aggregate-put-bytes
 slice-aggregate-put-bytes c = search needs

@@ -1,8 +1,8 @@
 use mathlib.Core.Path.{refl, sym}
 use lib.Seq.{set-out}
 use borrow.Author.Needs.{needs}
-use Rattle.report.proofs.put.put_byte.Statement.{statement}
-use Rattle.report.proofs.put.put_byte.Tie as tie
+use Rattle.output.proofs.put.put_byte.Statement.{statement}
+use Rattle.output.proofs.put.put_byte.Tie as tie
 
 slice-write-out : tie.Need-slice-write-out
 slice-write-out c = search needs

@@ -1,5 +1,5 @@
-use Rattle.report.proofs.Texts.{joined, kept, decimal-one, decimal-more, decimal-few}
-use Rattle.report.specs.Text.{decimal}
+use Rattle.output.proofs.Texts.{joined, kept, decimal-one, decimal-more, decimal-few}
+use Rattle.output.specs.Text.{decimal}
 use lib.ListN.{length, length-append}
 use mathlib.Core.List.{[], _∷_}
 use native.Mathlib.Omega.{arith}
@@ -7,12 +7,12 @@ use mathlib.Core.Path.{ap}
 use Prim.Native.Nat.{ℕ, _+_, _/_, _%_, _<_}
 use borrow.Fn.Kinds.{In}
 use borrow.Fn.PlainCycle.{Measures, is, falls, and}
-use Rattle.report.proofs.put.put_number.Reads as put-number
-use Rattle.report.proofs.put.put_number.Kinds as put-number-kinds
-use Rattle.report.proofs.put.+put_number.Lts-put_number as put-number-lts
-use Rattle.report.proofs.put.put_byte.Reads as put-byte-reads
-use Rattle.report.proofs.put.+put_number.{statement}
-use Rattle.report.proofs.put.+put_number.Tie.{close}
+use Rattle.output.proofs.put.put_number.Reads as put-number
+use Rattle.output.proofs.put.put_number.Kinds as put-number-kinds
+use Rattle.output.proofs.put.+put_number.Lts-put_number as put-number-lts
+use Rattle.output.proofs.put.put_byte.Reads as put-byte-reads
+use Rattle.output.proofs.put.+put_number.{statement}
+use Rattle.output.proofs.put.+put_number.Tie.{close}
 
 abbrev μ-put-number : Measures 1 put-number-kinds.ps ℕ
 μ-put-number κs a = a .1 .1 .0

@@ -1,10 +1,10 @@
-use Rattle.report.specs.Text.{placeText}
+use Rattle.output.specs.Text.{placeText}
 use Rattle.token_list.specs.Check.{END}
 use borrow.Author.Tests.{eq-eqb, ne-eqb}
 use native.Mathlib.Omega.{arith}
 use borrow.Author.Needs.{needs}
-use Rattle.report.proofs.put.put_place.Statement.{statement}
-use Rattle.report.proofs.put.put_place.Tie as tie
+use Rattle.output.proofs.put.put_place.Statement.{statement}
+use Rattle.output.proofs.put.put_place.Tie as tie
 
 put-byte-requires : tie.Need-put-byte-requires
 put-byte-requires c κs = search needs

@@ -5,8 +5,8 @@ use token_list::check::Refusal;
 ghost use Prim.Native.Nat.{_+_, _^_, _≤_, _<_};
 ghost use mathlib.Core.List.{[], _∷_};
 ghost use lib.ListN.{length};
-ghost use Rattle.report.specs.Text.{decimal, placeText, refusalText};
-ghost use Rattle.report.specs.Contract.{Put};
+ghost use Rattle.output.specs.Text.{decimal, placeText, refusalText};
+ghost use Rattle.output.specs.Contract.{Put};
 
 pub fn put_byte(out: &mut [u8], at: usize, b: u8) -> usize
     requires { ⌜ at + 1 < 2 ^ 64 ⌝ }

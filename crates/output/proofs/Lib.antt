@@ -1,0 +1,2 @@
+-- Laws on texts that are written, which the proofs of the functions cite.
+pub mod Texts

@@ -1,0 +1,2 @@
+// Texts, numbers and refusals, written into a lent output.
+pub mod put;
