@@ -4,6 +4,8 @@ use mathlib.Core.List.{List, [], _∷_}
 use Prim.Native.Nat.{ℕ, _+_}
 use lib.Dec.{leb, ltb, eqb}
 use lib.ListN.{length, take, drop}
+use Rattle.token_list.specs.Byte.{bytes}
+use Rattle.token_list.specs.Layout.{OPEN, CLOSE, FIRST-ROW, MAX-BYTES, MAX-ROWS, MAX-TEXT, MAX-DEPTH}
 use Rattle.token_list.specs.Text.{same, closer}
 use Rattle.token_list.specs.Row.{Lines, tail, line, lines, Form, plain, opens, closed, wrong, form, formOf, first, Row}
 
@@ -36,23 +38,23 @@ close r d (g ∷ gs) go = cond (eqb (closer (g .delimiter)) d) (go gs) (refused 
 abbrev pub step : ℕ → List Open → Form → (List Open → Answer) → Answer
 step r gs wrong go = refused 3 r
 step r gs plain go = go gs
-step r gs (opens d) go = cond (leb 32 (length gs)) (refused 6 r) (go (record { delimiter = d; row = r } ∷ gs))
+step r gs (opens d) go = cond (leb MAX-DEPTH (length gs)) (refused 6 r) (go (record { delimiter = d; row = r } ∷ gs))
 step r gs (closed d) go = close r d gs go
 
 -- the lines from row r on
 abbrev pub walk : ℕ → List Open → Lines → Answer
 walk r gs (tail []) = ended r gs
-walk r gs (tail (b ∷ bs)) = cond (leb 4096 r) (refused 4 4096) (refused 3 r)
-walk r gs (line l ls) = cond (leb 4096 r) (refused 4 4096) (step r gs (form l) (λ hs. walk (r + 1) hs ls))
+walk r gs (tail (b ∷ bs)) = cond (leb MAX-ROWS r) (refused 4 MAX-ROWS) (refused 3 r)
+walk r gs (line l ls) = cond (leb MAX-ROWS r) (refused 4 MAX-ROWS) (step r gs (form l) (λ hs. walk (r + 1) hs ls))
 
--- `kind text` and LF
+-- the line of names
 abbrev pub NAMES : List ℕ
-NAMES = 107 ∷ 105 ∷ 110 ∷ 100 ∷ 32 ∷ 116 ∷ 101 ∷ 120 ∷ 116 ∷ 10 ∷ []
+NAMES = bytes "kind text\n"
 
 unfoldable pub check : List ℕ → Answer
 check s =
-    cond (ltb 65536 (length s)) (refused 1 END)
-    (cond (same (take 10 s) NAMES) (walk 0 [] (lines (drop 10 s))) (refused 2 END))
+    cond (ltb MAX-BYTES (length s)) (refused 1 END)
+    (cond (same (take FIRST-ROW s) NAMES) (walk 0 [] (lines (drop FIRST-ROW s))) (refused 2 END))
 
 -- What a list that passes is. A row of a right form:
 abbrev pub isRow : Form → Bool
@@ -62,7 +64,7 @@ isRow (closed d) = true
 isRow wrong = false
 
 abbrev pub right : Row → Bool
-right r = isRow (formOf (r .kind) (r .text)) && leb (length (r .text)) 255
+right r = isRow (formOf (r .kind) (r .text)) && leb (length (r .text)) MAX-TEXT
 
 abbrev pub allRight : List Row → Bool
 allRight [] = true
@@ -80,10 +82,11 @@ abbrev pub none : List ℕ → Bool
 none [] = true
 none (d ∷ ds) = false
 
--- rows of a right form under the open delimiters ds, at most 32 of them open at once, each group closed by its own close
+-- rows of a right form under the open delimiters ds, at most MAX-DEPTH of them open at once, each group closed by its
+-- own close
 abbrev pub nested : List ℕ → List Row → Bool
 nested ds [] = none ds
 nested ds (r ∷ rs) =
     right r
-    && cond (eqb (r .kind) 111) (ltb (length ds) 32 && nested (first (r .text) ∷ ds) rs)
-    (cond (eqb (r .kind) 99) (closedBy ds (first (r .text)) && nested (enclosing ds) rs) (nested ds rs))
+    && cond (eqb (r .kind) OPEN) (ltb (length ds) MAX-DEPTH && nested (first (r .text) ∷ ds) rs)
+    (cond (eqb (r .kind) CLOSE) (closedBy ds (first (r .text)) && nested (enclosing ds) rs) (nested ds rs))

@@ -6,6 +6,8 @@ use Prim.Native.Nat.{ℕ, _+_, _-_, _≤_, _<_}
 use lib.Dec.{leb, ltb, eqb}
 use lib.ListN.{length, getD, take, drop}
 use lib.Seq.{slice}
+use Rattle.token_list.specs.Byte.{SPACE, LF}
+use Rattle.token_list.specs.Layout.{PUNCT, OPEN, CLOSE, FIRST-ROW, TEXT-OFFSET, MAX-TEXT, MAX-DEPTH}
 use Rattle.token_list.specs.Row.{Lines, tail, line, lines, Form, plain, opens, closed, wrong, form, first, Row, written}
 use Rattle.token_list.specs.Check.{Answer, passed, refused, Open, ended, close, walk, NAMES, check, allRight, nested}
 use Rattle.token_list.specs.Place.{OneRefusal, checkNumber}
@@ -35,14 +37,14 @@ pub record TextEnd (s : List ℕ) (names : Bool) (from r : ℕ) : Type 0 where
   pub start : from ≤ r
   pub fits : all (inText names) (slice from r s) ≡ true
   pub stops : r < length s → inText names (getD s r 0) ≡ false
-  pub line : r < length s → getD s r 0 ≡ 10 → lines (drop from s) ≡ line (slice from r s) (lines (drop (r + 1) s))
+  pub line : r < length s → getD s r 0 ≡ LF → lines (drop from s) ≡ line (slice from r s) (lines (drop (r + 1) s))
 
 -- the first LF of a list s at or after `from` stands at e, or there is none
 pub record LineEnd (s : List ℕ) (from e : ℕ) : Type 0 where
   pub start : from ≤ e
   pub found : e < length s → lines (drop from s) ≡ line (slice from e s) (lines (drop (e + 1) s))
   pub none : length s ≤ e → lines (drop from s) ≡ tail (drop from s)
-  pub lf : e < length s → getD s e 0 ≡ 10
+  pub lf : e < length s → getD s e 0 ≡ LF
 
 abbrev pub shape : Shape → Form
 shape Plain = plain
@@ -52,14 +54,14 @@ shape Wrong = wrong
 
 -- a space, and an LF after one byte of text, stand in the line at i
 abbrev pub oneByte : List ℕ → ℕ → Bool
-oneByte s i = ltb (i + 3) (length s) && (eqb (getD s (i + 1) 0) 32 && eqb (getD s (i + 3) 0) 10)
+oneByte s i = ltb (i + 3) (length s) && (eqb (getD s (i + 1) 0) SPACE && eqb (getD s (i + 3) 0) LF)
 
 -- the form of a row of kind p, o or c whose text is the one byte b
 abbrev pub markForm : ℕ → ℕ → Form
 markForm k b =
-    cond (eqb k 112) (cond (punctuation b) plain wrong)
-    (cond (eqb k 111) (cond (opening b) (opens b) wrong)
-    (cond (eqb k 99) (cond (closing b) (closed b) wrong) wrong))
+    cond (eqb k PUNCT) (cond (punctuation b) plain wrong)
+    (cond (eqb k OPEN) (cond (opening b) (opens b) wrong)
+    (cond (eqb k CLOSE) (cond (closing b) (closed b) wrong) wrong))
 
 -- the first line as a row, where it is whole
 abbrev pub formed : Lines → Form
@@ -76,7 +78,7 @@ pub record Shaped (s : List ℕ) (at : ℕ) (r : Line) : Type 0 where
 pub record TokenLine (s : List ℕ) (names : Bool) (start : ℕ) (r : Line) : Type 0 where
   pub told : (shape (r .shape) ≡ wrong → ⊥) → shape (r .shape) ≡ plain
   pub whole : (shape (r .shape) ≡ wrong → ⊥)
-      → (e : ℕ) × TextEnd s names start e × (e < length s) × (getD s e 0 ≡ 10) × (e - start ≤ 255) × (r .next ≡ e + 1)
+      → (e : ℕ) × TextEnd s names start e × (e < length s) × (getD s e 0 ≡ LF) × (e - start ≤ MAX-TEXT) × (r .next ≡ e + 1)
 
 -- the same as Shaped, where the form is told
 abbrev pub ShapedUnlessWrong : List ℕ → ℕ → Line → Type 0
@@ -110,7 +112,7 @@ pub record RowEnd (s : List ℕ) (i e : ℕ) : Type 0 where
 -- the token t at i: where its parts stand, its first byte of text, and the next row
 pub record TokenAt (s : List ℕ) (i : ℕ) (t : Token) : Type 0 where
   pub kind : t .kind ≡ getD s i 0
-  pub start : t .start ≡ i + 2
+  pub start : t .start ≡ i + TEXT-OFFSET
   pub end : RowEnd s i (t .end)
   pub text : t .start ≤ t .end
   pub next : t .next ≡ t .end + 1
@@ -144,7 +146,7 @@ pub record Looked (s : List ℕ) (i : ℕ) (r : Glance) : Type 0 where
 
 -- how many groups are open after a row of kind k, where d were before it
 abbrev pub deeper : ℕ → ℕ → ℕ
-deeper k d = cond (eqb k 111) (d + 1) (cond (eqb k 99) (d - 1) d)
+deeper k d = cond (eqb k OPEN) (d + 1) (cond (eqb k CLOSE) (d - 1) d)
 
 -- from c to d, past the closing row of the group that c stands in
 pub record Skipped (s : List ℕ) (c d : Cursor) : Type 0 where
@@ -192,18 +194,18 @@ closedIn s at (End n) = Unit
 closedIn s at (Close d row next) = (row < next) × (at < next) × (next ≤ length s)
 closedIn s at (Stopped r) = Unit
 
--- how the rows of a level from c on end, `levels` of 32 being free
+-- how the rows of a level from c on end, `levels` of MAX-DEPTH being free
 pub record Walked (s : List ℕ) (c : Cursor) (levels : ℕ) (r : LevelEnd) : Type 0 where
-  pub right : (gs : List Open) → length gs + levels ≡ 32 → walk (c .row) gs (lines (drop (c .at) s)) ≡ resumed s gs r
+  pub right : (gs : List Open) → length gs + levels ≡ MAX-DEPTH → walk (c .row) gs (lines (drop (c .at) s)) ≡ resumed s gs r
   pub past : closedIn s (c .at) r
 
 -- A list that passes the check with n rows: its line of names, then the lines of its rows, which nest; no group is open at
 -- its first row, and each that opens is closed.
 pub record PassedList (s : List ℕ) (n : ℕ) : Type 0 where
-  pub names : take 10 s ≡ NAMES
-  pub written : drop 10 s ≡ written (rowsAt s 10)
-  pub nested : nested [] (rowsAt s 10) ≡ true
-  pub count : length (rowsAt s 10) ≡ n
-  pub whole : Whole s 10
-  pub outer : at s 10 .outer ≡ []
-  pub size : size (at s 10 .here) ≡ n
+  pub names : take FIRST-ROW s ≡ NAMES
+  pub written : drop FIRST-ROW s ≡ written (rowsAt s FIRST-ROW)
+  pub nested : nested [] (rowsAt s FIRST-ROW) ≡ true
+  pub count : length (rowsAt s FIRST-ROW) ≡ n
+  pub whole : Whole s FIRST-ROW
+  pub outer : at s FIRST-ROW .outer ≡ []
+  pub size : size (at s FIRST-ROW .here) ≡ n

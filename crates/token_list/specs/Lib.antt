@@ -1,5 +1,8 @@
--- What the token_list crate's contracts say. Text, Row, Check, Place and Stream state the meaning, from document 01; Contract ties the
--- code's answers to it.
+-- What the token_list crate's contracts say. Byte and Layout have the names of
+-- bytes and numbers; Text, Row, Check, Place and Stream state the meaning, from document 01; Contract ties the code's
+-- answers to it.
+pub mod Byte
+pub mod Layout
 pub mod Text
 pub mod Row
 pub mod Check

@@ -4,6 +4,8 @@ use mathlib.Core.List.{List, [], _∷_, _++_}
 use Prim.Native.Nat.{ℕ, zero, suc, _+_}
 use lib.Dec.{leb, eqb}
 use lib.ListN.{length}
+use Rattle.token_list.specs.Byte.{SPACE}
+use Rattle.token_list.specs.Layout.{IDENT, LITERAL, PUNCT, OPEN, CLOSE, MAX-TEXT}
 use Rattle.token_list.specs.Text.{LF, name, literal, single, punctuation, opening, closing}
 
 -- Lines, each without the LF that ends it, and then what stands after the last LF, which is no line.
@@ -34,20 +36,20 @@ abbrev pub first : List ℕ → ℕ
 first [] = 0
 first (b ∷ bs) = b
 
--- kinds i, l, p, o and c
+-- by the kind and the text
 unfoldable pub formOf : ℕ → List ℕ → Form
 formOf k t =
-    cond (eqb k 105) (cond (name t) plain wrong)
-    (cond (eqb k 108) (cond (literal t) plain wrong)
-    (cond (eqb k 112) (cond (single punctuation t) plain wrong)
-    (cond (eqb k 111) (cond (single opening t) (opens (first t)) wrong)
-    (cond (eqb k 99) (cond (single closing t) (closed (first t)) wrong) wrong))))
+    cond (eqb k IDENT) (cond (name t) plain wrong)
+    (cond (eqb k LITERAL) (cond (literal t) plain wrong)
+    (cond (eqb k PUNCT) (cond (single punctuation t) plain wrong)
+    (cond (eqb k OPEN) (cond (single opening t) (opens (first t)) wrong)
+    (cond (eqb k CLOSE) (cond (single closing t) (closed (first t)) wrong) wrong))))
 
--- kind, one space, text of at most 255 bytes
+-- kind, one space, text
 abbrev pub form : List ℕ → Form
 form [] = wrong
 form (k ∷ []) = wrong
-form (k ∷ s ∷ t) = cond (eqb s 32 && leb (length t) 255) (formOf k t) wrong
+form (k ∷ s ∷ t) = cond (eqb s SPACE && leb (length t) MAX-TEXT) (formOf k t) wrong
 
 pub record Row : Type 0 where
   pub kind : ℕ
@@ -66,7 +68,7 @@ rows (line l ls) = rowOf l (rows ls)
 -- rows as the lines of a list
 abbrev pub written : List Row → List ℕ
 written [] = []
-written (r ∷ rs) = r .kind ∷ 32 ∷ r .text ++ LF ∷ written rs
+written (r ∷ rs) = r .kind ∷ SPACE ∷ r .text ++ LF ∷ written rs
 
 -- how many rows begin: one a line, and one more where bytes stand after the last LF
 abbrev pub begun : Lines → ℕ

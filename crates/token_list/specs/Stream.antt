@@ -5,6 +5,7 @@ use mathlib.Core.List.{List, [], _∷_}
 use Prim.Native.Nat.{ℕ, _+_}
 use lib.Dec.{eqb}
 use lib.ListN.{drop}
+use Rattle.token_list.specs.Layout.{OPEN, CLOSE, FIRST-ROW}
 use Rattle.token_list.specs.Row.{Row, rows, lines, first, bytesBefore}
 
 -- What is left of a stream: nothing; a token and the rest; a group with its delimiter, its inside and the rest after its close.
@@ -28,8 +29,8 @@ others (t ∷ ts) = ts
 
 unfoldable pub before : Row → Streams → Streams
 before r s =
-    cond (eqb (r .kind) 111) (record { here = group (first (r .text)) (s .here) (head (s .outer)); outer = others (s .outer) })
-    (cond (eqb (r .kind) 99) (record { here = end; outer = s .here ∷ s .outer })
+    cond (eqb (r .kind) OPEN) (record { here = group (first (r .text)) (s .here) (head (s .outer)); outer = others (s .outer) })
+    (cond (eqb (r .kind) CLOSE) (record { here = end; outer = s .here ∷ s .outer })
     (record { here = leaf r (s .here); outer = s .outer }))
 
 abbrev pub streams : List Row → Streams
@@ -46,7 +47,7 @@ size (group d ts us) = 1 + size ts + 1 + size us
 abbrev pub firstKind : Trees → ℕ
 firstKind end = 0
 firstKind (leaf r ts) = r .kind
-firstKind (group d ts us) = 111
+firstKind (group d ts us) = OPEN
 
 abbrev pub firstMark : Trees → ℕ
 firstMark end = 0
@@ -60,7 +61,7 @@ follows (t ∷ ts) = true
 
 abbrev pub allClosed : List Row → Bool
 allClosed [] = true
-allClosed (r ∷ rs) = allClosed rs && cond (eqb (r .kind) 111) (follows (streams rs .outer)) true
+allClosed (r ∷ rs) = allClosed rs && cond (eqb (r .kind) OPEN) (follows (streams rs .outer)) true
 
 -- the rows and the streams at an offset of a list
 abbrev pub rowsAt : List ℕ → ℕ → List Row
@@ -71,4 +72,4 @@ at s i = streams (rowsAt s i)
 
 -- where row r of a list starts, after the line of names
 unfoldable pub rowStart : List ℕ → ℕ → ℕ
-rowStart s r = 10 + bytesBefore r (lines (drop 10 s))
+rowStart s r = FIRST-ROW + bytesBefore r (lines (drop FIRST-ROW s))

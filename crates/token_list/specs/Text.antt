@@ -3,6 +3,8 @@ use mathlib.Core.Bool.{Bool, true, false, not, cond, _&&_, _||_}
 use mathlib.Core.List.{List, [], _∷_}
 use Prim.Native.Nat.{ℕ}
 use lib.Dec.{leb, eqb}
+use Rattle.token_list.specs.Byte.{code, bytes, SPACE, UNDERSCORE, HASH, PARENTHESIS, BRACKET, BRACE}
+pub use Rattle.token_list.specs.Byte.{LF}
 
 -- ## Tests on lists of bytes
 
@@ -25,42 +27,34 @@ same (x ∷ xs) (y ∷ ys) = eqb x y && same xs ys
 abbrev pub between : ℕ → ℕ → ℕ → Bool
 between lo hi b = leb lo b && leb b hi
 
-abbrev pub LF : ℕ
-LF = 10
-
 abbrev pub digit : ℕ → Bool
-digit b = between 48 57 b
+digit b = between (code "0") (code "9") b
 
 -- a letter or `_`
 abbrev pub nameStart : ℕ → Bool
-nameStart b = between 97 122 b || (between 65 90 b || eqb b 95)
+nameStart b = between (code "a") (code "z") b || (between (code "A") (code "Z") b || eqb b UNDERSCORE)
 
 abbrev pub namePart : ℕ → Bool
 namePart b = nameStart b || digit b
 
 abbrev pub printable : ℕ → Bool
-printable b = between 32 126 b
+printable b = between SPACE (code "~") b
 
--- = < > ! ~ + - * / % ^ & | @ . , ; : # $ ? '
 abbrev pub punctuation : ℕ → Bool
-punctuation b =
-    member b (61 ∷ 60 ∷ 62 ∷ 33 ∷ 126 ∷ 43 ∷ 45 ∷ 42 ∷ 47 ∷ 37 ∷ 94 ∷ 38 ∷ 124 ∷ 64 ∷ 46 ∷ 44 ∷ 59 ∷ 58 ∷ 35 ∷ 36 ∷ 63 ∷ 39 ∷ [])
+punctuation b = member b (bytes "=<>!~+-*/%^&|@.,;:#$?'")
 
--- a digit, " ' b c or r
 abbrev pub literalStart : ℕ → Bool
-literalStart b = digit b || member b (34 ∷ 39 ∷ 98 ∷ 99 ∷ 114 ∷ [])
+literalStart b = digit b || member b (bytes "\"'bcr")
 
--- ( [ { 0
 abbrev pub opening : ℕ → Bool
-opening b = member b (40 ∷ 91 ∷ 123 ∷ 48 ∷ [])
+opening b = member b (bytes "([{0")
 
--- ) ] } 0
 abbrev pub closing : ℕ → Bool
-closing b = member b (41 ∷ 93 ∷ 125 ∷ 48 ∷ [])
+closing b = member b (bytes ")]}0")
 
--- what closes a group: ) after (, ] after [, } after {, and 0 after 0
+-- what closes a group; a 0 closes what a 0 opens
 abbrev pub closer : ℕ → ℕ
-closer d = cond (eqb d 40) 41 (cond (eqb d 91) 93 (cond (eqb d 123) 125 d))
+closer d = cond (eqb d PARENTHESIS) (code ")") (cond (eqb d BRACKET) (code "]") (cond (eqb d BRACE) (code "}") d))
 
 -- ## Texts of the five kinds
 
@@ -68,20 +62,20 @@ abbrev pub plainName : List ℕ → Bool
 plainName [] = false
 plainName (b ∷ bs) = nameStart b && all namePart bs
 
--- what no `r#` may stand before: crate, self, super, Self, _
+-- what no `r#` may stand before
 abbrev pub neverRaw : List ℕ → Bool
 neverRaw t =
-    same t (99 ∷ 114 ∷ 97 ∷ 116 ∷ 101 ∷ [])
-    || (same t (115 ∷ 101 ∷ 108 ∷ 102 ∷ [])
-    || (same t (115 ∷ 117 ∷ 112 ∷ 101 ∷ 114 ∷ [])
-    || (same t (83 ∷ 101 ∷ 108 ∷ 102 ∷ [])
-    || same t (95 ∷ []))))
+    same t (bytes "crate")
+    || (same t (bytes "self")
+    || (same t (bytes "super")
+    || (same t (bytes "Self")
+    || same t (bytes "_"))))
 
 -- `r#` and a name
 abbrev pub rawName : List ℕ → Bool
 rawName [] = false
 rawName (r ∷ []) = false
-rawName (r ∷ h ∷ t) = (eqb r 114 && eqb h 35) && (plainName t && not (neverRaw t))
+rawName (r ∷ h ∷ t) = (eqb r (code "r") && eqb h HASH) && (plainName t && not (neverRaw t))
 
 abbrev pub name : List ℕ → Bool
 name t = plainName t || rawName t

@@ -1,10 +1,15 @@
 // The list check: refusals 1 to 7, in document 01's order.
+use crate::layout::FIRST_ROW;
+use crate::layout::MAX_BYTES;
+use crate::layout::MAX_DEPTH;
+use crate::layout::MAX_ROWS;
 use crate::row::Shape;
 use crate::row::closer;
 use crate::row::line_shape;
 use crate::text::text_is;
 ghost use mathlib.Core.Path.{_≡_};
 ghost use lib.ListN.{take};
+ghost use Rattle.token_list.specs.Layout.{FIRST-ROW};
 ghost use Rattle.token_list.specs.Check.{NAMES};
 ghost use Rattle.token_list.specs.Text.{same};
 ghost use Rattle.token_list.specs.Contract.{Within, Walked, CheckedAs};
@@ -46,10 +51,10 @@ fn walk(s: &[u8], from: Cursor, levels: usize) -> LevelEnd
     let mut at = from.at;
     let mut row = from.row;
     while at < s.len() {
-        if 4096 <= row {
+        if MAX_ROWS <= row {
             return LevelEnd::Refused(Refusal {
                 number: 4,
-                place: 4096,
+                place: MAX_ROWS,
             });
         }
         let line = line_shape(s, at);
@@ -114,19 +119,19 @@ fn walk(s: &[u8], from: Cursor, levels: usize) -> LevelEnd
 
 // Whether the list begins with `kind text` and LF.
 fn has_names(s: &[u8]) -> bool
-    ensures { λ r. ⌜ r ≡ same (take 10 (now (s .entry))) NAMES ⌝ }
+    ensures { λ r. ⌜ r ≡ same (take FIRST-ROW (now (s .entry))) NAMES ⌝ }
 {
-    if s.len() < 10 {
+    if s.len() < FIRST_ROW {
         return false;
     }
-    text_is(s, 0, 10, b"kind text\n")
+    text_is(s, 0, FIRST_ROW, b"kind text\n")
 }
 
 // Checks a list: the number of its rows, or the first refusal.
 pub fn check(s: &[u8]) -> Checked
     ensures { λ r. ⌜ CheckedAs (now (s .entry)) r ⌝ }
 {
-    if 65536 < s.len() {
+    if MAX_BYTES < s.len() {
         return Checked::Refused(Refusal {
             number: 1,
             place: END,
@@ -138,7 +143,11 @@ pub fn check(s: &[u8]) -> Checked
             place: END,
         });
     }
-    match walk(s, Cursor { at: 10, row: 0 }, 32) {
+    let first = Cursor {
+        at: FIRST_ROW,
+        row: 0,
+    };
+    match walk(s, first, MAX_DEPTH) {
         LevelEnd::End(rows) => Checked::Passed(rows),
         LevelEnd::Close(_, row, _) => Checked::Refused(Refusal {
             number: 5,

@@ -1,4 +1,6 @@
 // What a line of a list is as a row.
+use crate::layout::MAX_TEXT;
+use crate::layout::TEXT_OFFSET;
 use crate::text::all_fit;
 use crate::text::is_digit;
 use crate::text::is_name_start;
@@ -229,7 +231,7 @@ fn token_line(s: &[u8], start: usize, names: bool) -> Line
     let end = text_end(s, start, names);
     if end < s.len() {
         if s[end] == b'\n' {
-            if end - start <= 255 {
+            if end - start <= MAX_TEXT {
                 let next = end + 1;
                 return Line {
                     shape: Shape::Plain,
@@ -278,7 +280,7 @@ fn quick_token(s: &[u8], at: usize) -> Line
     }
     let kind = s[at];
     let space = at + 1;
-    let start = at + 2;
+    let start = at + TEXT_OFFSET;
     if s[space] != b' ' {
         return unknown;
     }
@@ -301,7 +303,7 @@ pub fn line_shape(s: &[u8], at: usize) -> Line
     ensures { λ r. ⌜ Shaped (now (s .entry)) at r ⌝ }
 {
     if one_byte(s, at) {
-        let start = at + 2;
+        let start = at + TEXT_OFFSET;
         let next = at + 4;
         let shape = byte_shape(s[at], s[start]);
         return Line { shape, next };
@@ -329,21 +331,21 @@ fn whole_shape(s: &[u8], at: usize) -> Line
         };
     }
     let next = end + 1;
-    if end - at < 2 {
+    if end - at < TEXT_OFFSET {
         return Line {
             shape: Shape::Wrong,
             next,
         };
     }
     let space = at + 1;
-    let start = at + 2;
+    let start = at + TEXT_OFFSET;
     if s[space] != b' ' {
         return Line {
             shape: Shape::Wrong,
             next,
         };
     }
-    if 255 < end - start {
+    if MAX_TEXT < end - start {
         return Line {
             shape: Shape::Wrong,
             next,

@@ -1,5 +1,6 @@
 // Reading a list row by row: the token at a cursor, and the way past a group.
 use crate::check::Cursor;
+use crate::layout::TEXT_OFFSET;
 ghost use mathlib.Core.Path.{_≡_};
 ghost use Prim.Native.Nat.{_+_, _^_, _<_};
 ghost use lib.ListN.{length};
@@ -42,7 +43,7 @@ pub fn look(s: &[u8], c: Cursor) -> Glance
     if kind == b'c' {
         return Glance { kind: 0, mark: 0 };
     }
-    let start = at + 2;
+    let start = at + TEXT_OFFSET;
     let mark = s[start];
     Glance { kind, mark }
 }
@@ -73,7 +74,7 @@ pub fn peek(s: &[u8], c: Cursor) -> Peeked
         return Peeked::Nothing;
     }
     let end = row_end(s, at);
-    let start = at + 2;
+    let start = at + TEXT_OFFSET;
     let next = end + 1;
     let mark = s[start];
     let t = Token {
