@@ -4,6 +4,7 @@ use mathlib.Core.List.{List, [], _∷_, _++_}
 use Prim.Native.Nat.{ℕ, _-_}
 use lib.Dec.{ltb}
 use lib.ListN.{length, replicate}
+use Rattle.token_list.specs.Layout.{FIRST-ROW}
 use Rattle.token_list.specs.Text.{between}
 use Rattle.token_list.specs.Check as list
 use Rattle.token_list.specs.Stream.{Trees, size, at}
@@ -26,16 +27,17 @@ itemAnswer (refuse n p) = refused n p
 -- a list that passes the list check with so many rows, and a buffer of n bytes
 abbrev pub checkedAnswer : List ℕ → ℕ → list.Answer → Answer
 checkedAnswer s n (list.Answer.refused m p) = refused m p
-checkedAnswer s n (list.Answer.passed rows) = cond (ltb n rows) (refused 8 list.END) (itemAnswer (item 0 (at s 10 .here)))
+checkedAnswer s n (list.Answer.passed rows) =
+    cond (ltb n rows) (refused 8 list.END) (itemAnswer (item 0 (at s FIRST-ROW .here)))
 
 -- for a list s and a role buffer of n bytes
 unfoldable pub answer : List ℕ → ℕ → Answer
 answer s n = checkedAnswer s n (list.check s)
 
--- the roles, then 255; after a refusal 255 throughout
+-- the roles, then no role; after a refusal no role throughout
 abbrev pub buffer : ℕ → Answer → List ℕ
-buffer n (declared d rs) = rs ++ replicate (n - length rs) 255
-buffer n (refused m p) = replicate n 255
+buffer n (declared d rs) = rs ++ replicate (n - length rs) role.none
+buffer n (refused m p) = replicate n role.none
 
 -- the numbers of refusals where a declaration is read: those of the list check, 8, and 11 to 27
 abbrev pub readNumber : ℕ → Bool

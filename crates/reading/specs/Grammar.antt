@@ -1,14 +1,15 @@
 -- The role grammar (document 01, "Runs" and "Role grammar") as relations, one for each production, written without the reading.
 -- `N ts us rs` says: an N stands first in the stream ts, us is what is left after it, and rs are the roles of the rows between.
 -- What is optional and can stand is taken: each `none` and `absent` says of the rows that it cannot stand there.
--- Productions are those of the Rust Reference 1.63. Bytes: `#` 35, `'` 39, `(` 40, `,` 44, `-` 45, `:` 58, `;` 59, `<` 60,
--- `=` 61, `>` 62, `[` 91, `{` 123.
+-- Productions are those of the Rust Reference 1.63.
 use mathlib.Core.Path.{_≡_}
 use mathlib.Core.Bool.{Bool, true, false, cond, not, _&&_, _||_}
 use mathlib.Core.List.{List, [], _∷_, _++_}
 use Prim.Native.Nat.{ℕ, _+_, _-_}
 use lib.Dec.{eqb, leb}
 use lib.ListN.{length, replicate}
+use Rattle.token_list.specs.Byte.{HASH, QUOTE, COMMA, MINUS, COLON, SEMICOLON, LESS, EQUALS, GREATER}
+use Rattle.token_list.specs.Byte.{PARENTHESIS, BRACKET, BRACE}
 use Rattle.token_list.specs.Text.{rawName}
 use Rattle.token_list.specs.Row.{Row}
 use Rattle.token_list.specs.Stream.{Trees, end, leaf, group, size}
@@ -45,15 +46,15 @@ filled (r ∷ rs) = true
 
 -- rule 6: a token that is neither `<` nor `>` nor a stop
 abbrev pub ordinary : Stops → ℕ → Row → Bool
-ordinary st depth q = not (isPunct 60 q || isPunct 62 q || isPunct 44 q && (eqb depth 0 && st .comma))
+ordinary st depth q = not (isPunct LESS q || isPunct GREATER q || isPunct COMMA q && (eqb depth 0 && st .comma))
 
 -- rule 5: a brace or parenthesis group that is a stop
 abbrev pub stopping : Stops → ℕ → ℕ → Bool
-stopping st depth d = eqb depth 0 && (st .group && (eqb d 123 || eqb d 40))
+stopping st depth d = eqb depth 0 && (st .group && (eqb d BRACE || eqb d PARENTHESIS))
 
 -- lifetimes first: a parameter at ts, and what follows it at us
 abbrev pub lifetimesFirst : Trees → Trees → Bool
-lifetimesFirst ts us = starts (isPunct 39) ts || not (starts (isPunct 39) us)
+lifetimesFirst ts us = starts (isPunct QUOTE) ts || not (starts (isPunct QUOTE) us)
 
 -- a visibility can stand here: `pub`, or a group holding only it
 abbrev pub startsVisibility : Trees → Bool
@@ -64,14 +65,14 @@ startsVisibility (group d ts us) = lone (isWord PUB) ts
 -- the last token is `;`, and no other is
 abbrev pub closes : Trees → Bool
 closes end = false
-closes (leaf q us) = cond (isPunct 59 q) (isEnd us) (closes us)
+closes (leaf q us) = cond (isPunct SEMICOLON q) (isEnd us) (closes us)
 closes (group d ts us) = closes us
 
 -- the group after a plain `pub` that is its scope
 abbrev pub startsScope : Trees → Bool
 startsScope end = false
 startsScope (leaf q us) = false
-startsScope (group d ts us) = eqb d 40 && scoped ts
+startsScope (group d ts us) = eqb d PARENTHESIS && scoped ts
 
 module _ (allowed : Difference → Bool) where
   -- what the Reference asks for here, unless the difference is allowed
@@ -87,26 +88,29 @@ module _ (allowed : Difference → Bool) where
   pub data Run (st : Stops) (r : ℕ) : ℕ → Bool → Trees → Trees → List ℕ → Type 0 where
     -- 1. `>` directly after a `-` of the same run is ordinary
     arrow : {depth : ℕ} {q : Row} {us vs : Trees} {rs : List ℕ}
-        → isPunct 62 q ≡ true → Run st r depth false us vs rs → Run st r depth true (leaf q us) vs (r ∷ rs)
+        → isPunct GREATER q ≡ true → Run st r depth false us vs rs → Run st r depth true (leaf q us) vs (r ∷ rs)
     -- 2. `<` adds one to the depth
     deeper : {depth : ℕ} {minus : Bool} {q : Row} {us vs : Trees} {rs : List ℕ}
-        → isPunct 60 q ≡ true → Run st r (depth + 1) false us vs rs → Run st r depth minus (leaf q us) vs (r ∷ rs)
+        → isPunct LESS q ≡ true → Run st r (depth + 1) false us vs rs → Run st r depth minus (leaf q us) vs (r ∷ rs)
     -- 3. other `>`: above depth 0, subtract one
     back : {depth : ℕ} {q : Row} {us vs : Trees} {rs : List ℕ}
-        → isPunct 62 q ≡ true → eqb depth 0 ≡ false → Run st r (depth - 1) false us vs rs
+        → isPunct GREATER q ≡ true → eqb depth 0 ≡ false → Run st r (depth - 1) false us vs rs
         → Run st r depth false (leaf q us) vs (r ∷ rs)
     -- 3. at 0, the run ends before it if `>` is a stop
     angle : {depth : ℕ} {q : Row} {us : Trees}
-        → isPunct 62 q ≡ true → eqb depth 0 ≡ true → st .angle ≡ true → Run st r depth false (leaf q us) (leaf q us) []
+        → isPunct GREATER q ≡ true → eqb depth 0 ≡ true → st .angle ≡ true
+        → Run st r depth false (leaf q us) (leaf q us) []
     -- 4. another stop punctuation at depth 0 ends the run before it
     comma : {depth : ℕ} {minus : Bool} {q : Row} {us : Trees}
-        → isPunct 44 q ≡ true → eqb depth 0 ≡ true → st .comma ≡ true → Run st r depth minus (leaf q us) (leaf q us) []
+        → isPunct COMMA q ≡ true → eqb depth 0 ≡ true → st .comma ≡ true
+        → Run st r depth minus (leaf q us) (leaf q us) []
     -- 5. at depth 0, a brace or parenthesis group ends the run if `{` or `(` is a stop
     stop : {depth : ℕ} {minus : Bool} {d : ℕ} {ts us : Trees}
         → stopping st depth d ≡ true → Run st r depth minus (group d ts us) (group d ts us) []
     -- 6. everything else belongs: a token
     token : {depth : ℕ} {minus : Bool} {q : Row} {us vs : Trees} {rs : List ℕ}
-        → ordinary st depth q ≡ true → Run st r depth (isPunct 45 q) us vs rs → Run st r depth minus (leaf q us) vs (r ∷ rs)
+        → ordinary st depth q ≡ true → Run st r depth (isPunct MINUS q) us vs rs
+        → Run st r depth minus (leaf q us) vs (r ∷ rs)
     -- 6. or a group
     inside : {depth : ℕ} {minus : Bool} {d : ℕ} {ts us vs : Trees} {rs : List ℕ}
         → stopping st depth d ≡ false → Run st r depth false us vs rs
@@ -125,14 +129,14 @@ module _ (allowed : Difference → Bool) where
 
   pub data Attributes : Trees → Trees → List ℕ → Type 0 where
     -- a `#` where attributes may stand is theirs alone
-    none : {ts : Trees} → starts (isPunct 35) ts ≡ false → Attributes ts ts []
+    none : {ts : Trees} → starts (isPunct HASH) ts ≡ false → Attributes ts ts []
     -- `#` with a `[` group
     attribute : {q : Row} {d : ℕ} {ts us vs : Trees} {rs : List ℕ}
-        → isPunct 35 q ≡ true → eqb d 91 ≡ true → Attributes us vs rs
+        → isPunct HASH q ≡ true → eqb d BRACKET ≡ true → Attributes us vs rs
         → Attributes (leaf q (group d ts us)) vs (role.attribute-mark ∷ copied role.attribute-group ts ++ rs)
     -- or `#` followed by `#`
     idle : {q p : Row} {us vs : Trees} {rs : List ℕ}
-        → allowed idle-mark ≡ true → isPunct 35 q ≡ true → isPunct 35 p ≡ true → Attributes (leaf p us) vs rs
+        → allowed idle-mark ≡ true → isPunct HASH q ≡ true → isPunct HASH p ≡ true → Attributes (leaf p us) vs rs
         → Attributes (leaf q (leaf p us)) vs (role.idle-mark ∷ rs)
 
   -- ## Visibility
@@ -165,14 +169,15 @@ module _ (allowed : Difference → Bool) where
 
   -- optional `:` and run
   pub data Bound : Trees → Trees → List ℕ → Type 0 where
-    none : {ts : Trees} → starts (isPunct 58) ts ≡ false → Bound ts ts []
+    none : {ts : Trees} → starts (isPunct COLON) ts ≡ false → Bound ts ts []
     bound : {c : Row} {us vs : Trees} {rs : List ℕ}
-        → isPunct 58 c ≡ true → Run parameterStops role.bound 0 false us vs rs → Bound (leaf c us) vs (role.separator ∷ rs)
+        → isPunct COLON c ≡ true → Run parameterStops role.bound 0 false us vs rs
+        → Bound (leaf c us) vs (role.separator ∷ rs)
 
   pub data Parameter : Trees → Trees → List ℕ → Type 0 where
     -- `'` and an `i` row with optional `:` and run. LifetimeParam: LIFETIME_OR_LABEL is `'` and NON_KEYWORD_IDENTIFIER
     lifetime : {q p : Row} {us vs : Trees} {rs : List ℕ}
-        → isPunct 39 q ≡ true → isName p ≡ true → Unless raw-lifetime (not (rawName (p .text))) → Bound us vs rs
+        → isPunct QUOTE q ≡ true → isName p ≡ true → Unless raw-lifetime (not (rawName (p .text))) → Bound us vs rs
         → Parameter (leaf q (leaf p us)) vs (role.parameter-name ∷ role.parameter-name ∷ rs)
     -- `const`, an `i` row, optional `:` and run. ConstParam has both, with a Type
     constant : {q p : Row} {us vs : Trees} {rs : List ℕ}
@@ -180,48 +185,51 @@ module _ (allowed : Difference → Bool) where
         → Parameter (leaf q (leaf p us)) vs (role.parameter-name ∷ role.parameter-name ∷ rs)
     -- another `i` row. TypeParam
     plain : {q : Row} {us : Trees}
-        → isWord CONST q ≡ false → isName q ≡ true → starts (isPunct 58) us ≡ false → starts (isPunct 61) us ≡ false
+        → isWord CONST q ≡ false → isName q ≡ true → starts (isPunct COLON) us ≡ false
+        → starts (isPunct EQUALS) us ≡ false
         → Parameter (leaf q us) us (role.parameter-name ∷ [])
     -- then optionally `:` and run
     bounded : {q c : Row} {us vs : Trees} {rs : List ℕ}
-        → isWord CONST q ≡ false → isName q ≡ true → isPunct 58 c ≡ true
+        → isWord CONST q ≡ false → isName q ≡ true → isPunct COLON c ≡ true
         → Run parameterStops role.bound 0 false us vs rs
         → Parameter (leaf q (leaf c us)) vs (role.parameter-name ∷ role.separator ∷ rs)
     -- or `=` and run; a default is a Type
     defaulted : {q c : Row} {us vs : Trees} {rs : List ℕ}
-        → isWord CONST q ≡ false → isName q ≡ true → isPunct 61 c ≡ true
+        → isWord CONST q ≡ false → isName q ≡ true → isPunct EQUALS c ≡ true
         → Run parameterStops role.bound 0 false us vs rs
         → Unless empty-type (filled rs)
         → Parameter (leaf q (leaf c us)) vs (role.parameter-name ∷ role.separator ∷ rs)
 
   pub data Parameters : Trees → Trees → List ℕ → Type 0 where
     -- `>`
-    close : {q : Row} {us : Trees} → isPunct 62 q ≡ true → Parameters (leaf q us) us (role.angle ∷ [])
+    close : {q : Row} {us : Trees} → isPunct GREATER q ≡ true → Parameters (leaf q us) us (role.angle ∷ [])
     -- one `,` after a parameter is optional; the Reference asks for it before another one, and for lifetimes first
     next : {comma : Bool} {ts us vs ws : Trees} {ps cs rs : List ℕ}
-        → Parameter ts us ps → Mark 44 comma us vs cs
-        → Unless comma-after-parameter (comma || starts (isPunct 62) vs) → Unless parameter-order (lifetimesFirst ts vs)
+        → Parameter ts us ps → Mark COMMA comma us vs cs
+        → Unless comma-after-parameter (comma || starts (isPunct GREATER) vs)
+        → Unless parameter-order (lifetimesFirst ts vs)
         → Parameters vs ws rs → Parameters ts ws ((ps ++ cs) ++ rs)
 
   pub data Generics : Trees → Trees → List ℕ → Type 0 where
-    none : {ts : Trees} → starts (isPunct 60) ts ≡ false → Generics ts ts []
+    none : {ts : Trees} → starts (isPunct LESS) ts ≡ false → Generics ts ts []
     generics : {q : Row} {us vs : Trees} {rs : List ℕ}
-        → isPunct 60 q ≡ true → Parameters us vs rs → Generics (leaf q us) vs (role.angle ∷ rs)
+        → isPunct LESS q ≡ true → Parameters us vs rs → Generics (leaf q us) vs (role.angle ∷ rs)
 
   -- ## `where`, then a run with stops `{` and `(`. WhereClause, which goes on to the `{` of the body
 
   pub data Clause : Trees → Trees → List ℕ → Type 0 where
     none : {ts : Trees} → starts (isWord WHERE) ts ≡ false → Clause ts ts []
     clause : {q : Row} {us vs : Trees} {rs : List ℕ}
-        → isWord WHERE q ≡ true → Run clauseStops role.where-run 0 false us vs rs → Unless where-ends-at-group (opens 123 vs)
+        → isWord WHERE q ≡ true → Run clauseStops role.where-run 0 false us vs rs
+        → Unless where-ends-at-group (opens BRACE vs)
         → Clause (leaf q us) vs (role.where-word ∷ rs)
 
   -- ## Named fields. StructField: attributes, visibility, an `i` row, `:`, type run (stop `,`), optional `,`
 
   pub data NamedField : Trees → Trees → List ℕ → Type 0 where
     field : {comma : Bool} {q c : Row} {ts us vs ws xs : Trees} {ks bs rs cs : List ℕ}
-        → Attributes ts us ks → Visibility us (leaf q (leaf c vs)) bs → isName q ≡ true → isPunct 58 c ≡ true
-        → Run fieldStops role.type 0 false vs ws rs → Unless empty-type (filled rs) → Mark 44 comma ws xs cs
+        → Attributes ts us ks → Visibility us (leaf q (leaf c vs)) bs → isName q ≡ true → isPunct COLON c ≡ true
+        → Run fieldStops role.type 0 false vs ws rs → Unless empty-type (filled rs) → Mark COMMA comma ws xs cs
         → NamedField ts xs (ks ++ (bs ++ (role.field-name ∷ role.separator ∷ rs ++ cs)))
 
   -- StructFields, to the end of their group
@@ -236,7 +244,7 @@ module _ (allowed : Difference → Bool) where
   pub data TupleField : Trees → Trees → List ℕ → Type 0 where
     field : {comma : Bool} {ts us vs ws xs : Trees} {ks bs rs cs : List ℕ}
         → Attributes ts us ks → Visibility us vs bs
-        → Run fieldStops role.type 0 false vs ws rs → Unless empty-type (filled rs) → Mark 44 comma ws xs cs
+        → Run fieldStops role.type 0 false vs ws rs → Unless empty-type (filled rs) → Mark COMMA comma ws xs cs
         → TupleField ts xs (ks ++ (bs ++ (rs ++ cs)))
 
   -- TupleFields, to the end of their group: while tokens remain
@@ -251,29 +259,33 @@ module _ (allowed : Difference → Bool) where
   pub data VariantFields : Trees → Trees → List ℕ → Type 0 where
     none : {ts : Trees} → isGroup ts ≡ false → VariantFields ts ts []
     named : {d : ℕ} {ts us : Trees} {rs : List ℕ}
-        → eqb d 123 ≡ true → NamedFields ts rs → VariantFields (group d ts us) us (role.delimiter ∷ rs ++ role.delimiter ∷ [])
+        → eqb d BRACE ≡ true → NamedFields ts rs
+        → VariantFields (group d ts us) us (role.delimiter ∷ rs ++ role.delimiter ∷ [])
     tuple : {d : ℕ} {ts us : Trees} {rs : List ℕ}
-        → eqb d 40 ≡ true → TupleFields ts rs → VariantFields (group d ts us) us (role.delimiter ∷ rs ++ role.delimiter ∷ [])
+        → eqb d PARENTHESIS ≡ true → TupleFields ts rs
+        → VariantFields (group d ts us) us (role.delimiter ∷ rs ++ role.delimiter ∷ [])
 
   -- `=` with a literal, or with `-` and a literal of digits alone worth at most 9,223,372,036,854,775,807. EnumItemDiscriminant
   pub data Value : Trees → Trees → List ℕ → Type 0 where
     literal : {e q : Row} {us : Trees}
-        → isPunct 61 e ≡ true → isLiteral q ≡ true → Value (leaf e (leaf q us)) us (role.separator ∷ role.value ∷ [])
+        → isPunct EQUALS e ≡ true → isLiteral q ≡ true
+        → Value (leaf e (leaf q us)) us (role.separator ∷ role.value ∷ [])
     negative : {e m q : Row} {us : Trees}
-        → isPunct 61 e ≡ true → isPunct 45 m ≡ true → isLiteral q ≡ true → negatable (q .text) ≡ true
+        → isPunct EQUALS e ≡ true → isPunct MINUS m ≡ true → isLiteral q ≡ true → negatable (q .text) ≡ true
         → Value (leaf e (leaf m (leaf q us))) us (role.separator ∷ role.value ∷ role.value ∷ [])
 
   pub data Variant : Trees → Trees → List ℕ → Type 0 where
     -- attributes, a word, an optional group; then `,`, which may be absent at the end of the group
     plain : {comma : Bool} {ts us vs ws xs : Trees} {ks bs fs cs : List ℕ}
         → Attributes ts us ks → Word isName role.variant-name us vs bs → VariantFields vs ws fs
-        → Mark 44 comma ws xs cs → (comma || isEnd xs) ≡ true
+        → Mark COMMA comma ws xs cs → (comma || isEnd xs) ≡ true
         → Variant ts xs (ks ++ (bs ++ (fs ++ cs)))
     -- the same with a value; then `,`, which may be absent at the end of the group or after a value. The Reference has a group
     -- or a value
     valued : {comma : Bool} {ts us vs ws xs ys : Trees} {ks bs fs es cs : List ℕ}
         → Attributes ts us ks → Word isName role.variant-name us vs bs → VariantFields vs ws fs → Value ws xs es
-        → Mark 44 comma xs ys cs → Unless comma-after-value (comma || isEnd ys) → Unless group-and-value (not (filled fs))
+        → Mark COMMA comma xs ys cs → Unless comma-after-value (comma || isEnd ys)
+        → Unless group-and-value (not (filled fs))
         → Variant ts ys (ks ++ (bs ++ (fs ++ (es ++ cs))))
 
   -- EnumItems, to the end of their group
@@ -285,17 +297,19 @@ module _ (allowed : Difference → Bool) where
 
   -- `;`, a brace group of named fields, or a parenthesis group of types. StructStruct or TupleStruct: whether it is the second
   pub data StructBody : Bool → Trees → Trees → List ℕ → Type 0 where
-    unit : {q : Row} {us : Trees} → isPunct 59 q ≡ true → StructBody false (leaf q us) us (role.delimiter ∷ [])
+    unit : {q : Row} {us : Trees} → isPunct SEMICOLON q ≡ true → StructBody false (leaf q us) us (role.delimiter ∷ [])
     named : {d : ℕ} {ts us : Trees} {rs : List ℕ}
-        → eqb d 123 ≡ true → NamedFields ts rs → StructBody false (group d ts us) us (role.delimiter ∷ rs ++ role.delimiter ∷ [])
+        → eqb d BRACE ≡ true → NamedFields ts rs
+        → StructBody false (group d ts us) us (role.delimiter ∷ rs ++ role.delimiter ∷ [])
     tuple : {d : ℕ} {ts us : Trees} {rs : List ℕ}
-        → eqb d 40 ≡ true → TupleFields ts rs → StructBody true (group d ts us) us (role.delimiter ∷ rs ++ role.delimiter ∷ [])
+        → eqb d PARENTHESIS ≡ true → TupleFields ts rs
+        → StructBody true (group d ts us) us (role.delimiter ∷ rs ++ role.delimiter ∷ [])
 
   -- `;`, or a group of any delimiter holding variants. Enumeration: braces
   pub data EnumBody : Trees → Trees → List ℕ → Type 0 where
     unit : {q : Row} {us : Trees}
-        → allowed enum-semicolon ≡ true → isPunct 59 q ≡ true → EnumBody (leaf q us) us (role.delimiter ∷ [])
-    variants : {d : ℕ} {ts us : Trees} {rs : List ℕ} → Unless enum-delimiter (eqb d 123) → Variants ts rs
+        → allowed enum-semicolon ≡ true → isPunct SEMICOLON q ≡ true → EnumBody (leaf q us) us (role.delimiter ∷ [])
+    variants : {d : ℕ} {ts us : Trees} {rs : List ℕ} → Unless enum-delimiter (eqb d BRACE) → Variants ts rs
         → EnumBody (group d ts us) us (role.delimiter ∷ rs ++ role.delimiter ∷ [])
 
   -- ## Item: attributes, visibility, a word `struct` or `enum`, a word as name, optional generics, optional `where`, body.
@@ -319,7 +333,7 @@ module _ (allowed : Difference → Bool) where
     -- an Item ends with its body
     none : LeftOver false end
     -- a TupleStruct with `;`
-    semicolon : {q : Row} → isPunct 59 q ≡ true → LeftOver true (leaf q end)
+    semicolon : {q : Row} → isPunct SEMICOLON q ≡ true → LeftOver true (leaf q end)
     without-semicolon : allowed tuple-without-semicolon ≡ true → LeftOver true end
     -- with its WhereClause: `where`, then a run to the end, whose last token alone is `;`
     clause : {q : Row} {us : Trees} {rs : List ℕ}

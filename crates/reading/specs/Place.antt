@@ -2,6 +2,8 @@
 use mathlib.Core.Bool.{Bool, cond, _||_}
 use mathlib.Core.List.{List}
 use Prim.Native.Nat.{ℕ, zero, suc, _+_}
+use Rattle.token_list.specs.Byte.{QUOTE}
+use Rattle.token_list.specs.Layout.{FIRST-ROW}
 use Rattle.token_list.specs.Row.{Row}
 use Rattle.token_list.specs.Stream.{Trees, end, leaf, group, at}
 use Rattle.reading.specs.Role as role
@@ -25,7 +27,7 @@ startAt x = beyond visibility (beyond attributes x)
 
 -- the first row of a list
 abbrev pub start : List ℕ → Point
-start s = record { row = 0; stream = at s 10 .here }
+start s = record { row = 0; stream = at s FIRST-ROW .here }
 
 -- the inside of a group that stands at a point
 abbrev pub insideOf : ℕ → Trees → Point
@@ -50,7 +52,7 @@ bodyAt x = beyond clause (beyond generics (genericsAt x))
 -- ## A parameter: its name stands past its `'` or `const`
 
 abbrev pub marksName : Row → Bool
-marksName r = isPunct 39 r || isWord CONST r
+marksName r = isPunct QUOTE r || isWord CONST r
 
 abbrev pub parameterNameRow : Point → ℕ
 parameterNameRow x = cond (starts marksName (x .stream)) (x .row + 1) (x .row)

@@ -5,6 +5,9 @@ use mathlib.Core.List.{List, [], _∷_, _++_}
 use Prim.Native.Nat.{ℕ, zero, suc, _+_, _-_, _*_}
 use lib.Dec.{leb, eqb}
 use lib.ListN.{length, replicate}
+use Rattle.token_list.specs.Byte.{HASH, QUOTE, COMMA, MINUS, COLON, SEMICOLON, LESS, EQUALS, GREATER}
+use Rattle.token_list.specs.Byte.{PARENTHESIS, BRACKET, BRACE}
+use Rattle.token_list.specs.Layout.{PUNCT}
 use Rattle.token_list.specs.Text.{same, all, digit, member}
 use Rattle.token_list.specs.Row.{Row, first}
 use Rattle.token_list.specs.Check.{END}
@@ -52,17 +55,18 @@ pub data Verdict : Type 0 where
 -- rules 1, 2, 3, 4 and 6, for < > , and -
 abbrev pub judgePunct : Stops → ℕ → Bool → ℕ → Verdict
 judgePunct st depth minus b =
-    cond (minus && eqb b 62) (belongs depth false)
-    (cond (eqb b 60) (belongs (depth + 1) false)
-    (cond (eqb b 62) (cond (eqb depth 0) (cond (st .angle) (ends atAngle) unopened) (belongs (depth - 1) false))
-    (cond (eqb b 44 && (eqb depth 0 && st .comma)) (ends atComma) (belongs depth (eqb b 45)))))
+    cond (minus && eqb b GREATER) (belongs depth false)
+    (cond (eqb b LESS) (belongs (depth + 1) false)
+    (cond (eqb b GREATER) (cond (eqb depth 0) (cond (st .angle) (ends atAngle) unopened) (belongs (depth - 1) false))
+    (cond (eqb b COMMA && (eqb depth 0 && st .comma)) (ends atComma) (belongs depth (eqb b MINUS)))))
 
 abbrev pub judge : Stops → ℕ → Bool → Row → Verdict
-judge st depth minus r = cond (eqb (r .kind) 112) (judgePunct st depth minus (first (r .text))) (belongs depth false)
+judge st depth minus r = cond (eqb (r .kind) PUNCT) (judgePunct st depth minus (first (r .text))) (belongs depth false)
 
 -- rules 5 and 6, for { and (
 abbrev pub judgeGroup : Stops → ℕ → ℕ → Verdict
-judgeGroup st depth d = cond (eqb depth 0 && (st .group && (eqb d 123 || eqb d 40))) (ends atGroup) (belongs depth false)
+judgeGroup st depth d =
+    cond (eqb depth 0 && (st .group && (eqb d BRACE || eqb d PARENTHESIS))) (ends atGroup) (belongs depth false)
 
 abbrev pub judged : Verdict → (ℕ → Bool → Took Ending) → Trees → ℕ → Took Ending
 judged (belongs depth minus) go ts row = go depth minus
@@ -97,28 +101,32 @@ abbrev pub runIf : Bool → Stops → ℕ → Reader Trees
 runIf true st r = run st r
 runIf false st r = pure end
 
--- ## Attributes (parse/attributes.rs; OuterAttribute): `#` is 35, `[` is 91
+-- ## Attributes (parse/attributes.rs; OuterAttribute)
 
 abbrev mutual
   pub attributes : Reader (Unit {0})
   attributes row end = took tt [] end
   attributes row (group d ts us) = took tt [] (group d ts us)
-  attributes row (leaf r us) = cond (isPunct 35 r) (marked row us) (took tt [] (leaf r us))
+  attributes row (leaf r us) = cond (isPunct HASH r) (marked row us) (took tt [] (leaf r us))
 
   -- after a `#` in the row given
   pub marked : ℕ → Trees → Took (Unit {0})
   marked row end = refuse 13 END
   marked row (group d ts us) =
-      cond (eqb d 91) (onward (role.attribute-mark ∷ copied role.attribute-group ts) (attributes (row + 1 + whole ts) us)) (refuse 12 (row + 1))
-  marked row (leaf r us) = cond (isPunct 35 r) (onward (role.idle-mark ∷ []) (marked (row + 1) us)) (refuse 13 (row + 1))
+      cond (eqb d BRACKET)
+      (onward (role.attribute-mark ∷ copied role.attribute-group ts) (attributes (row + 1 + whole ts) us))
+      (refuse 12 (row + 1))
+  marked row (leaf r us) =
+      cond (isPunct HASH r) (onward (role.idle-mark ∷ []) (marked (row + 1) us)) (refuse 13 (row + 1))
 
--- ## Visibility (parse/visibility.rs; Visibility): `(` is 40
+-- ## Visibility (parse/visibility.rs; Visibility)
 
 -- the group after a plain `pub`, and after a wrapped one
 abbrev pub scopeAfter : Reader (Unit {0})
 scopeAfter row end = took tt [] end
 scopeAfter row (leaf r us) = took tt [] (leaf r us)
-scopeAfter row (group d ts us) = cond (eqb d 40 && scoped ts) (took tt (copied role.scope ts) us) (took tt [] (group d ts us))
+scopeAfter row (group d ts us) =
+    cond (eqb d PARENTHESIS && scoped ts) (took tt (copied role.scope ts) us) (took tt [] (group d ts us))
 
 abbrev pub anyScope : Reader (Unit {0})
 anyScope row end = took tt [] end
@@ -154,7 +162,7 @@ dataType = do
   n ← named! v
   pure (record { kind = k; name = n })
 
--- ## Generics (parse/generics.rs; GenericParams): ' : = < > , are 39, 58, 61, 60, 62 and 44
+-- ## Generics (parse/generics.rs; GenericParams)
 
 -- an ident as a parameter's name, or a refusal: n at what stands there, or at p where nothing does
 abbrev pub parameterName : ℕ → ℕ → Reader (List ℕ)
@@ -172,23 +180,23 @@ marked-run b = do
 abbrev pub lifetimeAfter : ℕ → Reader Parameter
 lifetimeAfter quote = do
   n ← parameterName 24 quote
-  b ← marked-run 58
+  b ← marked-run COLON
   pure (lifetime n b)
 
 abbrev pub constantAfter : Reader Parameter
 constantAfter = do
   n ← parameterName 27 END
-  t ← marked-run 58
+  t ← marked-run COLON
   pure (constant n t)
 
 -- `:` and bounds, or `=` and a default
 abbrev pub typeRuns : List ℕ → Bool → Reader Parameter
 typeRuns n true = run parameterStops role.bound >>= λ b. pure (type n b end)
-typeRuns n false = marked-run 61 >>= λ d. pure (type n end d)
+typeRuns n false = marked-run EQUALS >>= λ d. pure (type n end d)
 
 abbrev pub typeAfter : List ℕ → Reader Parameter
 typeAfter n = do
-  t ← punctIf 58 role.separator
+  t ← punctIf COLON role.separator
   typeRuns n t
 
 -- a parameter with the `,` that may follow, or nothing at the `>`
@@ -197,7 +205,7 @@ pub data Maybe (A : Type 0) : Type 0 where
   one : A → Maybe A
 
 abbrev pub comma : {A : Type 0} → A → Reader (Maybe A)
-comma a = punctIf 44 role.separator >>= λ t. pure (one a)
+comma a = punctIf COMMA role.separator >>= λ t. pure (one a)
 
 -- the first row of a parameter is taken with the role r
 abbrev pub from : {A : Type 0} → ℕ → ℕ → Trees → Reader A → Took A
@@ -208,8 +216,8 @@ abbrev pub parameter : ℕ → Reader (Maybe Parameter)
 parameter angle row end = refuse 14 angle
 parameter angle row (group d ts us) = refuse 14 row
 parameter angle row (leaf r us) =
-    cond (isPunct 39 r) (from role.parameter-name row us (lifetimeAfter row >>= comma))
-    (cond (isPunct 62 r) (took done (role.angle ∷ []) us)
+    cond (isPunct QUOTE r) (from role.parameter-name row us (lifetimeAfter row >>= comma))
+    (cond (isPunct GREATER r) (took done (role.angle ∷ []) us)
     (cond (isWord CONST r) (from role.parameter-name row us (constantAfter >>= comma))
     (cond (isIdent r) (from role.parameter-name row us (typeAfter (r .text) >>= comma)) (refuse 14 row))))
 
@@ -235,7 +243,8 @@ genericsAfter angle = every (parameter angle) >>= λ ps. pure (angled ps)
 abbrev pub generics : Reader Generics
 generics row end = took without [] end
 generics row (group d ts us) = took without [] (group d ts us)
-generics row (leaf r us) = cond (isPunct 60 r) (from role.angle row us (genericsAfter row)) (took without [] (leaf r us))
+generics row (leaf r us) =
+    cond (isPunct LESS r) (from role.angle row us (genericsAfter row)) (took without [] (leaf r us))
 
 -- ## The where clause (GenericConstraints; WhereClause)
 
@@ -244,7 +253,7 @@ clause row end = took end [] end
 clause row (group d ts us) = took end [] (group d ts us)
 clause row (leaf r us) = cond (isWord WHERE r) (from role.where-word row us (run clauseStops role.where-run)) (took end [] (leaf r us))
 
--- ## Bodies (parse/body.rs; StructFields, TupleFields, EnumItems): { ( ; are 123, 40 and 59
+-- ## Bodies (parse/body.rs; StructFields, TupleFields, EnumItems)
 
 -- the inside of a group, between its delimiters
 abbrev pub closing : {A : Type 0} → Trees → Took A → Took A
@@ -261,7 +270,7 @@ must n false = wrong n
 -- `:`, the type's run and the `,` that may follow
 abbrev pub fieldAfter : List ℕ → Reader (Maybe Field)
 fieldAfter n = do
-  t ← punctIf 58 role.separator
+  t ← punctIf COLON role.separator
   u ← must 23 t
   f ← run fieldStops role.type
   comma (record { name = n; type = f })
@@ -301,7 +310,8 @@ abbrev pub variantFields : Reader Fields
 variantFields row end = took unit [] end
 variantFields row (leaf r us) = took unit [] (leaf r us)
 variantFields row (group d ts us) =
-    cond (eqb d 123) (enclosed namedFields row ts us) (cond (eqb d 40) (enclosed tupleFields row ts us) (refuse 19 row))
+    cond (eqb d BRACE) (enclosed namedFields row ts us)
+    (cond (eqb d PARENTHESIS) (enclosed tupleFields row ts us) (refuse 19 row))
 
 -- after `-`
 abbrev pub negativeValue : Reader Value
@@ -310,19 +320,20 @@ negativeValue row (group d ts us) = refuse 21 row
 negativeValue row (leaf r us) =
     cond (isLiteral r) (cond (negatable (r .text)) (took (negative (worth (r .text))) (role.value ∷ []) us) (refuse 26 row)) (refuse 21 row)
 
--- EnumItemDiscriminant, after `=`: `-` is 45
+-- EnumItemDiscriminant, after `=`
 abbrev pub discriminant : Reader Value
 discriminant row end = refuse 21 END
 discriminant row (group d ts us) = refuse 21 row
 discriminant row (leaf r us) =
     cond (isLiteral r) (took (literal (r .text)) (role.value ∷ []) us)
-    (cond (isPunct 45 r) (from role.value row us negativeValue) (refuse 21 row))
+    (cond (isPunct MINUS r) (from role.value row us negativeValue) (refuse 21 row))
 
 abbrev pub valueIf : Reader Value
 valueIf row end = took absent [] end
 valueIf row (group d ts us) = refuse 20 row
 valueIf row (leaf r us) =
-    cond (isPunct 61 r) (from role.separator row us discriminant) (cond (isPunct 44 r) (took absent [] (leaf r us)) (refuse 20 row))
+    cond (isPunct EQUALS r) (from role.separator row us discriminant)
+    (cond (isPunct COMMA r) (took absent [] (leaf r us)) (refuse 20 row))
 
 -- EnumItem
 abbrev pub variantHere : Reader (Maybe Variant)
@@ -347,13 +358,14 @@ structFields m = m >>= λ f. pure (fields f)
 
 abbrev pub structBody : Reader Body
 structBody row end = refuse 16 END
-structBody row (leaf r us) = cond (isPunct 59 r) (took (fields unit) (role.delimiter ∷ []) us) (refuse 16 row)
+structBody row (leaf r us) = cond (isPunct SEMICOLON r) (took (fields unit) (role.delimiter ∷ []) us) (refuse 16 row)
 structBody row (group d ts us) =
-    cond (eqb d 123) (enclosed (structFields namedFields) row ts us) (cond (eqb d 40) (enclosed (structFields tupleFields) row ts us) (refuse 17 row))
+    cond (eqb d BRACE) (enclosed (structFields namedFields) row ts us)
+    (cond (eqb d PARENTHESIS) (enclosed (structFields tupleFields) row ts us) (refuse 17 row))
 
 abbrev pub enumBody : Reader Body
 enumBody row end = refuse 18 END
-enumBody row (leaf r us) = cond (isPunct 59 r) (took (variants []) (role.delimiter ∷ []) us) (refuse 18 row)
+enumBody row (leaf r us) = cond (isPunct SEMICOLON r) (took (variants []) (role.delimiter ∷ []) us) (refuse 18 row)
 enumBody row (group d ts us) = enclosed enumVariants row ts us
 
 -- ## The item (parse/mod.rs; Struct and Enumeration)

@@ -59,3 +59,11 @@ field-name = 17
 
 abbrev pub type : ℕ
 type = 18
+
+-- how many roles there are
+abbrev pub count : ℕ
+count = 19
+
+-- a byte of the role buffer that holds no role: past the rows, and everywhere after a refusal
+abbrev pub none : ℕ
+none = 255

@@ -1,7 +1,8 @@
 -- What stands in the group of a Visibility (Rust Reference 1.63, "Visibility and Privacy" and "Simple Paths"). `::` is
--- two rows; `:` is 58.
+-- two rows.
 use mathlib.Core.Bool.{Bool, true, false, not, _&&_, _||_}
 use mathlib.Core.List.{[], _∷_}
+use Rattle.token_list.specs.Byte.{COLON}
 use Rattle.token_list.specs.Row.{Row}
 use Rattle.token_list.specs.Stream.{Trees, end, leaf, group}
 use Rattle.reading.specs.Bytes.{bytes}
@@ -26,13 +27,13 @@ abbrev mutual
   -- (`::` SimplePathSegment)*
   pub further : Trees → Bool
   further end = true
-  further (leaf q us) = isPunct 58 q && second us
+  further (leaf q us) = isPunct COLON q && second us
   further (group d ts us) = false
 
   -- the second `:`
   pub second : Trees → Bool
   second end = false
-  second (leaf q us) = isPunct 58 q && segments us
+  second (leaf q us) = isPunct COLON q && segments us
   second (group d ts us) = false
 
 -- SimplePath: `::`? SimplePathSegment (`::` SimplePathSegment)*

@@ -4,6 +4,8 @@ use mathlib.Core.List.{List, [], _∷_}
 use Prim.Native.Nat.{ℕ, _+_, _-_, _*_}
 use lib.Dec.{leb, eqb}
 use lib.ListN.{replicate}
+use Rattle.token_list.specs.Byte.{ZERO}
+use Rattle.token_list.specs.Layout.{IDENT, LITERAL, PUNCT}
 use Rattle.token_list.specs.Text.{same, all, digit}
 use Rattle.token_list.specs.Row.{Row, first}
 use Rattle.token_list.specs.Stream.{Trees, end, leaf, group, size}
@@ -12,13 +14,13 @@ use Rattle.reading.specs.Bytes.{bytes}
 -- ## One token
 
 abbrev pub isIdent : Row → Bool
-isIdent r = eqb (r .kind) 105
+isIdent r = eqb (r .kind) IDENT
 
 abbrev pub isLiteral : Row → Bool
-isLiteral r = eqb (r .kind) 108
+isLiteral r = eqb (r .kind) LITERAL
 
 abbrev pub isPunct : ℕ → Row → Bool
-isPunct b r = eqb (r .kind) 112 && eqb (first (r .text)) b
+isPunct b r = eqb (r .kind) PUNCT && eqb (first (r .text)) b
 
 abbrev pub isWord : List ℕ → Row → Bool
 isWord t r = isIdent r && same (r .text) t
@@ -97,14 +99,18 @@ lone p (leaf r (group d ts us)) = false
 -- the worth of decimal digits
 abbrev pub worthFrom : ℕ → List ℕ → ℕ
 worthFrom n [] = n
-worthFrom n (b ∷ bs) = worthFrom (n * 10 + (b - 48)) bs
+worthFrom n (b ∷ bs) = worthFrom (n * 10 + (b - ZERO)) bs
 
 abbrev pub worth : List ℕ → ℕ
 worth t = worthFrom 0 t
 
+-- the largest i64
+abbrev pub MAX-I64 : ℕ
+MAX-I64 = 9223372036854775807
+
 -- digits alone, worth at most the largest i64
 unfoldable pub negatable : List ℕ → Bool
-negatable t = all digit t && leb (worth t) 9223372036854775807
+negatable t = all digit t && leb (worth t) MAX-I64
 
 -- ## The stops of runs: `,`, `>`, and `{` with `(`
 

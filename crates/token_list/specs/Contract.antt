@@ -78,7 +78,8 @@ pub record Shaped (s : List ℕ) (at : ℕ) (r : Line) : Type 0 where
 pub record TokenLine (s : List ℕ) (names : Bool) (start : ℕ) (r : Line) : Type 0 where
   pub told : (shape (r .shape) ≡ wrong → ⊥) → shape (r .shape) ≡ plain
   pub whole : (shape (r .shape) ≡ wrong → ⊥)
-      → (e : ℕ) × TextEnd s names start e × (e < length s) × (getD s e 0 ≡ LF) × (e - start ≤ MAX-TEXT) × (r .next ≡ e + 1)
+      → (e : ℕ) × TextEnd s names start e × (e < length s) × (getD s e 0 ≡ LF) × (e - start ≤ MAX-TEXT)
+      × (r .next ≡ e + 1)
 
 -- the same as Shaped, where the form is told
 abbrev pub ShapedUnlessWrong : List ℕ → ℕ → Line → Type 0
@@ -196,7 +197,8 @@ closedIn s at (Stopped r) = Unit
 
 -- how the rows of a level from c on end, `levels` of MAX-DEPTH being free
 pub record Walked (s : List ℕ) (c : Cursor) (levels : ℕ) (r : LevelEnd) : Type 0 where
-  pub right : (gs : List Open) → length gs + levels ≡ MAX-DEPTH → walk (c .row) gs (lines (drop (c .at) s)) ≡ resumed s gs r
+  pub right : (gs : List Open) → length gs + levels ≡ MAX-DEPTH
+      → walk (c .row) gs (lines (drop (c .at) s)) ≡ resumed s gs r
   pub past : closedIn s (c .at) r
 
 -- A list that passes the check with n rows: its line of names, then the lines of its rows, which nest; no group is open at

@@ -29,7 +29,8 @@ others (t ∷ ts) = ts
 
 unfoldable pub before : Row → Streams → Streams
 before r s =
-    cond (eqb (r .kind) OPEN) (record { here = group (first (r .text)) (s .here) (head (s .outer)); outer = others (s .outer) })
+    cond (eqb (r .kind) OPEN)
+    (record { here = group (first (r .text)) (s .here) (head (s .outer)); outer = others (s .outer) })
     (cond (eqb (r .kind) CLOSE) (record { here = end; outer = s .here ∷ s .outer })
     (record { here = leaf r (s .here); outer = s .outer }))
 
