@@ -5,6 +5,8 @@ use mathlib.Core.List.{List, [], _∷_, _++_}
 use Prim.Native.Nat.{ℕ, _+_, _≤_, _<_}
 use lib.ListN.{length}
 use lib.Seq.{slice, sets}
+use Rattle.token_list.specs.Byte.{COMMA, COLON}
+use Rattle.token_list.specs.Layout.{IDENT}
 use Rattle.token_list.specs.Stream.{Trees, head, at, rowStart}
 use Rattle.token_list.specs.Place.{OneRefusal}
 use Rattle.token_list.specs.Contract.{InList, TokenAt, Skipped}
@@ -166,7 +168,8 @@ ranShown (rans.Refused r) v = ⊥
 abbrev pub loneShown : List ℕ → Cursor → MaybeWord → Type 0
 loneShown s c words.Missing = reading.lone reading.isIdent (stream s c) ≡ false
 loneShown s c (words.Found w) =
-    (reading.lone reading.isIdent (stream s c) ≡ true) × TextOf s (w .token) (reading.textOf (stream s c)) × (w .token .kind ≡ 105) × (w .row ≡ c .row) × Skipped s c (w .next)
+    (reading.lone reading.isIdent (stream s c) ≡ true) × TextOf s (w .token) (reading.textOf (stream s c))
+    × (w .token .kind ≡ IDENT) × (w .row ≡ c .row) × Skipped s c (w .next)
     × TokenIn s (c .row) (w .token)
 
 -- a part was taken between c and d, and the reading goes on there
@@ -268,7 +271,10 @@ parameterMade true n b = declaration.lifetime n b
 parameterMade false n b = declaration.constant n b
 
 abbrev pub namedParameter : ℕ → ℕ → Bool → Reader (reading.Maybe declaration.Parameter)
-namedParameter n p l = reading.parameterName n p >>= (λ x. (reading.marked-run 58 >>= λ b. pure (parameterMade l x b))) >>= reading.comma
+namedParameter n p l =
+    reading.parameterName n p
+    >>= (λ x. (reading.marked-run COLON >>= λ b. pure (parameterMade l x b)))
+    >>= reading.comma
 
 abbrev pub afterQuote : ℕ → Reader (reading.Maybe declaration.Parameter)
 afterQuote quote = reading.lifetimeAfter quote >>= reading.comma
@@ -300,7 +306,7 @@ fieldPrefix = reading.attributes >>= λ a. reading.visibility
 
 -- a type's run, and the `,` that may follow
 abbrev pub fieldType : Reader Trees
-fieldType = reading.run reading.fieldStops role.type >>= λ t. (reading.punctIf 44 role.separator >>= λ u. pure t)
+fieldType = reading.run reading.fieldStops role.type >>= λ t. (reading.punctIf COMMA role.separator >>= λ u. pure t)
 
 -- the field of this name
 abbrev pub FieldNamed : List ℕ → reading.Maybe declaration.Field → Type 0
@@ -387,7 +393,7 @@ nameShown s c (nameSteps.Refused r) v = ⊥
 
 -- a variant's value, and the `,` that may follow
 abbrev pub variantValue : Reader declaration.Value
-variantValue = reading.valueIf >>= λ v. (reading.punctIf 44 role.separator >>= λ u. pure v)
+variantValue = reading.valueIf >>= λ v. (reading.punctIf COMMA role.separator >>= λ u. pure v)
 
 pub record VariantOf (s : List ℕ) (p : VariantAt) (a : declaration.Variant) : Type 0 where
   pub name : TextOf s (p .name) (a .name)

@@ -1,4 +1,5 @@
 // Attributes (virtue's parse/attributes.rs).
+use crate::role;
 use crate::utils::Step;
 use crate::utils::is_punct;
 use crate::utils::mark;
@@ -59,7 +60,7 @@ fn marked_attribute(s: &[u8], c: Cursor, roles: &mut [u8]) -> Marked
                             place: below,
                         });
                     }
-                    mark(roles, row, 3);
+                    mark(roles, row, role::IDLE_MARK);
                     Marked::On(next)
                 }
                 Peeked::Group(g) => {
@@ -69,8 +70,8 @@ fn marked_attribute(s: &[u8], c: Cursor, roles: &mut [u8]) -> Marked
                             place: below,
                         });
                     }
-                    mark(roles, row, 1);
-                    let after = take_group(s, next, g, roles, 2);
+                    mark(roles, row, role::ATTRIBUTE_MARK);
+                    let after = take_group(s, next, g, roles, role::ATTRIBUTE_GROUP);
                     Marked::On(after)
                 }
             }

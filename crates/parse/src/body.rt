@@ -1,6 +1,7 @@
 // Bodies (virtue's parse/body.rs).
 use crate::attributes;
 use crate::generics::Counted;
+use crate::role;
 use crate::utils::MaybeWord;
 use crate::utils::Ran;
 use crate::utils::Step;
@@ -30,6 +31,7 @@ ghost use lib.ListN.{length, set};
 ghost use lib.Seq.{slice};
 ghost use Rattle.token_list.specs.Stream.{at, follows};
 ghost use Rattle.token_list.specs.Contract.{InList, GroupAt, Skipped};
+ghost use Rattle.reading.specs.Role.{delimiter};
 ghost use Rattle.reading.specs.Reading.{every, fieldAfter, namedField, tupleType, tupleField, variantFields, negatable, negativeValue, discriminant, valueIf, variantHere, variant, structBody, enumBody};
 ghost use Rattle.reading.specs.Place.{variantName, literalRow};
 ghost use Rattle.parse.specs.Contract.{Meets, any, stream, stepSaid, fieldPrefix, fieldType, FieldNamed, fieldShown, fieldSaid, typeShown, typeSaid, countShown, countSaid, Inside, fieldsShown, fieldsSaid, valueShown, valueSaid, nameShown, nameSaid, variantValue, variantShown, variantSaid, bodyShown};
@@ -116,11 +118,11 @@ fn field_type(s: &[u8], c: Cursor, roles: &mut [u8]) -> Step
             angle: false,
             group: false,
         },
-        18,
+        role::TYPE,
     ) {
         Ran::Refused(r) => Step::Refused(r),
         Ran::At(d, _) => {
-            let p = consume_punct_if(s, d, roles, b',', 10);
+            let p = consume_punct_if(s, d, roles, b',', role::SEPARATOR);
             let next = p.next;
             Step::At(next)
         }
@@ -132,7 +134,7 @@ fn field_after(s: &[u8], c: Cursor, roles: &mut [u8]) -> Step
     requires { ⌜ InList (now s) c ⌝ }
     ensures { λ r. ⌜ ((n : List ℕ) → Meets (now (s .entry)) c (now (roles .entry)) (now (roles .exit)) (FieldNamed n) (stepSaid r) (fieldAfter n (c .row) (stream (now (s .entry)) c))) ⌝ }
 {
-    let p = consume_punct_if(s, c, roles, b':', 10);
+    let p = consume_punct_if(s, c, roles, b':', role::SEPARATOR);
     let next = p.next;
     if !p.taken {
         return Step::Refused(wrong_token(s, next, 23));
@@ -162,7 +164,7 @@ pub fn named_field(s: &[u8], c: Cursor, roles: &mut [u8]) -> FieldStep
                             place: row,
                         });
                     }
-                    let next = take_token(s, d, t, roles, 17);
+                    let next = take_token(s, d, t, roles, role::FIELD_NAME);
                     match field_after(s, next, roles) {
                         Step::Refused(r) => FieldStep::Refused(r),
                         Step::At(e) => FieldStep::One(FieldAt { name: t, next: e }),
@@ -249,10 +251,10 @@ fn close_group(s: &[u8], c: Cursor, roles: &mut [u8]) -> Cursor
     requires { ⌜ InList (now s) c ⌝ }
     requires { ⌜ follows (at (now s) (c .at) .outer) ≡ true ⌝ }
     ensures { λ r. ⌜ Skipped (now (s .entry)) c r ⌝ }
-    ensures { λ _. ⌜ now (roles .exit) ≡ set (now (roles .entry)) (c .row) 14 ⌝ }
+    ensures { λ _. ⌜ now (roles .exit) ≡ set (now (roles .entry)) (c .row) delimiter ⌝ }
 {
     let row = c.row;
-    mark(roles, row, 14);
+    mark(roles, row, role::DELIMITER);
     skip(s, c)
 }
 
@@ -262,7 +264,7 @@ fn named_group(s: &[u8], c: Cursor, t: Token, roles: &mut [u8]) -> Counted
     requires { ⌜ GroupAt (now s) (c .at) t ⌝ }
     ensures { λ r. ⌜ Meets (now (s .entry)) c (now (roles .entry)) (now (roles .exit)) (countShown r) (countSaid r) (Inside (every namedField) (now (s .entry)) c t) ⌝ }
 {
-    let inside = take_token(s, c, t, roles, 14);
+    let inside = take_token(s, c, t, roles, role::DELIMITER);
     match parse_with_name(s, inside, roles) {
         Counted::Refused(r) => Counted::Refused(r),
         Counted::At(d, count) => {
@@ -278,7 +280,7 @@ fn tuple_group(s: &[u8], c: Cursor, t: Token, roles: &mut [u8]) -> Counted
     requires { ⌜ GroupAt (now s) (c .at) t ⌝ }
     ensures { λ r. ⌜ Meets (now (s .entry)) c (now (roles .entry)) (now (roles .exit)) (countShown r) (countSaid r) (Inside (every tupleField) (now (s .entry)) c t) ⌝ }
 {
-    let inside = take_token(s, c, t, roles, 14);
+    let inside = take_token(s, c, t, roles, role::DELIMITER);
     match parse(s, inside, roles) {
         Counted::Refused(r) => Counted::Refused(r),
         Counted::At(d, count) => {
@@ -294,7 +296,7 @@ fn variants_group(s: &[u8], c: Cursor, t: Token, roles: &mut [u8]) -> Counted
     requires { ⌜ GroupAt (now s) (c .at) t ⌝ }
     ensures { λ r. ⌜ Meets (now (s .entry)) c (now (roles .entry)) (now (roles .exit)) (countShown r) (countSaid r) (Inside (every variant) (now (s .entry)) c t) ⌝ }
 {
-    let inside = take_token(s, c, t, roles, 14);
+    let inside = take_token(s, c, t, roles, role::DELIMITER);
     match variants(s, inside, roles) {
         Counted::Refused(r) => Counted::Refused(r),
         Counted::At(d, count) => {
@@ -336,6 +338,11 @@ fn variant_fields(s: &[u8], c: Cursor, roles: &mut [u8]) -> FieldsStep
     }
 }
 
+// The largest i64, and a tenth of it: a number above that has no room for one more digit.
+const MAX_I64: u64 = 9223372036854775807;
+
+const MAX_TENTH: u64 = MAX_I64 / 10;
+
 // Whether the text is digits alone, worth at most the largest i64.
 fn is_negatable(s: &[u8], start: usize, end: usize) -> bool
     requires { ⌜ end ≤ length (now s) ⌝ }
@@ -351,14 +358,14 @@ fn is_negatable(s: &[u8], start: usize, end: usize) -> bool
         if b'9' < b {
             return false;
         }
-        if 922337203685477580 < n {
+        if MAX_TENTH < n {
             return false;
         }
         let digit = (b - b'0') as u64;
         n = n * 10 + digit;
         i += 1;
     }
-    n <= 9223372036854775807
+    n <= MAX_I64
 }
 
 // The literal after a `-`.
@@ -391,7 +398,7 @@ fn negative_value(s: &[u8], c: Cursor, roles: &mut [u8]) -> ValueStep
                     place: row,
                 });
             }
-            let next = take_token(s, c, t, roles, 16);
+            let next = take_token(s, c, t, roles, role::VALUE);
             ValueStep::At(ValueAt::Negative(t), next)
         }
     }
@@ -414,11 +421,11 @@ fn discriminant(s: &[u8], c: Cursor, roles: &mut [u8]) -> ValueStep
         }),
         Peeked::Leaf(t) => {
             if t.kind == b'l' {
-                let next = take_token(s, c, t, roles, 16);
+                let next = take_token(s, c, t, roles, role::VALUE);
                 return ValueStep::At(ValueAt::Literal(t), next);
             }
             if is_punct(t, b'-') {
-                let next = take_token(s, c, t, roles, 16);
+                let next = take_token(s, c, t, roles, role::VALUE);
                 return negative_value(s, next, roles);
             }
             ValueStep::Refused(Refusal {
@@ -443,7 +450,7 @@ fn value_if(s: &[u8], c: Cursor, roles: &mut [u8]) -> ValueStep
         }),
         Peeked::Leaf(t) => {
             if is_punct(t, b'=') {
-                let next = take_token(s, c, t, roles, 10);
+                let next = take_token(s, c, t, roles, role::SEPARATOR);
                 return discriminant(s, next, roles);
             }
             if is_punct(t, b',') {
@@ -469,7 +476,7 @@ fn variant_name(s: &[u8], c: Cursor, roles: &mut [u8]) -> NameStep
 {
     match attributes::try_take(s, c, roles) {
         Step::Refused(r) => NameStep::Refused(r),
-        Step::At(d) => match consume_ident(s, d, roles, 15) {
+        Step::At(d) => match consume_ident(s, d, roles, role::VARIANT_NAME) {
             MaybeWord::Missing => NameStep::Refused(wrong_token(s, d, 11)),
             MaybeWord::Found(w) => {
                 let name = w.token;
@@ -488,7 +495,7 @@ fn variant_value(s: &[u8], c: Cursor, roles: &mut [u8]) -> ValueStep
     match value_if(s, c, roles) {
         ValueStep::Refused(r) => ValueStep::Refused(r),
         ValueStep::At(v, d) => {
-            let p = consume_punct_if(s, d, roles, b',', 10);
+            let p = consume_punct_if(s, d, roles, b',', role::SEPARATOR);
             let next = p.next;
             ValueStep::At(v, next)
         }
@@ -568,7 +575,7 @@ pub fn take_struct(s: &[u8], c: Cursor, roles: &mut [u8]) -> Counted
                     place: row,
                 });
             }
-            let next = take_token(s, c, t, roles, 14);
+            let next = take_token(s, c, t, roles, role::DELIMITER);
             Counted::At(next, 0)
         }
         Peeked::Group(t) => {
@@ -605,7 +612,7 @@ pub fn take_enum(s: &[u8], c: Cursor, roles: &mut [u8]) -> Counted
                     place: row,
                 });
             }
-            let next = take_token(s, c, t, roles, 14);
+            let next = take_token(s, c, t, roles, role::DELIMITER);
             Counted::At(next, 0)
         }
         Peeked::Group(t) => variants_group(s, c, t, roles),

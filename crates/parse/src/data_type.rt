@@ -1,4 +1,5 @@
 // The item's word and name (virtue's parse/data_type.rs).
+use crate::role;
 use crate::utils::MaybeWord;
 use crate::utils::consume_ident;
 use crate::utils::wrong_token;
@@ -37,7 +38,7 @@ fn item_word(s: &[u8], c: Cursor, roles: &mut [u8]) -> Worded
     requires { ⌜ InList (now s) c ⌝ }
     ensures { λ r. ⌜ Meets (now (s .entry)) c (now (roles .entry)) (now (roles .exit)) (wordedShown r) (wordedSaid r) (itemWord (c .row) (stream (now (s .entry)) c)) ⌝ }
 {
-    match consume_ident(s, c, roles, 6) {
+    match consume_ident(s, c, roles, role::ITEM_WORD) {
         MaybeWord::Missing => Worded::Refused(wrong_token(s, c, 11)),
         MaybeWord::Found(w) => {
             let t = w.token;
@@ -66,7 +67,7 @@ pub fn take(s: &[u8], c: Cursor, roles: &mut [u8]) -> Headed
 {
     match item_word(s, c, roles) {
         Worded::Refused(r) => Headed::Refused(r),
-        Worded::At(kind, d) => match consume_ident(s, d, roles, 7) {
+        Worded::At(kind, d) => match consume_ident(s, d, roles, role::ITEM_NAME) {
             MaybeWord::Missing => Headed::Refused(wrong_token(s, d, 11)),
             MaybeWord::Found(w) => {
                 let name = w.token;

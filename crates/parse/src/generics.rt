@@ -1,4 +1,5 @@
 // Generics and the where clause (virtue's parse/generics.rs, its readers).
+use crate::role;
 use crate::utils::Ran;
 use crate::utils::Step;
 use crate::utils::Stops;
@@ -60,7 +61,7 @@ fn parameter_name(s: &[u8], c: Cursor, roles: &mut [u8], number: u8, or: usize) 
             if t.kind != b'i' {
                 return Named::Refused(Refusal { number, place: row });
             }
-            let next = take_token(s, c, t, roles, 9);
+            let next = take_token(s, c, t, roles, role::PARAMETER_NAME);
             Named::At(t, next)
         }
     }
@@ -80,7 +81,7 @@ fn parameter_run(s: &[u8], c: Cursor, roles: &mut [u8]) -> Step
             angle: true,
             group: false,
         },
-        11,
+        role::BOUND,
     ) {
         Ran::At(d, _) => Step::At(d),
         Ran::Refused(r) => Step::Refused(r),
@@ -92,7 +93,7 @@ fn marked_run(s: &[u8], c: Cursor, roles: &mut [u8], punct: u8) -> Step
     requires { ⌜ InList (now s) c ⌝ }
     ensures { λ r. ⌜ Meets (now (s .entry)) c (now (roles .entry)) (now (roles .exit)) any (stepSaid r) (marked-run punct (c .row) (stream (now (s .entry)) c)) ⌝ }
 {
-    let p = consume_punct_if(s, c, roles, punct, 10);
+    let p = consume_punct_if(s, c, roles, punct, role::SEPARATOR);
     let next = p.next;
     if p.taken {
         return parameter_run(s, next, roles);
@@ -105,7 +106,7 @@ fn finished(s: &[u8], c: Cursor, roles: &mut [u8], lifetime: bool, name: Token) 
     requires { ⌜ InList (now s) c ⌝ }
     ensures { λ r. ⌜ ((a : Parameter) (row : ℕ) → ParameterOf (now (s .entry)) lifetime name a → TokenIn (now (s .entry)) row name → Meets (now (s .entry)) c (now (roles .entry)) (now (roles .exit)) (parameterShown (now (s .entry)) row r) (parameterSaid r) (comma a (c .row) (stream (now (s .entry)) c))) ⌝ }
 {
-    let p = consume_punct_if(s, c, roles, b',', 10);
+    let p = consume_punct_if(s, c, roles, b',', role::SEPARATOR);
     let next = p.next;
     ParameterStep::One(ParameterAt {
         lifetime,
@@ -156,7 +157,7 @@ fn type_runs(s: &[u8], c: Cursor, roles: &mut [u8]) -> Step
     requires { ⌜ InList (now s) c ⌝ }
     ensures { λ r. ⌜ ((n : List ℕ) → Meets (now (s .entry)) c (now (roles .entry)) (now (roles .exit)) (TypeNamed n) (stepSaid r) (typeAfter n (c .row) (stream (now (s .entry)) c))) ⌝ }
 {
-    let p = consume_punct_if(s, c, roles, b':', 10);
+    let p = consume_punct_if(s, c, roles, b':', role::SEPARATOR);
     let next = p.next;
     if p.taken {
         return parameter_run(s, next, roles);
@@ -192,11 +193,11 @@ pub fn parameter(s: &[u8], c: Cursor, roles: &mut [u8], angle: usize) -> Paramet
         }),
         Peeked::Leaf(t) => {
             if is_punct(t, b'\'') {
-                let next = take_token(s, c, t, roles, 9);
+                let next = take_token(s, c, t, roles, role::PARAMETER_NAME);
                 return lifetime(s, next, roles, row);
             }
             if is_punct(t, b'>') {
-                let next = take_token(s, c, t, roles, 8);
+                let next = take_token(s, c, t, roles, role::ANGLE);
                 return ParameterStep::Done(next);
             }
             if t.kind != b'i' {
@@ -205,7 +206,7 @@ pub fn parameter(s: &[u8], c: Cursor, roles: &mut [u8], angle: usize) -> Paramet
                     place: row,
                 });
             }
-            let next = take_token(s, c, t, roles, 9);
+            let next = take_token(s, c, t, roles, role::PARAMETER_NAME);
             if ident_eq(s, t, b"const") {
                 return const_generic(s, next, roles);
             }
@@ -250,7 +251,7 @@ pub fn try_take(s: &[u8], c: Cursor, roles: &mut [u8]) -> Counted
             if !is_punct(t, b'<') {
                 return Counted::At(c, 0);
             }
-            let next = take_token(s, c, t, roles, 8);
+            let next = take_token(s, c, t, roles, role::ANGLE);
             parameters(s, next, roles, row)
         }
     }
@@ -268,7 +269,7 @@ pub fn try_take_constraints(s: &[u8], c: Cursor, roles: &mut [u8]) -> Step
             if !ident_eq(s, t, b"where") {
                 return Step::At(c);
             }
-            let next = take_token(s, c, t, roles, 12);
+            let next = take_token(s, c, t, roles, role::WHERE_WORD);
             match read_tokens_until_punct(
                 s,
                 next,
@@ -278,7 +279,7 @@ pub fn try_take_constraints(s: &[u8], c: Cursor, roles: &mut [u8]) -> Step
                     angle: false,
                     group: true,
                 },
-                13,
+                role::WHERE_RUN,
             ) {
                 Ran::At(d, _) => Step::At(d),
                 Ran::Refused(r) => Step::Refused(r),

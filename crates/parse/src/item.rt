@@ -7,6 +7,7 @@ use crate::data_type::DataType;
 use crate::data_type::Headed;
 use crate::generics;
 use crate::generics::Counted;
+use crate::role;
 use crate::utils::Step;
 use crate::utils::fill;
 use crate::visibility;
@@ -15,6 +16,7 @@ use token_list::check::Cursor;
 use token_list::check::END;
 use token_list::check::Refusal;
 use token_list::check::check;
+use token_list::layout::FIRST_ROW;
 use token_list::stream::Token;
 ghost use mathlib.Core.Path.{_≡_};
 ghost use mathlib.Core.List.{List};
@@ -23,6 +25,7 @@ ghost use lib.ListN.{length, replicate};
 ghost use lib.Seq.{sets};
 ghost use Rattle.token_list.specs.Check as list;
 ghost use Rattle.token_list.specs.Contract.{InList};
+ghost use Rattle.reading.specs.Role as role;
 ghost use Rattle.reading.specs.Reading.{item, bodyOf};
 ghost use Rattle.reading.specs.Promise.{SingleAssignment};
 ghost use Rattle.parse.specs.Contract.{Meets, stream, TextOf, bodyShown, countSaid, partsAfter, kindOf, partsShown, itemShown, itemSaid, parsedOf, Answered, accepted};
@@ -119,23 +122,23 @@ fn parsed(i: ItemAt) -> Parse
     }
 }
 
-// A refusal, with 255 in every role byte.
+// A refusal: every role byte is 255, no role.
 fn refuse(roles: &mut [u8], r: Refusal) -> Parse
     ensures { λ p. ⌜ p ≡ Parse.Refused r ⌝ }
-    ensures { λ _. ⌜ now (roles .exit) ≡ replicate (length (now (roles .entry))) 255 ⌝ }
+    ensures { λ _. ⌜ now (roles .exit) ≡ replicate (length (now (roles .entry))) role.none ⌝ }
 {
     let len = roles.len();
-    fill(roles, 0, len, 255);
+    fill(roles, 0, len, role::NONE);
     Parse::Refused(r)
 }
 
-// After an item that ended before the row `end`: 0 for the rows left over, then 255.
+// After an item that ended before the row `end`: 0 for the rows left over, then no role.
 fn leave(roles: &mut [u8], end: usize, rows: usize)
-    ensures { λ _. ⌜ now (roles .exit) ≡ sets (sets (now (roles .entry)) end (replicate (rows - end) 0)) rows (replicate (length (now (roles .entry)) - rows) 255) ⌝ }
+    ensures { λ _. ⌜ now (roles .exit) ≡ sets (sets (now (roles .entry)) end (replicate (rows - end) role.left-over)) rows (replicate (length (now (roles .entry)) - rows) role.none) ⌝ }
 {
-    fill(roles, end, rows, 0);
+    fill(roles, end, rows, role::LEFT_OVER);
     let len = roles.len();
-    fill(roles, rows, len, 255);
+    fill(roles, rows, len, role::NONE);
 }
 
 // Reads a list that passed the check with so many rows, with a role byte for each.
@@ -144,7 +147,11 @@ fn read(s: &[u8], roles: &mut [u8], rows: usize) -> Parse
     requires { ⌜ rows ≤ length (now roles) ⌝ }
     ensures { λ r. ⌜ Answered (now (s .entry)) r (now (roles .entry)) (now (roles .exit)) ⌝ }
 {
-    match item(s, Cursor { at: 10, row: 0 }, roles) {
+    let first = Cursor {
+        at: FIRST_ROW,
+        row: 0,
+    };
+    match item(s, first, roles) {
         ItemStep::Refused(r) => refuse(roles, r),
         ItemStep::At(i) => {
             let next = i.next;

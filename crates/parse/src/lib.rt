@@ -5,5 +5,6 @@ pub mod body;
 pub mod data_type;
 pub mod generics;
 pub mod item;
+pub mod role;
 pub mod utils;
 pub mod visibility;

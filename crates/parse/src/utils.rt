@@ -14,6 +14,8 @@ ghost use Prim.Native.Nat.{_+_, _-_, _^_, _≤_, _<_};
 ghost use lib.Dec.{eqb};
 ghost use lib.ListN.{length, set, replicate};
 ghost use lib.Seq.{sets};
+ghost use Rattle.token_list.specs.Byte.{GREATER};
+ghost use Rattle.token_list.specs.Layout.{PUNCT};
 ghost use Rattle.token_list.specs.Stream.{at, head, follows};
 ghost use Rattle.token_list.specs.Contract.{InList, TokenAt, GroupAt, rowOf};
 ghost use Rattle.reading.specs.Took.{placeOf};
@@ -176,7 +178,7 @@ pub fn wrong_token(s: &[u8], c: Cursor, number: u8) -> Refusal
 }
 
 pub fn is_punct(t: Token, b: u8) -> bool
-    ensures { λ r. ⌜ r ≡ (eqb (t .kind) 112 && eqb (t .mark) b) ⌝ }
+    ensures { λ r. ⌜ r ≡ (eqb (t .kind) PUNCT && eqb (t .mark) b) ⌝ }
 {
     if t.kind == b'p' {
         return t.mark == b;
@@ -315,7 +317,7 @@ fn take_punct(s: &[u8], c: Cursor, roles: &mut [u8], punct: u8, role: u8) -> May
 
 // A `>` directly after a `-` of the same run.
 fn check_if_arrow(minus: bool, b: u8) -> bool
-    ensures { λ r. ⌜ r ≡ (minus && eqb b 62) ⌝ }
+    ensures { λ r. ⌜ r ≡ (minus && eqb b GREATER) ⌝ }
 {
     if minus {
         return b == b'>';
@@ -383,7 +385,7 @@ fn judge_group(stops: Stops, depth: usize, d: u8) -> Verdict
 // What a token that is no group is to a run.
 fn judge(stops: Stops, depth: usize, minus: bool, t: Token) -> Verdict
     requires { ⌜ depth + 1 < 2 ^ 64 ⌝ }
-    ensures { λ r. ⌜ verdictOf r ≡ cond (eqb (t .kind) 112) (judgePunct (stopsOf stops) depth minus (t .mark)) (belongs depth false) ⌝ }
+    ensures { λ r. ⌜ verdictOf r ≡ cond (eqb (t .kind) PUNCT) (judgePunct (stopsOf stops) depth minus (t .mark)) (belongs depth false) ⌝ }
 {
     if t.kind == b'p' {
         let b = t.mark;

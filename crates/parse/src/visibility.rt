@@ -1,4 +1,5 @@
 // Visibility (virtue's parse/visibility.rs).
+use crate::role;
 use crate::utils::MaybeWord;
 use crate::utils::ident_eq;
 use crate::utils::lone_ident;
@@ -62,7 +63,7 @@ fn scope_after(s: &[u8], c: Cursor, roles: &mut [u8]) -> Cursor
             if !is_scoped(s, inside) {
                 return c;
             }
-            take_group(s, c, t, roles, 5)
+            take_group(s, c, t, roles, role::SCOPE)
         }
     }
 }
@@ -75,7 +76,7 @@ fn any_scope(s: &[u8], c: Cursor, roles: &mut [u8]) -> Cursor
     match peek(s, c) {
         Peeked::Nothing => c,
         Peeked::Leaf(_) => c,
-        Peeked::Group(t) => take_group(s, c, t, roles, 5),
+        Peeked::Group(t) => take_group(s, c, t, roles, role::SCOPE),
     }
 }
 
@@ -106,7 +107,7 @@ fn take(s: &[u8], c: Cursor, roles: &mut [u8]) -> Cursor
             if !ident_eq(s, t, b"pub") {
                 return c;
             }
-            let next = take_token(s, c, t, roles, 4);
+            let next = take_token(s, c, t, roles, role::VISIBILITY);
             scope_after(s, next, roles)
         }
         Peeked::Group(t) => {
@@ -118,7 +119,7 @@ fn take(s: &[u8], c: Cursor, roles: &mut [u8]) -> Cursor
                     if !ident_eq(s, word, b"pub") {
                         return c;
                     }
-                    let next = take_group(s, c, t, roles, 4);
+                    let next = take_group(s, c, t, roles, role::VISIBILITY);
                     any_scope(s, next, roles)
                 }
             }
