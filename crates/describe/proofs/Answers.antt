@@ -12,9 +12,9 @@ use lib.Dec.{ltb}
 use Rattle.token_list.specs.Place.{OneRefusal}
 use Rattle.token_list.specs.Stream.{Trees, at, rowStart}
 use Rattle.token_list.proofs.Starts.{next-start}
-use Rattle.reading.specs.Answer.{readNumber}
+use Rattle.reading.specs.Answer.{framed, readNumber}
 use Rattle.reading.specs.Place.{start, valueRow}
-use Rattle.reading.proofs.Places.{check-read, short-read, item-read}
+use Rattle.reading.proofs.Places.{short-read, refusals}
 use Rattle.token_list.specs.Contract.{InList}
 use Rattle.token_list.specs.declared.check.Cursor.{Cursor}
 use Rattle.token_list.specs.declared.check.Refusal.{Refusal}
@@ -30,7 +30,7 @@ use Rattle.reading.specs.Reading.{item}
 use Rattle.parse.specs.Contract.{on, no, Meets, stands, refuses}
 use Rattle.parse.specs.declared.body.ValueAt.{ValueAt}
 use Rattle.parse.specs.declared.body.ValueAt.the-variants as valueAts
-use Rattle.describe.specs.Value.{negativeText, Answer, refused, bodyValue, valueAnswer, variantAnswer, itemAnswer, checkedAnswer, answer, scratch, textOf}
+use Rattle.describe.specs.Value.{negativeText, Answer, refused, bodyValue, valueAnswer, variantAnswer, itemAnswer, answer, scratch, textOf}
 use Rattle.describe.specs.Listing as listing
 use Rattle.describe.specs.Contract.{ValueAs, part, textStart, textEnd, placeOf, Placed, listedAs, ListedAs}
 use Rattle.describe.specs.declared.listing.Listed.{Listed}
@@ -106,49 +106,33 @@ pub placed-refused : {s x : List ℕ} {a : Answer} (r : Refusal) → a ≡ refus
 placed-refused {s} {x} r e = record { place = sym (ap (placeOf s) e); text = sym (ap textOf e); range = tt; scratch = sym (ap (scratch x) e) }
 
 module _ (s : List ℕ) (k n : ℕ) where
+  abbrev framedBy : list.Answer → Answer
+  framedBy a = framed refused (λ rows. ltb n 20) (itemAnswer (start s) k) s a
+
   pub value-checked : {m p : ℕ} → list.check s ≡ list.Answer.refused m p → answer s k n ≡ refused m p
   unfolding answer
-  value-checked e = ap (λ (a : list.Answer). checkedAnswer s k n a) e
+  value-checked e = ap framedBy e
 
   pub value-short : {r : ℕ} → list.check s ≡ list.Answer.passed r → n < 20 → answer s k n ≡ refused 8 list.END
   unfolding answer
-  value-short e h = ap (λ (a : list.Answer). checkedAnswer s k n a) e ∙ chosen _ _ _ (lt-ltb n 20 h)
+  value-short e h = ap framedBy e ∙ chosen _ _ _ (lt-ltb n 20 h)
 
   pub value-read : {r : ℕ} → list.check s ≡ list.Answer.passed r → 20 ≤ n → answer s k n ≡ itemAnswer (start s) k (item 0 (at s 10 .here))
   unfolding answer
-  value-read e h = ap (λ (a : list.Answer). checkedAnswer s k n a) e ∙ passed-over _ _ _ (le-ltb n 20 h)
+  value-read e h = ap framedBy e ∙ passed-over _ _ _ (le-ltb n 20 h)
 
   pub value-refusal : (m p : ℕ) → answer s k n ≡ refused m p → OneRefusal readNumber s m p
   unfolding answer
-  value-refusal m p e = go (list.check s) refl e
+  value-refusal = refusals s refused (λ rows. ltb n 20) (itemAnswer (start s) k) (λ n p m o q. ((cc), (cc))) plain
     where
-      told : {r : ℕ} → list.check s ≡ list.Answer.passed r → (t : Took declaration.Declaration) → item 0 (at s 10 .here) ≡ t → itemAnswer (start s) k t ≡ refused m p
-          → OneRefusal readNumber s m p
-      told {r} c (took d rs us) i q = no-refusal (bodyValue k (d .body)) q
-        where
-          no-refusal : {B : Type 0} (v : declaration.Value) → variantAnswer (start s) k v ≡ refused m p → B
-          no-refusal declaration.absent q = let z : _≡_ {A = ℕ} 0 1 = cc in absurd (omega arith)
-          no-refusal (declaration.literal t) q = let z : _≡_ {A = ℕ} 0 1 = cc in absurd (omega arith)
-          no-refusal (declaration.negative n) q = let z : _≡_ {A = ℕ} 0 1 = cc in absurd (omega arith)
-      told {r} c (refuse i o) f q =
-          let number : i ≡ m = cc in
-          let place : o ≡ p = cc in
-          item-read s r m p c (f ∙ (λ j. refuse (number j) (place j)))
+      no-refusal : {B : Type 0} {m p : ℕ} (v : declaration.Value) → variantAnswer (start s) k v ≡ refused m p → B
+      no-refusal declaration.absent q = let z : _≡_ {A = ℕ} 0 1 = cc in absurd (omega arith)
+      no-refusal (declaration.literal t) q = let z : _≡_ {A = ℕ} 0 1 = cc in absurd (omega arith)
+      no-refusal (declaration.negative n) q = let z : _≡_ {A = ℕ} 0 1 = cc in absurd (omega arith)
 
-      fits : {r : ℕ} → list.check s ≡ list.Answer.passed r → (b : Bool) → cond b (refused 8 list.END) (itemAnswer (start s) k (item 0 (at s 10 .here))) ≡ refused m p
-          → OneRefusal readNumber s m p
-      fits c true q =
-          let number : 8 ≡ m = cc in
-          let place : list.END ≡ p = cc in
-          subst (λ (i : ℕ). OneRefusal readNumber s i p) number (subst (OneRefusal readNumber s 8) place (short-read s))
-      fits c false q = told c (item 0 (at s 10 .here)) refl q
-
-      go : (a : list.Answer) → list.check s ≡ a → checkedAnswer s k n a ≡ refused m p → OneRefusal readNumber s m p
-      go (list.Answer.refused i o) c q =
-          let number : i ≡ m = cc in
-          let place : o ≡ p = cc in
-          check-read s m p (c ∙ (λ j. list.Answer.refused (number j) (place j)))
-      go (list.Answer.passed r) c q = fits c (ltb n 20) q
+      plain : (m p : ℕ) (t : Took declaration.Declaration) → itemAnswer (start s) k t ≡ refused m p → t ≡ refuse m p
+      plain m p (took d rs us) q = no-refusal (bodyValue k (d .body)) q
+      plain m p (refuse i o) q = cc
 
 -- ## A listing
 
@@ -175,39 +159,37 @@ pub listed-refused : {x : List ℕ} {r : Refusal} {a : listing.Answer} → liste
 listed-refused e f = record { room = tt; answer = e; output = f }
 
 module _ (s : List ℕ) (n : ℕ) where
+  abbrev fittedBy : list.Answer → listing.Answer
+  fittedBy a = listing.fitted n (framed listing.refused (λ rows. false) listing.itemAnswer s a)
+
   pub listing-checked : {m p : ℕ} → list.check s ≡ list.Answer.refused m p → listing.answer s n ≡ listing.refused m p
   unfolding listing.answer listing.whole
-  listing-checked e = ap (λ (a : list.Answer). listing.fitted n (listing.checkedAnswer s a)) e
+  listing-checked e = ap fittedBy e
 
   pub listing-read : {r : ℕ} → list.check s ≡ list.Answer.passed r → listing.answer s n ≡ listing.fitted n (listing.itemAnswer (item 0 (at s 10 .here)))
   unfolding listing.answer listing.whole
-  listing-read e = ap (λ (a : list.Answer). listing.fitted n (listing.checkedAnswer s a)) e
+  listing-read e = ap fittedBy e
 
   pub listing-refusal : (m p : ℕ) → listing.answer s n ≡ listing.refused m p → OneRefusal readNumber s m p
   unfolding listing.answer listing.whole
-  listing-refusal m p e = go (list.check s) refl e
+  listing-refusal m p e =
+      fits (framed listing.refused (λ rows. false) listing.itemAnswer s (list.check s)) e
+      (refusals s listing.refused (λ rows. false) listing.itemAnswer (λ n p m o q. ((cc), (cc))) plain m p)
     where
-      told : {r : ℕ} → list.check s ≡ list.Answer.passed r → (t : Took declaration.Declaration) → item 0 (at s 10 .here) ≡ t
-          → listing.fitted n (listing.itemAnswer t) ≡ listing.refused m p → OneRefusal readNumber s m p
-      told {r} c (took d rs us) i q = fits (ltb n (length (listing.listing d))) q
-        where
-          fits : (b : Bool) → cond b (listing.refused 8 list.END) (listing.listed (listing.listing d)) ≡ listing.refused m p → OneRefusal readNumber s m p
-          fits true q =
-              let number : 8 ≡ m = cc in
-              let place : list.END ≡ p = cc in
-              subst (λ (i : ℕ). OneRefusal readNumber s i p) number (subst (OneRefusal readNumber s 8) place (short-read s))
-          fits false q = let z : _≡_ {A = ℕ} 0 1 = cc in absurd (omega arith)
-      told {r} c (refuse i o) f q =
-          let number : i ≡ m = cc in
-          let place : o ≡ p = cc in
-          item-read s r m p c (f ∙ (λ j. refuse (number j) (place j)))
+      plain : (m p : ℕ) (t : Took declaration.Declaration) → listing.itemAnswer t ≡ listing.refused m p → t ≡ refuse m p
+      plain m p (took d rs us) q = let z : _≡_ {A = ℕ} 0 1 = cc in absurd (omega arith)
+      plain m p (refuse i o) q = cc
 
-      go : (a : list.Answer) → list.check s ≡ a → listing.fitted n (listing.checkedAnswer s a) ≡ listing.refused m p → OneRefusal readNumber s m p
-      go (list.Answer.refused i o) c q =
-          let number : i ≡ m = cc in
-          let place : o ≡ p = cc in
-          check-read s m p (c ∙ (λ j. list.Answer.refused (number j) (place j)))
-      go (list.Answer.passed r) c q = told c (item 0 (at s 10 .here)) refl q
+      room : (text : List ℕ) (b : Bool) → cond b (listing.refused 8 list.END) (listing.listed text) ≡ listing.refused m p → OneRefusal readNumber s m p
+      room text true q =
+          let number : 8 ≡ m = cc in
+          let place : list.END ≡ p = cc in
+          subst (λ (i : ℕ). OneRefusal readNumber s i p) number (subst (OneRefusal readNumber s 8) place (short-read s))
+      room text false q = let z : _≡_ {A = ℕ} 0 1 = cc in absurd (omega arith)
+
+      fits : (a : listing.Answer) → listing.fitted n a ≡ listing.refused m p → (a ≡ listing.refused m p → OneRefusal readNumber s m p) → OneRefusal readNumber s m p
+      fits (listing.listed text) q k = room text (ltb n (length text)) q
+      fits (listing.refused i o) q k = k q
 
 -- what is written is the text of the answer
 module _ {x y : List ℕ} {a : listing.Answer} where

@@ -1,6 +1,6 @@
 -- No listing is longer than MOST.
 use mathlib.Core.Path.{_≡_, refl, ap, _∙_, sym, subst}
-use mathlib.Core.Bool.{Bool, true, false, cond, true≢false}
+use mathlib.Core.Bool.{Bool, true, false, cond, true≢false, false≢true}
 use mathlib.Core.List.{List, [], _∷_}
 use Prim.Native.Nat.{ℕ, _+_, _*_, _≤_, _<_}
 use native.Mathlib.Omega.{arith}
@@ -21,8 +21,9 @@ use Rattle.output.proofs.Texts.{decimal-within}
 use Rattle.reading.specs.Declaration.{Kind, struct, enum, Fields, unit, named, tuple, Value, absent, literal, negative, Body, fields, variants, Declaration, parametersOf, bodyCount}
 use Rattle.reading.specs.Took.{Took, took, refuse}
 use Rattle.reading.specs.Reading.{item}
+use Rattle.reading.proofs.Frame.{framed-cases}
 use Rattle.reading.proofs.Conserved.{Conserved, ownNumber, refusal-number, item-conserving}
-use Rattle.describe.specs.Listing.{line, numbered, parameterLine, namedLine, tupleLine, fieldLines, number, variantLines, bodyLines, kindText, listing, Answer, listed, refused, itemAnswer, checkedAnswer, whole, fitted, answer, answerText, MOST, Fits}
+use Rattle.describe.specs.Listing.{line, numbered, parameterLine, namedLine, tupleLine, fieldLines, number, variantLines, bodyLines, kindText, listing, Answer, listed, refused, itemAnswer, whole, fitted, answer, answerText, MOST, Fits}
 use Rattle.describe.specs.Contract.{ListedAs, Reported}
 use Rattle.describe.specs.declared.listing.Listed.the-variants as listeds
 use Rattle.describe.proofs.Costs.{total, parameterCost, fieldCost, typeCost, fieldsCost, valueCost, variantCost, bodyCost, itemCost, item-cost}
@@ -124,13 +125,12 @@ module _ (s : List ℕ) where
   by-item e (refuse n p) f = λ q. true≢false
       (sym (refusal-number (subst (Conserved (at s 10 .here)) f (item-conserving 0 (at s 10 .here)))) ∙ ap ownNumber q)
 
-  by-check : (a : list.Answer) → list.check s ≡ a → Right (checkedAnswer s a)
-  by-check (list.Answer.passed n) e = by-item e (item 0 (at s 10 .here)) refl
-  by-check (list.Answer.refused n p) e = λ q. omega (arith, leb-true n 7 (and-parts (leb 1 n) (leb n 7) (bounds.check-refusal s n p e .one) .1))
-
   right : Right (whole s)
   unfolding whole
-  right = by-check (list.check s) refl
+  right =
+      framed-cases Right refused (λ rows. false) itemAnswer s
+      (λ n p e q. omega (arith, leb-true n 7 (and-parts (leb 1 n) (leb n 7) (bounds.check-refusal s n p e .one) .1)))
+      (λ rows e h. absurd (false≢true h)) (λ rows e h. by-item e)
 
   pub fits : (n : ℕ) → Fits s n
   unfolding answer

@@ -1,17 +1,17 @@
 -- The listing of a declaration (document 01, "The listing program").
 use mathlib.Core.Path.{_≡_}
-use mathlib.Core.Bool.{cond}
+use mathlib.Core.Bool.{false, cond}
 use mathlib.Core.List.{List, [], _∷_, _++_}
 use Prim.Native.Nat.{ℕ, _+_, _≤_}
 use lib.Dec.{ltb}
 use lib.ListN.{length}
 use lib.Seq.{sets}
 use Rattle.token_list.specs.Check as list
-use Rattle.token_list.specs.Stream.{Trees, at}
+use Rattle.token_list.specs.Stream.{Trees}
 use Rattle.output.specs.Text.{decimal, refusalText}
 use Rattle.reading.specs.Declaration.{Kind, struct, enum, Parameter, lifetime, constant, type, parametersOf, Field, Fields, unit, named, tuple, Value, absent, literal, negative, Variant, Body, fields, variants, Declaration, bodyCount}
 use Rattle.reading.specs.Took.{Took, took, refuse}
-use Rattle.reading.specs.Reading.{item}
+use Rattle.reading.specs.Answer.{framed}
 use Rattle.describe.specs.Value.{negativeText}
 
 -- `part name number` and LF
@@ -105,13 +105,9 @@ abbrev pub itemAnswer : Took Declaration → Answer
 itemAnswer (took d rs us) = listed (listing d)
 itemAnswer (refuse n p) = refused n p
 
-abbrev pub checkedAnswer : List ℕ → list.Answer → Answer
-checkedAnswer s (list.Answer.refused n p) = refused n p
-checkedAnswer s (list.Answer.passed rows) = itemAnswer (item 0 (at s 10 .here))
-
 -- for a list, where there is room
 unfoldable pub whole : List ℕ → Answer
-whole s = checkedAnswer s (list.check s)
+whole s = framed refused (λ rows. false) itemAnswer s (list.check s)
 
 -- in an output of n bytes
 abbrev pub fitted : ℕ → Answer → Answer

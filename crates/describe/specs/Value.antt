@@ -5,11 +5,10 @@ use Prim.Native.Nat.{ℕ, zero, suc}
 use lib.Dec.{ltb, eqb}
 use lib.Seq.{sets}
 use Rattle.token_list.specs.Check as list
-use Rattle.token_list.specs.Stream.{at}
 use Rattle.output.specs.Text.{decimal}
 use Rattle.reading.specs.Declaration.{Value, absent, literal, negative, Variant, Body, fields, variants, Declaration}
 use Rattle.reading.specs.Took.{Took, took, refuse, Point}
-use Rattle.reading.specs.Reading.{item}
+use Rattle.reading.specs.Answer.{framed}
 use Rattle.reading.specs.Place.{start, inside, bodyAt, variantAt, valueRow}
 
 -- a negative, written anew: `-7` for `-007`, `0` for `-0`
@@ -49,13 +48,9 @@ abbrev pub itemAnswer : Point → ℕ → Took Declaration → Answer
 itemAnswer x k (took d rs us) = variantAnswer x k (bodyValue k (d .body))
 itemAnswer x k (refuse n p) = refused n p
 
--- a list that was checked, the variant at position k, and a scratch of n bytes
-abbrev pub checkedAnswer : List ℕ → ℕ → ℕ → list.Answer → Answer
-checkedAnswer s k n (list.Answer.refused m p) = refused m p
-checkedAnswer s k n (list.Answer.passed rows) = cond (ltb n 20) (refused 8 list.END) (itemAnswer (start s) k (item 0 (at s 10 .here)))
-
+-- for a list s, the variant at position k, and a scratch of n bytes, which needs 20
 unfoldable pub answer : List ℕ → ℕ → ℕ → Answer
-answer s k n = checkedAnswer s k n (list.check s)
+answer s k n = framed refused (λ rows. ltb n 20) (itemAnswer (start s) k) s (list.check s)
 
 -- the scratch is written where the answer is a part of it, and past that part it stays
 abbrev pub scratch : List ℕ → Answer → List ℕ

@@ -1,4 +1,5 @@
 -- Laws on the reading and the grammar, which proofs above cite.
+pub mod Frame
 pub mod Rounds
 pub mod Conserved
 pub mod Places

@@ -20,7 +20,8 @@ use Rattle.token_list.specs.Stream.{Trees, end, leaf, group, size, at}
 use Rattle.reading.specs.Role as role
 use Rattle.reading.specs.Declaration.{Kind, struct, enum, Declaration}
 use Rattle.reading.specs.Took.{Took, took, refuse, Reader, onward, after, _>>=_, pure, wrong}
-use Rattle.reading.specs.Answer.{answer, checkedAnswer, itemAnswer, readNumber}
+use Rattle.reading.specs.Answer.{framed, answer, itemAnswer, readNumber}
+use Rattle.reading.proofs.Frame.{framed-cases}
 use Rattle.reading.specs.Answer.{refused as refused-at}
 use Rattle.reading.specs.Reading as r
 use Rattle.reading.specs.Reading.{Maybe, done, one, Word, missing, found, Stops, Ending, Verdict, belongs, ends, unopened, rounds, every, more}
@@ -404,30 +405,20 @@ module _ (s : List ℕ) where
       λ l. record { begins = omega (arith, passed-list s rows e .size, k .begun, l); low = omega (arith, passed-list s rows e .size, k .rows, l) } in
       record { one = or-second (between 1 8 n) own; stands = ⊎-elim inl (λ l. inr (row l)) (item-place (at s 10 .here) q) }
 
-  -- of the whole answer
+  -- of every answer that tells a refusal as it is
+  pub refusals : {A : Type 0} (denied : ℕ → ℕ → A) (short : ℕ → Bool) (made : Took Declaration → A)
+      → ((n p m o : ℕ) → denied m o ≡ denied n p → (m ≡ n) × (o ≡ p)) → ((n p : ℕ) (t : Took Declaration) → made t ≡ denied n p → t ≡ refuse n p)
+      → (n p : ℕ) → framed denied short made s (list.check s) ≡ denied n p → OneRefusal readNumber s n p
+  refusals {A} denied short made told plain n p =
+      framed-cases (λ (a : A). a ≡ denied n p → OneRefusal readNumber s n p) denied short made s
+      (λ m o e q. check-read n p (e ∙ (λ j. list.Answer.refused (told n p m o q .0 j) (told n p m o q .1 j))))
+      (λ rows e h q. subst (λ (m : ℕ). OneRefusal readNumber s m p) (told n p 8 END q .0) (subst (OneRefusal readNumber s 8) (told n p 8 END q .1) short-read))
+      (λ rows e h t i q. item-read rows n p e (i ∙ plain n p t q))
+
   pub answer-read : (room n p : ℕ) → answer s room ≡ refused-at n p → OneRefusal readNumber s n p
   unfolding answer
-  answer-read room n p e = go (list.check s) refl e
+  answer-read room = refusals refused-at (λ rows. ltb room rows) itemAnswer (λ n p m o q. ((cc), (cc))) plain
     where
-      told : (rows : ℕ) → list.check s ≡ list.Answer.passed rows → (t : Took Declaration) → r.item 0 (at s 10 .here) ≡ t → itemAnswer t ≡ refused-at n p
-          → OneRefusal readNumber s n p
-      told rows k (took d rs us) i q = let z : _≡_ {A = ℕ} 0 1 = cc in absurd (omega arith)
-      told rows k (refuse m o) i q =
-          let number : m ≡ n = cc in
-          let place : o ≡ p = cc in
-          item-read rows n p k (i ∙ (λ j. refuse (number j) (place j)))
-
-      fits : (rows : ℕ) → list.check s ≡ list.Answer.passed rows → (t : Bool)
-          → cond t (refused-at 8 END) (itemAnswer (r.item 0 (at s 10 .here))) ≡ refused-at n p → OneRefusal readNumber s n p
-      fits rows k true q =
-          let number : 8 ≡ n = cc in
-          let place : END ≡ p = cc in
-          subst (λ (m : ℕ). OneRefusal readNumber s m p) number (subst (OneRefusal readNumber s 8) place short-read)
-      fits rows k false q = told rows k (r.item 0 (at s 10 .here)) refl q
-
-      go : (a : list.Answer) → list.check s ≡ a → checkedAnswer s room a ≡ refused-at n p → OneRefusal readNumber s n p
-      go (list.Answer.refused m o) k q =
-          let number : m ≡ n = cc in
-          let place : o ≡ p = cc in
-          check-read n p (k ∙ (λ j. list.Answer.refused (number j) (place j)))
-      go (list.Answer.passed rows) k q = fits rows k (ltb room rows) q
+      plain : (n p : ℕ) (t : Took Declaration) → itemAnswer t ≡ refused-at n p → t ≡ refuse n p
+      plain n p (took d rs us) q = let z : _≡_ {A = ℕ} 0 1 = cc in absurd (omega arith)
+      plain n p (refuse m o) q = cc

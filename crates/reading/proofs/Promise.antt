@@ -15,7 +15,8 @@ use Rattle.reading.specs.Grammar.{Obeys, everything}
 use Rattle.reading.specs.Declaration.{Declaration}
 use Rattle.reading.specs.Took.{Took, took, refuse}
 use Rattle.reading.specs.Reading.{item}
-use Rattle.reading.specs.Answer.{Answer, declared, refused, itemAnswer, checkedAnswer, answer, buffer, accepts}
+use Rattle.reading.specs.Answer.{Answer, declared, refused, itemAnswer, answer, buffer, accepts}
+use Rattle.reading.proofs.Frame.{framed-cases}
 use Rattle.reading.specs.Promise.{stream, Assignment, OneEach, SingleAssignment}
 use Rattle.reading.proofs.Conserved.{conserved, Conserved, item-conserving}
 use Rattle.reading.proofs.GrammarSound.{obeys-sound}
@@ -80,19 +81,14 @@ module _ (s : List ℕ) where
     by-item k e l (took d rs us) i = accepting k d (rs ++ replicate (size us) role.left-over) e l (obeys-sound i)
     by-item k e l (refuse m p) i = refusing m p (λ j f g roles o. let a = obeys-complete o in never (sym (a .reading) ∙ i))
 
-    by-room : (k : ℕ) → list.check s ≡ list.Answer.passed k → (b : Bool) → ltb n k ≡ b
-        → SingleAssignment s n (accepts (cond b (refused 8 list.END) (itemAnswer (item 0 (stream s))))) (buffer n (cond b (refused 8 list.END) (itemAnswer (item 0 (stream s)))))
-    by-room k e true l = refusing 8 list.END (λ j f i roles o. let q : j ≡ k = cc (sym f ∙ e) in omega (arith, ltb-true n k l))
-    by-room k e false l = by-item k e (ltb-false n k l) (item 0 (stream s)) refl
-
-    by-check : (a : list.Answer) → list.check s ≡ a → SingleAssignment s n (accepts (checkedAnswer s n a)) (buffer n (checkedAnswer s n a))
-    by-check (list.Answer.refused m p) e = refusing m p (λ j f i roles o. let q = sym f ∙ e in let z : _≡_ {A = ℕ} 0 1 = cc in omega arith)
-    by-check (list.Answer.passed k) e = by-room k e (ltb n k) refl
-
     -- the whole answer and the whole buffer, as they are defined
     pub promise : SingleAssignment s n (accepts (answer s n)) (buffer n (answer s n))
     unfolding answer
-    promise = by-check (list.check s) refl
+    promise =
+        framed-cases (λ (a : Answer). SingleAssignment s n (accepts a) (buffer n a)) refused (λ rows. ltb n rows) itemAnswer s
+        (λ m p e. refusing m p (λ j f i roles o. let q = sym f ∙ e in let z : _≡_ {A = ℕ} 0 1 = cc in omega arith))
+        (λ k e l. refusing 8 list.END (λ j f i roles o. let q : j ≡ k = cc (sym f ∙ e) in omega (arith, ltb-true n k l)))
+        (λ k e l. by-item k e (ltb-false n k l))
 
     -- the same, of a Bool and bytes that are equal to these
     pub promise-of : (accepted : Bool) (after : List ℕ) → accepted ≡ accepts (answer s n) → after ≡ buffer n (answer s n) → SingleAssignment s n accepted after

@@ -13,6 +13,13 @@ use Rattle.reading.specs.Declaration.{Declaration}
 use Rattle.reading.specs.Took.{Took, took, refuse}
 use Rattle.reading.specs.Reading.{item}
 
+-- The order of every answer about a declaration: the list check's refusal; 8 where a role buffer or scratch is too short for a
+-- list of so many rows; then what is made of the item.
+abbrev pub framed : {A : Type 0} → (ℕ → ℕ → A) → (ℕ → Bool) → (Took Declaration → A) → List ℕ → list.Answer → A
+framed refused short made s (list.Answer.refused n p) = refused n p
+framed refused short made s (list.Answer.passed rows) =
+    cond (short rows) (refused 8 list.END) (made (item 0 (at s FIRST-ROW .here)))
+
 pub data Answer : Type 0 where
   -- the declaration, and the role of each row
   declared : Declaration → List ℕ → Answer
@@ -24,15 +31,9 @@ abbrev pub itemAnswer : Took Declaration → Answer
 itemAnswer (took d rs us) = declared d (rs ++ replicate (size us) role.left-over)
 itemAnswer (refuse n p) = refused n p
 
--- a list that passes the list check with so many rows, and a buffer of n bytes
-abbrev pub checkedAnswer : List ℕ → ℕ → list.Answer → Answer
-checkedAnswer s n (list.Answer.refused m p) = refused m p
-checkedAnswer s n (list.Answer.passed rows) =
-    cond (ltb n rows) (refused 8 list.END) (itemAnswer (item 0 (at s FIRST-ROW .here)))
-
--- for a list s and a role buffer of n bytes
+-- for a list s and a role buffer of n bytes, which needs a byte a row
 unfoldable pub answer : List ℕ → ℕ → Answer
-answer s n = checkedAnswer s n (list.check s)
+answer s n = framed refused (λ rows. ltb n rows) itemAnswer s (list.check s)
 
 -- the roles, then no role; after a refusal no role throughout
 abbrev pub buffer : ℕ → Answer → List ℕ

@@ -22,7 +22,8 @@ use Rattle.reading.specs.Took.{Took, took, refuse}
 use Rattle.reading.specs.Declaration.{Declaration}
 use Rattle.reading.specs.Reading.{item}
 use Rattle.reading.specs.Grammar.{everything}
-use Rattle.reading.specs.Answer.{Answer, declared, refused, itemAnswer, checkedAnswer, answer, buffer, accepts}
+use Rattle.reading.specs.Answer.{Answer, declared, refused, itemAnswer, answer, buffer, accepts}
+use Rattle.reading.proofs.Frame.{framed-cases}
 use Rattle.parse.specs.Contract.{Answered, ParsedAs, accepted}
 use Rattle.parse.specs.declared.item.Parse.{Parse}
 use Rattle.parse.specs.declared.item.Parse.the-variants as parses
@@ -82,17 +83,11 @@ module _ (s : List ℕ) (n : ℕ) (d : Declaration) (rs : List ℕ) where
     by-item k c (took f qs us) i e = let q : qs ++ replicate (size us) left-over ≡ rs = cc in subst P q (of-item k c f qs us i)
     by-item k c (refuse m p) i e = absurd (never e)
 
-    by-room : (k : ℕ) → list.check s ≡ list.Answer.passed k → (b : Bool) → cond b (refused 8 list.END) (itemAnswer (item 0 (at s 10 .here))) ≡ declared d rs → P rs
-    by-room k c true e = absurd (never e)
-    by-room k c false e = by-item k c (item 0 (at s 10 .here)) refl e
-
-    by-check : (a : list.Answer) → list.check s ≡ a → checkedAnswer s n a ≡ declared d rs → P rs
-    by-check (list.Answer.refused m p) c e = absurd (never e)
-    by-check (list.Answer.passed k) c e = by-room k c (ltb n k) e
-
     by-answer : answer s n ≡ declared d rs → P rs
     unfolding answer
-    by-answer e = by-check (list.check s) refl e
+    by-answer =
+        framed-cases (λ (a : Answer). a ≡ declared d rs → P rs) refused (λ rows. ltb n rows) itemAnswer s
+        (λ m p c e. absurd (never e)) (λ k c h e. absurd (never e)) (λ k c h. by-item k c)
 
   named : answer s n ≡ declared d rs → Named rs
   named = by-answer Named (λ k c f qs us i. obeys-roles everything {ts = at s 10 .here} (obeys-sound i))
