@@ -1,16 +1,27 @@
-/* The reader of token lists, for C. Link libexports.a (rt staticlib exports).
+/* The reader of token lists, for C and C++. Link libexports.a (rt staticlib exports).
  *
  * A slice is a pointer and a length. A pointer may be anything where its length is 0, but not NULL: pass the address of
  * some byte. Lists and buffers must not overlap.
  *
  * An answer is one number. Below KUSTHRILA_REFUSED it is an acceptance. Else it is a refusal: its number is
- * kusthrila_number(answer), its place kusthrila_place(answer), a row counted from 0 or KUSTHRILA_END. The table of
- * refusals is in README.md. */
+ * kusthrila_number(answer), one of enum kusthrila_refusal, and its place kusthrila_place(answer), a row counted from 0 or
+ * KUSTHRILA_END. Row n is line n + 2 of the list. README.md says where each refusal's place is, and which comes first.
+ *
+ * Nothing is allocated and nothing global is kept: the library has no data but constants, and calls only memset and its like. So
+ * calls from several threads are independent, as long as none writes a buffer that another uses.
+ *
+ * A call needs no more than KUSTHRILA_STACK bytes of stack. Measured on x86-64 were some 4,900 in kusthrila_check, 5,100 in
+ * kusthrila_read, 9,200 in kusthrila_listing and 9,400 in kusthrila_value, all in lists with 32 open groups; the rest is
+ * margin. bindings/c/stack.c measures it, and test.sh does so each time. */
 #ifndef KUSTHRILA_H
 #define KUSTHRILA_H
 
 #include <stddef.h>
 #include <stdint.h>
+
+#ifdef __cplusplus
+extern "C" {
+#endif
 
 #define KUSTHRILA_REFUSED 4294967296u
 #define KUSTHRILA_END 65535u
@@ -23,11 +34,73 @@
 /* No listing is longer: MOST in crates/describe/specs/Listing.antt, of which the law `fits` is proved. */
 #define KUSTHRILA_MOST_LISTING 147473u
 
+/* A scratch must have as many bytes. */
+#define KUSTHRILA_SCRATCH 20u
+
+/* No call needs more bytes of stack. */
+#define KUSTHRILA_STACK 16384u
+
+/* A role byte after the last row's, and every role byte after a refusal. */
+#define KUSTHRILA_NO_ROLE 255u
+
+/* The roles, named as in crates/reading/specs/Role.antt. */
+enum kusthrila_role {
+    KUSTHRILA_ROLE_LEFT_OVER = 0,       /* after the body */
+    KUSTHRILA_ROLE_ATTRIBUTE_MARK = 1,  /* the `#` of an attribute */
+    KUSTHRILA_ROLE_ATTRIBUTE_GROUP = 2, /* an attribute's `[` group, with all rows in it */
+    KUSTHRILA_ROLE_IDLE_MARK = 3,       /* a `#` before another `#` */
+    KUSTHRILA_ROLE_VISIBILITY = 4,      /* `pub` */
+    KUSTHRILA_ROLE_SCOPE = 5,           /* the group after `pub`, with all rows in it */
+    KUSTHRILA_ROLE_ITEM_WORD = 6,       /* `struct` or `enum` */
+    KUSTHRILA_ROLE_ITEM_NAME = 7,       /* the item's name */
+    KUSTHRILA_ROLE_ANGLE = 8,           /* the `<` and `>` of the generics */
+    KUSTHRILA_ROLE_PARAMETER_NAME = 9,  /* a parameter's name, with its `'` or `const` */
+    KUSTHRILA_ROLE_SEPARATOR = 10,      /* `,` `:` `=` between these parts */
+    KUSTHRILA_ROLE_BOUND = 11,          /* a parameter's bound, default or const type */
+    KUSTHRILA_ROLE_WHERE_WORD = 12,     /* `where` */
+    KUSTHRILA_ROLE_WHERE_RUN = 13,      /* what follows `where`, up to the body */
+    KUSTHRILA_ROLE_DELIMITER = 14,      /* a delimiter of the body or of a variant's group; the `;` for a body */
+    KUSTHRILA_ROLE_VARIANT_NAME = 15,   /* a variant's name */
+    KUSTHRILA_ROLE_VALUE = 16,          /* a variant's value, with its `-` */
+    KUSTHRILA_ROLE_FIELD_NAME = 17,     /* a field's name */
+    KUSTHRILA_ROLE_TYPE = 18            /* a field's type */
+};
+
+/* The refusals. 9 and 10 are none. */
+enum kusthrila_refusal {
+    KUSTHRILA_REFUSAL_TOO_LONG = 1,             /* more than 65,536 bytes */
+    KUSTHRILA_REFUSAL_LINE_OF_NAMES = 2,        /* the first line is not `kind text` */
+    KUSTHRILA_REFUSAL_ROW_FORM = 3,             /* a row's form, its text's length or its LF is wrong */
+    KUSTHRILA_REFUSAL_TOO_MANY_ROWS = 4,        /* a further row begins after 4,096 */
+    KUSTHRILA_REFUSAL_UNMATCHED_CLOSE = 5,      /* a close without its matching open */
+    KUSTHRILA_REFUSAL_TOO_DEEP = 6,             /* a 33rd open group */
+    KUSTHRILA_REFUSAL_UNCLOSED_GROUP = 7,       /* the list ends in an open group */
+    KUSTHRILA_REFUSAL_SHORT_BUFFER = 8,         /* a lent buffer is too short */
+    KUSTHRILA_REFUSAL_NO_WORD = 11,             /* `struct` or `enum`, the item's name or a variant's name is missing */
+    KUSTHRILA_REFUSAL_ATTRIBUTE_DELIMITER = 12, /* `#` with a group that is not `[` */
+    KUSTHRILA_REFUSAL_NO_ATTRIBUTE = 13,        /* `#` followed by anything else */
+    KUSTHRILA_REFUSAL_NO_PARAMETER = 14,        /* in generics: not `'`, `>` or a name */
+    KUSTHRILA_REFUSAL_UNMATCHED_ANGLE = 15,     /* `>` with nothing open */
+    KUSTHRILA_REFUSAL_NO_STRUCT_BODY = 16,      /* a struct's body is neither a group nor `;` */
+    KUSTHRILA_REFUSAL_STRUCT_DELIMITER = 17,    /* a struct's body is a `[` or `0` group */
+    KUSTHRILA_REFUSAL_NO_ENUM_BODY = 18,        /* an enum's body is neither a group nor `;` */
+    KUSTHRILA_REFUSAL_VARIANT_DELIMITER = 19,   /* a variant's group is `[` or `0` */
+    KUSTHRILA_REFUSAL_NO_COMMA = 20,            /* after a variant without value: not `,` */
+    KUSTHRILA_REFUSAL_NO_LITERAL = 21,          /* no literal after `=` or `-` */
+    KUSTHRILA_REFUSAL_NO_FIELD_NAME = 22,       /* a field's name is missing */
+    KUSTHRILA_REFUSAL_NO_COLON = 23,            /* `:` is missing */
+    KUSTHRILA_REFUSAL_NO_LIFETIME_NAME = 24,    /* no name after `'` */
+    KUSTHRILA_REFUSAL_OTHER_ITEM_WORD = 25,     /* another item word than `struct` or `enum` */
+    KUSTHRILA_REFUSAL_NEGATIVE_VALUE = 26,      /* the literal after `-` is not digits alone, or worth too much */
+    KUSTHRILA_REFUSAL_NO_CONST_NAME = 27        /* no name after `const` */
+};
+
 /* Checks a list: the number of its rows, or refusal 1 to 7. */
 uint64_t kusthrila_check(const uint8_t *list, size_t list_len);
 
-/* Reads a declaration: KUSTHRILA_STRUCT or KUSTHRILA_ENUM, with the role of each row in the first bytes of roles and 255
- * in the rest; or a refusal, with 255 in every byte of roles. roles must have a byte for each row, else refusal 8. */
+/* Reads a declaration: KUSTHRILA_STRUCT or KUSTHRILA_ENUM, with the role of each row in the first bytes of roles and
+ * KUSTHRILA_NO_ROLE in the rest; or a refusal, with KUSTHRILA_NO_ROLE in every byte of roles. roles must have a byte for
+ * each row, else refusal 8. */
 uint64_t kusthrila_read(const uint8_t *list, size_t list_len, uint8_t *roles, size_t roles_len);
 
 /* Writes the listing at the start of out: its length, with the bytes after it as they were; or a refusal, with all bytes
@@ -36,11 +109,43 @@ uint64_t kusthrila_listing(const uint8_t *list, size_t list_len, uint8_t *out, s
 
 /* The value of the variant at this position, counted from 0. 0: it has none, or there is no such variant. Below 65536:
  * its text is that many bytes at the start of scratch. Else below KUSTHRILA_REFUSED: its text is the part of the list from
- * answer / 65536 up to answer % 65536. Else a refusal; 8 where scratch has fewer than 20 bytes. The scratch is written only
- * where the text is a part of it. */
+ * answer / 65536 up to answer % 65536. Else a refusal; 8 where scratch has fewer than KUSTHRILA_SCRATCH bytes. The scratch
+ * is written only where the text is a part of it. The functions kusthrila_value_* below take the answer apart. */
 uint64_t kusthrila_value(const uint8_t *list, size_t list_len, size_t position, uint8_t *scratch, size_t scratch_len);
 
+/* A refusal's number and place. */
 static inline uint64_t kusthrila_number(uint64_t answer) { return answer / KUSTHRILA_REFUSED; }
 static inline uint64_t kusthrila_place(uint64_t answer) { return answer % KUSTHRILA_REFUSED; }
+
+/* Where the text of a value is, by an answer of kusthrila_value. */
+enum kusthrila_where {
+    KUSTHRILA_VALUE_NONE,
+    KUSTHRILA_VALUE_IN_SCRATCH,
+    KUSTHRILA_VALUE_IN_LIST,
+    KUSTHRILA_VALUE_REFUSED
+};
+
+static inline enum kusthrila_where kusthrila_value_where(uint64_t answer) {
+    if (answer == 0)
+        return KUSTHRILA_VALUE_NONE;
+    if (answer < 65536u)
+        return KUSTHRILA_VALUE_IN_SCRATCH;
+    return answer < KUSTHRILA_REFUSED ? KUSTHRILA_VALUE_IN_LIST : KUSTHRILA_VALUE_REFUSED;
+}
+
+/* Its first byte, counted from 0, and the byte after its last, in the scratch or in the list; 0 and 0 where there is none. */
+static inline size_t kusthrila_value_start(uint64_t answer) {
+    return kusthrila_value_where(answer) == KUSTHRILA_VALUE_IN_LIST ? (size_t)(answer / 65536u) : 0;
+}
+static inline size_t kusthrila_value_end(uint64_t answer) {
+    return answer < KUSTHRILA_REFUSED ? (size_t)(answer % 65536u) : 0;
+}
+static inline size_t kusthrila_value_length(uint64_t answer) {
+    return kusthrila_value_end(answer) - kusthrila_value_start(answer);
+}
+
+#ifdef __cplusplus
+}
+#endif
 
 #endif

@@ -20,11 +20,22 @@ int main(int argc, char **argv) {
     }
     fwrite(out, 1, answer, stdout);
     if (argc == 3) {
-        uint8_t scratch[20];
+        uint8_t scratch[KUSTHRILA_SCRATCH];
         uint64_t value = kusthrila_value(list, (size_t)length, strtoul(argv[2], NULL, 10), scratch, sizeof scratch);
-        const uint8_t *text = value < 65536 ? scratch : list + value / 65536;
-        size_t bytes = value < 65536 ? value : value % 65536 - value / 65536;
-        printf("value %.*s\n", (int)bytes, (const char *)text);
+        switch (kusthrila_value_where(value)) {
+        case KUSTHRILA_VALUE_NONE:
+            printf("no value\n");
+            break;
+        case KUSTHRILA_VALUE_IN_SCRATCH:
+            printf("value %.*s\n", (int)kusthrila_value_length(value), (const char *)scratch);
+            break;
+        case KUSTHRILA_VALUE_IN_LIST:
+            printf("value %.*s\n", (int)kusthrila_value_length(value), (const char *)list + kusthrila_value_start(value));
+            break;
+        case KUSTHRILA_VALUE_REFUSED:
+            print_refusal(value);
+            return 1;
+        }
     }
     return 0;
 }

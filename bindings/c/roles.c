@@ -17,7 +17,7 @@ int main(int argc, char **argv) {
         return 1;
     }
     printf("%s\n", answer == KUSTHRILA_ENUM ? "enum" : "struct");
-    for (size_t row = 0; row < sizeof roles && roles[row] != 255; row++)
+    for (size_t row = 0; row < sizeof roles && roles[row] != KUSTHRILA_NO_ROLE; row++)
         printf("row %d has role %d\n", (int)row, roles[row]);
     return 0;
 }

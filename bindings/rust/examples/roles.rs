@@ -1,5 +1,5 @@
 //! Reads the token list in the file that its argument names, and prints the role of each row, or the refusal.
-use kusthrila::{read, Kind, Place, MOST_ROWS};
+use kusthrila::{read, Kind, Place, MOST_ROWS, NO_ROLE};
 
 fn main() {
     let Some(path) = std::env::args().nth(1) else {
@@ -14,7 +14,7 @@ fn main() {
     match read(&list, &mut roles) {
         Ok(kind) => {
             println!("{}", if kind == Kind::Enum { "enum" } else { "struct" });
-            for (row, role) in roles.iter().take_while(|role| **role != 255).enumerate() {
+            for (row, role) in roles.iter().take_while(|role| **role != NO_ROLE).enumerate() {
                 println!("row {row} has role {role}");
             }
         }

@@ -1,4 +1,8 @@
-//! Safe functions over the proved reader of token lists.
+//! Safe functions over the proved reader of token lists. Nothing is allocated and nothing global is kept; a call needs at most
+//! 16,384 bytes of stack (`include/kusthrila.h` says how that was measured).
+
+pub mod refusal;
+pub mod role;
 
 extern "C" {
     fn kusthrila_check(list: *const u8, list_len: usize) -> u64;
@@ -13,6 +17,12 @@ pub const MOST_ROWS: usize = 4096;
 /// No listing is longer: `MOST` in `crates/describe/specs/Listing.antt`, of which the law `fits` is proved.
 pub const MOST_LISTING: usize = 147_473;
 
+/// A scratch must have as many bytes.
+pub const SCRATCH: usize = 20;
+
+/// A role byte after the last row's, and every role byte after a refusal.
+pub const NO_ROLE: u8 = 255;
+
 /// Where a refusal stands.
 #[derive(Clone, Copy, Debug, PartialEq, Eq)]
 pub enum Place {
@@ -20,7 +30,7 @@ pub enum Place {
     End,
 }
 
-/// A refusal: its number and its place. The table is in the README.
+/// A refusal: its number, one of the module `refusal`, and its place.
 #[derive(Clone, Copy, Debug, PartialEq, Eq)]
 pub struct Refusal {
     pub number: u8,
@@ -51,8 +61,8 @@ pub fn check(list: &[u8]) -> Result<usize, Refusal> {
     answer(unsafe { kusthrila_check(list.as_ptr(), list.len()) }).map(|rows| rows as usize)
 }
 
-/// Reads a declaration: its kind, with a role byte for each row at the front of `roles` and 255 in the rest. After a
-/// refusal every byte of `roles` is 255.
+/// Reads a declaration: its kind, with a byte of the module `role` for each row at the front of `roles` and `NO_ROLE` in the
+/// rest. After a refusal every byte of `roles` is `NO_ROLE`.
 pub fn read(list: &[u8], roles: &mut [u8]) -> Result<Kind, Refusal> {
     // SAFETY: both are slices, `roles` is borrowed alone, and the call writes nothing past it.
     let code = unsafe { kusthrila_read(list.as_ptr(), list.len(), roles.as_mut_ptr(), roles.len()) };
@@ -66,7 +76,7 @@ pub fn listing<'a>(list: &[u8], out: &'a mut [u8]) -> Result<&'a [u8], Refusal> 
     answer(code).map(|len| &out[..len as usize])
 }
 
-/// The value text of the variant at this position, a part of the list or of the scratch, which must have 20 bytes.
+/// The value text of the variant at this position, a part of the list or of the scratch, which must have `SCRATCH` bytes.
 pub fn value<'a>(list: &'a [u8], position: usize, scratch: &'a mut [u8]) -> Result<Option<&'a [u8]>, Refusal> {
     // SAFETY: both are slices, `scratch` is borrowed alone, and the call writes nothing past it.
     let code = unsafe { kusthrila_value(list.as_ptr(), list.len(), position, scratch.as_mut_ptr(), scratch.len()) };
@@ -85,11 +95,11 @@ mod tests {
     fn reads_and_refuses() {
         let mut roles = [7u8; 5];
         assert_eq!(read(b"kind text\ni struct\ni A\np ;\n", &mut roles), Ok(Kind::Struct));
-        assert_eq!(roles, [6, 7, 14, 255, 255]);
-        let refused = Refusal { number: 16, place: Place::End };
+        assert_eq!(roles, [role::ITEM_WORD, role::ITEM_NAME, role::DELIMITER, NO_ROLE, NO_ROLE]);
+        let refused = Refusal { number: refusal::NO_STRUCT_BODY, place: Place::End };
         assert_eq!(read(b"kind text\ni struct\ni A\n", &mut roles), Err(refused));
-        assert_eq!(roles, [255; 5]);
-        let short = Refusal { number: 8, place: Place::End };
+        assert_eq!(roles, [NO_ROLE; 5]);
+        let short = Refusal { number: refusal::SHORT_BUFFER, place: Place::End };
         assert_eq!(read(b"kind text\ni struct\ni A\np ;\n", &mut roles[..2]), Err(short));
         assert_eq!(check(b"kind text\nc )\n"), Err(Refusal { number: 5, place: Place::Row(0) }));
         assert_eq!(check(b"kind text\n"), Ok(0));

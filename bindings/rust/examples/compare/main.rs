@@ -4,9 +4,9 @@
 mod random;
 mod reader;
 
-use kusthrila::{check, Place, Refusal, MOST_LISTING, MOST_ROWS};
+use kusthrila::{check, Place, Refusal, MOST_LISTING, MOST_ROWS, SCRATCH};
 use random::{Random, KINDS};
-use reader::{Reader, SCRATCH};
+use reader::Reader;
 use std::collections::BTreeMap;
 use std::io::{BufRead, BufReader};
 

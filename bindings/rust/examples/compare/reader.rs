@@ -1,13 +1,10 @@
 //! The functions of the reader, called with buffers between guard bytes, and what holds of every answer.
 use crate::random::Random;
-use kusthrila::{check, listing, read, value, Place, Refusal, MOST_LISTING, MOST_ROWS};
+use kusthrila::{check, listing, read, refusal, role, value, Place, Refusal, MOST_LISTING, MOST_ROWS, NO_ROLE, SCRATCH};
 
 const GUARD: u8 = 0xA5;
 const MARGIN: usize = 8;
-const SHORT: Refusal = Refusal { number: 8, place: Place::End };
-
-/// The scratch that is long enough.
-pub const SCRATCH: usize = 20;
+const SHORT: Refusal = Refusal { number: refusal::SHORT_BUFFER, place: Place::End };
 
 // The bytes of a buffer with its margins, and what they are to be again after each call.
 struct Buffer {
@@ -51,12 +48,12 @@ impl Reader {
         let mut roles = bytes.to_vec();
         self.roles.restore(lent);
         if let Err(refusal) = answer {
-            assert!(roles.iter().all(|role| *role == 255), "a role byte after a refusal");
+            assert!(roles.iter().all(|role| *role == NO_ROLE), "a role byte after a refusal");
             return Err(refusal);
         }
         let rest = roles.split_off(check(list).expect("an accepted list passes the check"));
-        assert!(roles.iter().all(|role| *role < 19), "a role of an accepted list");
-        assert!(rest.iter().all(|role| *role == 255), "a byte after the roles");
+        assert!(roles.iter().all(|role| *role <= role::TYPE), "a role of an accepted list");
+        assert!(rest.iter().all(|role| *role == NO_ROLE), "a byte after the roles");
         Ok(roles)
     }
 

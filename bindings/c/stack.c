@@ -1,0 +1,122 @@
+/* How many bytes of stack each function takes, at most, on the lists of recorded files (recorded/README.md has their
+ * format) and on lists with 32 and 33 open groups. It fails where one takes more than KUSTHRILA_STACK. The calls run on a
+ * stack of their own, painted beforehand; what they took is what lost its paint, with the frame of the function that calls. */
+#define _XOPEN_SOURCE 700
+#include "kusthrila.h"
+
+#include <stdio.h>
+#include <stdlib.h>
+#include <string.h>
+#include <ucontext.h>
+
+enum { PAINT = 0xA5, STACK = 256 * 1024, MOST_LISTS = 65536 };
+
+static struct {
+    const uint8_t *bytes;
+    size_t length;
+} lists[MOST_LISTS];
+static size_t count;
+
+static _Alignas(16) uint8_t stack[STACK];
+static uint8_t *top;
+static uint8_t roles[KUSTHRILA_MOST_ROWS], out[KUSTHRILA_MOST_LISTING], scratch[KUSTHRILA_SCRATCH];
+
+static void check_all(void) {
+    top = (uint8_t *)__builtin_frame_address(0);
+    for (size_t n = 0; n < count; n++)
+        kusthrila_check(lists[n].bytes, lists[n].length);
+}
+
+static void read_all(void) {
+    top = (uint8_t *)__builtin_frame_address(0);
+    for (size_t n = 0; n < count; n++)
+        kusthrila_read(lists[n].bytes, lists[n].length, roles, sizeof roles);
+}
+
+static void listing_all(void) {
+    top = (uint8_t *)__builtin_frame_address(0);
+    for (size_t n = 0; n < count; n++)
+        kusthrila_listing(lists[n].bytes, lists[n].length, out, sizeof out);
+}
+
+static void value_all(void) {
+    top = (uint8_t *)__builtin_frame_address(0);
+    for (size_t n = 0; n < count; n++)
+        for (size_t position = 0; position < 4; position++)
+            kusthrila_value(lists[n].bytes, lists[n].length, position, scratch, sizeof scratch);
+}
+
+static int measure(const char *name, void (*calls)(void)) {
+    ucontext_t here, there;
+    memset(stack, PAINT, sizeof stack);
+    getcontext(&there);
+    there.uc_stack.ss_sp = stack;
+    there.uc_stack.ss_size = sizeof stack;
+    there.uc_link = &here;
+    makecontext(&there, calls, 0);
+    swapcontext(&here, &there);
+    const uint8_t *bottom = stack;
+    while (*bottom == PAINT)
+        bottom++;
+    printf("%s: %d bytes of stack\n", name, (int)(top - bottom));
+    return (size_t)(top - bottom) > KUSTHRILA_STACK;
+}
+
+static void add(const uint8_t *bytes, size_t length) {
+    if (count == MOST_LISTS) {
+        fprintf(stderr, "more than %d lists\n", MOST_LISTS);
+        exit(2);
+    }
+    lists[count].bytes = bytes;
+    lists[count++].length = length;
+}
+
+/* The lists of a file: a section is a line with its name and length, then its bytes. */
+static void add_recorded(const char *path) {
+    FILE *file = fopen(path, "rb");
+    if (!file) {
+        perror(path);
+        exit(2);
+    }
+    char name[16];
+    size_t length;
+    while (fscanf(file, "%15s %zu", name, &length) == 2 && fgetc(file) == '\n') {
+        uint8_t *bytes = malloc(length + 1);
+        if (!bytes || fread(bytes, 1, length, file) != length) {
+            fprintf(stderr, "%s: not read\n", path);
+            exit(2);
+        }
+        if (strcmp(name, "list") == 0)
+            add(bytes, length);
+        else
+            free(bytes);
+    }
+    fclose(file);
+}
+
+/* So many groups, one in the other, in a field's type. */
+static void add_nested(int groups) {
+    static char texts[2][1024];
+    static int used;
+    char *text = texts[used++];
+    strcpy(text, "kind text\ni enum\ni E\no {\ni A\no {\ni a\np :\n");
+    for (int open = 2; open < groups; open++)
+        strcat(text, "o (\n");
+    for (int open = 2; open < groups; open++)
+        strcat(text, "c )\n");
+    strcat(text, "c }\np =\np -\nl 9223372036854775807\nc }\n");
+    add((const uint8_t *)text, strlen(text));
+}
+
+int main(int argc, char **argv) {
+    for (int n = 1; n < argc; n++)
+        add_recorded(argv[n]);
+    add_nested(32);
+    add_nested(33);
+    printf("%d lists\n", (int)count);
+    int over = measure("kusthrila_check", check_all);
+    over |= measure("kusthrila_read", read_all);
+    over |= measure("kusthrila_listing", listing_all);
+    over |= measure("kusthrila_value", value_all);
+    return over;
+}
