@@ -5,9 +5,20 @@ root=$(cd "$(dirname "$0")/.." && pwd)
 sources=${VIRTUE_SRC:-$root/../shared/docs/src}
 built=$root/target/oracle
 
+# skip REASON: ends well; in the merge gate (KUSTHRILA_GATE is set) what is missing is a failure.
 skip() {
+    if [ -n "${KUSTHRILA_GATE:-}" ]; then
+        echo "failed: $1"
+        exit 1
+    fi
     echo "skipped: $1"
     exit 0
+}
+
+# Virtue's sources come with the shared documents, and where these are missing the gate does without both.
+skip_sources() {
+    [ -d "$root/../shared/docs" ] || KUSTHRILA_GATE=
+    skip "no $1 in VIRTUE_SRC ($sources)"
 }
 
 # Only the generator: it needs no sources of virtue.
@@ -24,7 +35,7 @@ build_oracle() {
     for file in parse/mod.rs parse/attributes.rs parse/body.rs parse/data_type.rs \
         parse/generics.rs parse/utils.rs parse/visibility.rs utils.rs error.rs \
         generate/stream_builder.rs; do
-        [ -f "$sources/$file" ] || skip "no $file in VIRTUE_SRC ($sources)"
+        [ -f "$sources/$file" ] || skip_sources "$file"
     done
     build_lists
     rm -f "$built/virtue"

@@ -1,6 +1,6 @@
 #!/bin/sh
 # Makes the recorded answers anew, in target/oracle, and says whether the files in recorded/ are
-# the same. With --update they are replaced.
+# the same. With --update they are replaced, and with them what the replay reads in `rt ci`.
 set -eu
 . "$(dirname "$0")/common.sh"
 count=3200
@@ -22,4 +22,5 @@ for name in answers checks; do
         status=1
     fi
 done
+[ "${1:-}" != --update ] || cat "$root"/recorded/*.txt >"$root/crates/replay/stdin"
 exit $status
