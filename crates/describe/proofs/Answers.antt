@@ -28,8 +28,8 @@ use Rattle.reading.specs.Token.{worth}
 use Rattle.reading.specs.Took.{Took, took, refuse, Point}
 use Rattle.reading.specs.Reading.{item}
 use Rattle.parse.specs.Contract.{on, no, Meets, stands, refuses}
-use Rattle.parse.specs.declared.body.ValueAt.{ValueAt}
-use Rattle.parse.specs.declared.body.ValueAt.the-variants as valueAts
+use Rattle.parse.specs.declared.variants.ValueAt.{ValueAt}
+use Rattle.parse.specs.declared.variants.ValueAt.the-variants as valueAts
 use Rattle.describe.specs.Value.{negativeText, Answer, refused, bodyValue, valueAnswer, variantAnswer, itemAnswer, answer, scratch, textOf}
 use Rattle.describe.specs.Listing as listing
 use Rattle.describe.specs.Contract.{ValueAs, part, textStart, textEnd, placeOf, Placed, listedAs, ListedAs}

@@ -16,7 +16,7 @@ use Rattle.reading.specs.Answer.{readNumber}
 use Rattle.reading.specs.Took.{Point}
 use Rattle.reading.specs.Place.{valueRow}
 use Rattle.parse.specs.Contract.{InsideAt, ValueOf, ValueIn}
-use Rattle.parse.specs.declared.body.ValueAt.{ValueAt}
+use Rattle.parse.specs.declared.variants.ValueAt.{ValueAt}
 use Rattle.describe.specs.Value as value
 use Rattle.describe.specs.Listing as listing
 use Rattle.describe.specs.declared.listing.Listed.{Listed}

@@ -1,14 +1,14 @@
 // A variant's value: where its text stands, and that text.
 use output::put::put_byte;
 use output::put::put_number;
-use parse::body::ValueAt;
-use parse::body::VariantStep;
-use parse::body::variant;
 use parse::data_type::DataType;
 use parse::item::ItemAt;
 use parse::item::ItemStep;
 use parse::item::item;
 use parse::utils::past;
+use parse::variants::ValueAt;
+use parse::variants::VariantStep;
+use parse::variants::variant;
 use token_list::check::Checked;
 use token_list::check::Cursor;
 use token_list::check::END;

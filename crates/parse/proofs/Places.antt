@@ -16,8 +16,8 @@ use Rattle.reading.specs.Took.{Took, took, refuse, Reader, after, _>>=_, Point,
 use Rattle.reading.specs.Reading.{attributes, visibility, isLiteral, negatable, negativeValue}
 use Rattle.reading.specs.Place.{identRow, wordRow, startAt, marksName, parameterNameRow, literalRow}
 use Rattle.parse.specs.Contract.{Said, on, Meets, stands, refuses, stream, point, CursorAt, TokenIn, pastOf, fieldPrefix, ValueIn, valueShown, valueSaid}
-use Rattle.parse.specs.declared.body.ValueStep.{ValueStep}
-use Rattle.parse.specs.declared.body.ValueStep.the-variants as valueSteps
+use Rattle.parse.specs.declared.variants.ValueStep.{ValueStep}
+use Rattle.parse.specs.declared.variants.ValueStep.the-variants as valueSteps
 
 -- ## Cursors
 

@@ -20,15 +20,15 @@ use Rattle.parse.specs.declared.utils.Step.{Step}
 use Rattle.parse.specs.declared.utils.Step.the-variants as steps
 use Rattle.parse.specs.declared.utils.MaybeWord.{MaybeWord}
 use Rattle.parse.specs.declared.utils.MaybeWord.the-variants as words
-use Rattle.parse.specs.declared.utils.Stops.{Stops}
-use Rattle.parse.specs.declared.utils.Ending.{Ending}
-use Rattle.parse.specs.declared.utils.Ending.the-variants as endings
-use Rattle.parse.specs.declared.utils.Ran.{Ran}
-use Rattle.parse.specs.declared.utils.Ran.the-variants as rans
-use Rattle.parse.specs.declared.utils.Verdict.{Verdict}
-use Rattle.parse.specs.declared.utils.Verdict.the-variants as verdicts
-use Rattle.parse.specs.declared.utils.RunTurn.{RunTurn}
-use Rattle.parse.specs.declared.utils.RunTurn.the-variants as turns
+use Rattle.parse.specs.declared.runs.Stops.{Stops}
+use Rattle.parse.specs.declared.runs.Ending.{Ending}
+use Rattle.parse.specs.declared.runs.Ending.the-variants as endings
+use Rattle.parse.specs.declared.runs.Ran.{Ran}
+use Rattle.parse.specs.declared.runs.Ran.the-variants as rans
+use Rattle.parse.specs.declared.runs.Verdict.{Verdict}
+use Rattle.parse.specs.declared.runs.Verdict.the-variants as verdicts
+use Rattle.parse.specs.declared.runs.RunTurn.{RunTurn}
+use Rattle.parse.specs.declared.runs.RunTurn.the-variants as turns
 use Rattle.reading.specs.Role as role
 use Rattle.reading.specs.Declaration as declaration
 use Rattle.parse.specs.declared.data_type.DataType.{DataType}
@@ -37,29 +37,27 @@ use Rattle.parse.specs.declared.data_type.Worded.{Worded}
 use Rattle.parse.specs.declared.data_type.Worded.the-variants as wordeds
 use Rattle.parse.specs.declared.data_type.Headed.{Headed}
 use Rattle.parse.specs.declared.data_type.Headed.the-variants as heads
-use Rattle.parse.specs.declared.generics.Named.{Named}
-use Rattle.parse.specs.declared.generics.Named.the-variants as nameds
+use Rattle.parse.specs.declared.utils.NameStep.the-variants as nameSteps
 use Rattle.parse.specs.declared.generics.ParameterStep.{ParameterStep}
 use Rattle.parse.specs.declared.generics.ParameterStep.the-variants as parameters
 use Rattle.parse.specs.declared.generics.Counted.{Counted}
 use Rattle.parse.specs.declared.generics.Counted.the-variants as counts
-use Rattle.parse.specs.declared.body.FieldStep.{FieldStep}
-use Rattle.parse.specs.declared.body.FieldStep.the-variants as fieldSteps
-use Rattle.parse.specs.declared.body.TypeStep.{TypeStep}
-use Rattle.parse.specs.declared.body.TypeStep.the-variants as typeSteps
-use Rattle.parse.specs.declared.body.FieldsAt.{FieldsAt}
-use Rattle.parse.specs.declared.body.FieldsAt.the-variants as fieldsAts
-use Rattle.parse.specs.declared.body.FieldsStep.{FieldsStep}
-use Rattle.parse.specs.declared.body.FieldsStep.the-variants as fieldsSteps
-use Rattle.parse.specs.declared.body.ValueAt.{ValueAt}
-use Rattle.parse.specs.declared.body.ValueAt.the-variants as valueAts
-use Rattle.parse.specs.declared.body.ValueStep.{ValueStep}
-use Rattle.parse.specs.declared.body.ValueStep.the-variants as valueSteps
-use Rattle.parse.specs.declared.body.NameStep.{NameStep}
-use Rattle.parse.specs.declared.body.NameStep.the-variants as nameSteps
-use Rattle.parse.specs.declared.body.VariantAt.{VariantAt}
-use Rattle.parse.specs.declared.body.VariantStep.{VariantStep}
-use Rattle.parse.specs.declared.body.VariantStep.the-variants as variantSteps
+use Rattle.parse.specs.declared.fields.FieldStep.{FieldStep}
+use Rattle.parse.specs.declared.fields.FieldStep.the-variants as fieldSteps
+use Rattle.parse.specs.declared.fields.TypeStep.{TypeStep}
+use Rattle.parse.specs.declared.fields.TypeStep.the-variants as typeSteps
+use Rattle.parse.specs.declared.variants.FieldsAt.{FieldsAt}
+use Rattle.parse.specs.declared.variants.FieldsAt.the-variants as fieldsAts
+use Rattle.parse.specs.declared.variants.FieldsStep.{FieldsStep}
+use Rattle.parse.specs.declared.variants.FieldsStep.the-variants as fieldsSteps
+use Rattle.parse.specs.declared.variants.ValueAt.{ValueAt}
+use Rattle.parse.specs.declared.variants.ValueAt.the-variants as valueAts
+use Rattle.parse.specs.declared.variants.ValueStep.{ValueStep}
+use Rattle.parse.specs.declared.variants.ValueStep.the-variants as valueSteps
+use Rattle.parse.specs.declared.utils.NameStep.{NameStep}
+use Rattle.parse.specs.declared.variants.VariantAt.{VariantAt}
+use Rattle.parse.specs.declared.variants.VariantStep.{VariantStep}
+use Rattle.parse.specs.declared.variants.VariantStep.the-variants as variantSteps
 use Rattle.reading.specs.Answer as answers
 use Rattle.parse.specs.declared.item.ItemAt.{ItemAt}
 use Rattle.parse.specs.declared.item.ItemStep.{ItemStep}
@@ -141,6 +139,15 @@ abbrev pub wordShown : List ℕ → Cursor → MaybeWord → reading.Word → Ty
 wordShown s c words.Missing v = v ≡ reading.missing
 wordShown s c (words.Found w) v =
     (t : List ℕ) × TextOf s (w .token) t × (v ≡ reading.found t (w .row)) × TokenIn s (wordRow (point s c)) (w .token)
+
+abbrev pub nameSaid : NameStep → Said
+nameSaid (nameSteps.At t d) = on d
+nameSaid (nameSteps.Refused r) = refusal r
+
+-- a name that stands in this row
+abbrev pub nameShown : List ℕ → ℕ → NameStep → List ℕ → Type 0
+nameShown s row (nameSteps.At t d) v = TextOf s t v × TokenIn s row t
+nameShown s row (nameSteps.Refused r) v = ⊥
 
 abbrev pub stopsOf : Stops → reading.Stops
 stopsOf st = record { comma = st .comma; angle = st .angle; group = st .group }
@@ -226,14 +233,6 @@ headShown s c (heads.At h) v =
 headShown s c (heads.Refused r) v = ⊥
 
 -- ## The answers of generics
-
-abbrev pub namedSaid : Named → Said
-namedSaid (nameds.At t d) = on d
-namedSaid (nameds.Refused r) = refusal r
-
-abbrev pub namedShown : List ℕ → Cursor → Named → List ℕ → Type 0
-namedShown s c (nameds.At t d) v = TextOf s t v × TokenIn s (c .row) t
-namedShown s c (nameds.Refused r) v = ⊥
 
 abbrev pub isLifetime : declaration.Parameter → Bool
 isLifetime (declaration.lifetime n b) = true
@@ -382,14 +381,6 @@ ValueIn s row (valueAts.Negative t) = TokenIn s row t
 abbrev pub valueShown : List ℕ → (declaration.Value → ℕ) → ValueStep → declaration.Value → Type 0
 valueShown s row (valueSteps.At w d) v = ValueOf s w v × ValueIn s (row v) w
 valueShown s row (valueSteps.Refused r) v = ⊥
-
-abbrev pub nameSaid : NameStep → Said
-nameSaid (nameSteps.At t d) = on d
-nameSaid (nameSteps.Refused r) = refusal r
-
-abbrev pub nameShown : List ℕ → Cursor → NameStep → List ℕ → Type 0
-nameShown s c (nameSteps.At t d) v = TextOf s t v × TokenIn s (variantNameRow (point s c)) t
-nameShown s c (nameSteps.Refused r) v = ⊥
 
 -- a variant's value, and the `,` that may follow
 abbrev pub variantValue : Reader declaration.Value

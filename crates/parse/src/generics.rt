@@ -1,12 +1,13 @@
 // Generics and the where clause (virtue's parse/generics.rs, its readers).
 use crate::role;
-use crate::utils::Ran;
+use crate::runs::Ran;
+use crate::runs::Stops;
+use crate::runs::read_tokens_until_punct;
+use crate::utils::NameStep;
 use crate::utils::Step;
-use crate::utils::Stops;
 use crate::utils::consume_punct_if;
 use crate::utils::ident_eq;
 use crate::utils::is_punct;
-use crate::utils::read_tokens_until_punct;
 use crate::utils::take_token;
 use token_list::check::Cursor;
 use token_list::check::END;
@@ -21,7 +22,7 @@ ghost use Rattle.reading.specs.Role.{bound};
 ghost use Rattle.reading.specs.Declaration.{Parameter};
 ghost use Rattle.reading.specs.Reading.{run, parameterStops, parameterName, marked-run, typeAfter, comma, parameter, every, generics, clause};
 ghost use Rattle.reading.specs.Place.{parameterNameRow};
-ghost use Rattle.parse.specs.Contract.{Meets, any, stream, point, TokenIn, TextOf, stepSaid, namedShown, namedSaid, ParameterOf, TypeNamed, parameterShown, parameterSaid, namedParameter, afterQuote, afterConst, afterName, countShown, countSaid, genericsShown};
+ghost use Rattle.parse.specs.Contract.{Meets, any, stream, point, TokenIn, TextOf, stepSaid, nameShown, nameSaid, ParameterOf, TypeNamed, parameterShown, parameterSaid, namedParameter, afterQuote, afterConst, afterName, countShown, countSaid, genericsShown};
 
 // Where a parameter's name stands, and the cursor after the parameter.
 pub struct ParameterAt {
@@ -37,11 +38,6 @@ pub enum ParameterStep {
     Refused(Refusal),
 }
 
-pub enum Named {
-    At(Token, Cursor),
-    Refused(Refusal),
-}
-
 // Where a list of things ended, and how many there were.
 pub enum Counted {
     At(Cursor, usize),
@@ -49,20 +45,20 @@ pub enum Counted {
 }
 
 // The ident that must stand at c: else `number` there, or at `or` where nothing stands.
-fn parameter_name(s: &[u8], c: Cursor, roles: &mut [u8], number: u8, or: usize) -> Named
+fn parameter_name(s: &[u8], c: Cursor, roles: &mut [u8], number: u8, or: usize) -> NameStep
     requires { ⌜ InList (now s) c ⌝ }
-    ensures { λ r. ⌜ Meets (now (s .entry)) c (now (roles .entry)) (now (roles .exit)) (namedShown (now (s .entry)) c r) (namedSaid r) (parameterName number or (c .row) (stream (now (s .entry)) c)) ⌝ }
+    ensures { λ r. ⌜ Meets (now (s .entry)) c (now (roles .entry)) (now (roles .exit)) (nameShown (now (s .entry)) (c .row) r) (nameSaid r) (parameterName number or (c .row) (stream (now (s .entry)) c)) ⌝ }
 {
     let row = c.row;
     match peek(s, c) {
-        Peeked::Nothing => Named::Refused(Refusal { number, place: or }),
-        Peeked::Group(_) => Named::Refused(Refusal { number, place: row }),
+        Peeked::Nothing => NameStep::Refused(Refusal { number, place: or }),
+        Peeked::Group(_) => NameStep::Refused(Refusal { number, place: row }),
         Peeked::Leaf(t) => {
             if t.kind != b'i' {
-                return Named::Refused(Refusal { number, place: row });
+                return NameStep::Refused(Refusal { number, place: row });
             }
             let next = take_token(s, c, t, roles, role::PARAMETER_NAME);
-            Named::At(t, next)
+            NameStep::At(t, next)
         }
     }
 }
@@ -128,8 +124,8 @@ fn named_parameter(
     ensures { λ r. ⌜ Meets (now (s .entry)) c (now (roles .entry)) (now (roles .exit)) (parameterShown (now (s .entry)) (c .row) r) (parameterSaid r) (namedParameter number or lifetime (c .row) (stream (now (s .entry)) c)) ⌝ }
 {
     match parameter_name(s, c, roles, number, or) {
-        Named::Refused(r) => ParameterStep::Refused(r),
-        Named::At(name, d) => match marked_run(s, d, roles, b':') {
+        NameStep::Refused(r) => ParameterStep::Refused(r),
+        NameStep::At(name, d) => match marked_run(s, d, roles, b':') {
             Step::Refused(r) => ParameterStep::Refused(r),
             Step::At(e) => finished(s, e, roles, lifetime, name),
         },

@@ -3,8 +3,11 @@
 pub mod attributes;
 pub mod body;
 pub mod data_type;
+pub mod fields;
 pub mod generics;
 pub mod item;
 pub mod role;
+pub mod runs;
 pub mod utils;
+pub mod variants;
 pub mod visibility;

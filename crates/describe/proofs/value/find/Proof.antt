@@ -14,7 +14,7 @@ use Rattle.describe.specs.Value.{valueAt}
 use Rattle.describe.proofs.Inside.{inside-more, inside-done, inside-refused, forward}
 use Rattle.describe.proofs.Worths.{value-first, value-later, variant-first, variant-later}
 use Rattle.parse.proofs.Places.{meets-beyond}
-use Rattle.parse.specs.declared.body.ValueAt.{ValueAt}
+use Rattle.parse.specs.declared.variants.ValueAt.{ValueAt}
 use Rattle.reading.specs.Took.{Point}
 use Rattle.reading.specs.Place.{variantAt, valueRow}
 use Rattle.describe.proofs.value.find.Statement.{statement}

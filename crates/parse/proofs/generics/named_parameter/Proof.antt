@@ -40,7 +40,7 @@ marked-run-requires c κs =
     let args = c .before .before .before .before .before .before .before .before .before .before .args in
     let parameter-name = c .before .before .before .before .before .before .parameter-name in
     meeting.landed
-    (meeting.say (contract.namedShown (args .s .now) (args .c)) contract.namedSaid ((c .before .before .name) .given .1)
+    (meeting.say (contract.nameShown (args .s .now) (args .c .row)) contract.nameSaid ((c .before .before .name) .given .1)
     (parameter-name .ensures))
 
 enum-known-r-2 : tie.Need-enum-known-r-2
@@ -67,7 +67,7 @@ returns c =
     (reading.parameterName (args .number) (args .or) (args .c .row) (contract.stream (args .s .now) (args .c)))
     (made (args .lifetime)) reading.comma)
     (meeting.meets-no (rest (args .lifetime))
-    (meeting.say (contract.namedShown (args .s .now) (args .c)) contract.namedSaid ((c .before .r) .given .1)
+    (meeting.say (contract.nameShown (args .s .now) (args .c .row)) contract.nameSaid ((c .before .r) .given .1)
     (parameter-name .ensures)))
 
 same-length-2 : tie.Need-same-length-2
@@ -85,7 +85,7 @@ returns-2 c =
     (reading.parameterName (args .number) (args .or) (args .c .row) (contract.stream (args .s .now) (args .c)))
     (made (args .lifetime)) reading.comma)
     (meeting.meets-then (rest (args .lifetime))
-    (meeting.say (contract.namedShown (args .s .now) (args .c)) contract.namedSaid (name .given .1) (parameter-name .ensures))
+    (meeting.say (contract.nameShown (args .s .now) (args .c .row)) contract.nameSaid (name .given .1) (parameter-name .ensures))
     (λ x h.
     meeting.meets-as
     (meeting.after-assoc (d .row) (reading.marked-run 58 (d .row) (contract.stream (args .s .now) d))
@@ -109,7 +109,7 @@ returns-3 c =
     (reading.parameterName (args .number) (args .or) (args .c .row) (contract.stream (args .s .now) (args .c)))
     (made (args .lifetime)) reading.comma)
     (meeting.meets-then (rest (args .lifetime))
-    (meeting.say (contract.namedShown (args .s .now) (args .c)) contract.namedSaid (name .given .1) (parameter-name .ensures))
+    (meeting.say (contract.nameShown (args .s .now) (args .c .row)) contract.nameSaid (name .given .1) (parameter-name .ensures))
     (λ x h.
     meeting.meets-as
     (meeting.after-assoc (d .row) (reading.marked-run 58 (d .row) (contract.stream (args .s .now) d))
