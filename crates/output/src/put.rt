@@ -40,11 +40,11 @@ pub fn put_number(out: &mut [u8], at: usize, n: usize) -> usize
 {
     if n < 10 {
         let digit = n as u8;
-        return put_byte(out, at, 48 + digit);
+        return put_byte(out, at, b'0' + digit);
     }
     let end = put_number(out, at, n / 10);
     let digit = (n % 10) as u8;
-    put_byte(out, end, 48 + digit)
+    put_byte(out, end, b'0' + digit)
 }
 
 // A place: its row, or `-` for the end mark.

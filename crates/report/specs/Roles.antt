@@ -5,28 +5,30 @@ use mathlib.Core.List.{List, [], _∷_, _++_}
 use Prim.Native.Nat.{ℕ, zero, suc, _≤_}
 use lib.Dec.{eqb}
 use lib.ListN.{length, take}
+use Rattle.token_list.specs.Byte.{bytes, SPACE, LF}
+use Rattle.reading.specs.Role.{none}
 use Rattle.reading.specs.Answer.{Answer, declared, refused}
 use Rattle.output.specs.Text.{decimal, refusalText}
 use Rattle.report.specs.declared.roles.Roles.{Roles}
 use Rattle.report.specs.declared.roles.Roles.the-variants.{Rows, Refused}
 
--- how many bytes of a role buffer stand before its first 255
+-- how many bytes of a role buffer stand before the first that holds no role
 abbrev pub assigned : List ℕ → ℕ
 assigned [] = 0
-assigned (r ∷ rs) = cond (eqb r 255) 0 (suc (assigned rs))
+assigned (r ∷ rs) = cond (eqb r none) 0 (suc (assigned rs))
 
 -- a row, one space and its role
 unfoldable pub roleLine : ℕ → ℕ → List ℕ
-roleLine row role = decimal row ++ 32 ∷ (decimal role ++ 10 ∷ [])
+roleLine row role = decimal row ++ SPACE ∷ (decimal role ++ LF ∷ [])
 
 -- a line for each role, the first for the given row
 abbrev pub roleLines : ℕ → List ℕ → List ℕ
 roleLines row [] = []
 roleLines row (r ∷ rs) = roleLine row r ++ roleLines (suc row) rs
 
--- `row role` and LF
+-- the line of names
 abbrev pub NAMES : List ℕ
-NAMES = 114 ∷ 111 ∷ 119 ∷ 32 ∷ 114 ∷ 111 ∷ 108 ∷ 101 ∷ 10 ∷ []
+NAMES = bytes "row role\n"
 
 -- the line of names and a line for each row, or the refusal
 abbrev pub rolesText : Answer → List ℕ

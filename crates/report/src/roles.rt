@@ -5,10 +5,12 @@ use output::put::put_number;
 use output::put::put_refusal;
 use parse::item::Parse;
 use parse::item::new;
+use parse::role::NONE;
 use token_list::check::Refusal;
 ghost use mathlib.Core.Path.{_≡_};
 ghost use Prim.Native.Nat.{ℕ, _+_, _*_, _^_, _≤_, _<_};
 ghost use lib.ListN.{length};
+ghost use Rattle.token_list.specs.Layout.{MAX-ROWS};
 ghost use Rattle.token_list.specs.Place.{OneRefusal};
 ghost use Rattle.reading.specs.Answer.{refused, answer, buffer, readNumber};
 ghost use Rattle.output.specs.Contract.{Put};
@@ -20,13 +22,13 @@ pub enum Roles {
     Refused(Refusal),
 }
 
-// How many bytes stand before the first 255.
+// How many bytes stand before the first that holds no role.
 fn count_assigned(roles: &[u8]) -> usize
     ensures { λ r. ⌜ r ≡ assigned (now (roles .entry)) ⌝ }
 {
     let mut i = 0;
     while i < roles.len() {
-        if roles[i] == 255 {
+        if roles[i] == NONE {
             return i;
         }
         i += 1;
@@ -59,7 +61,7 @@ fn put_line(out: &mut [u8], at: usize, row: usize, role: u8) -> usize
 }
 
 fn put_lines(out: &mut [u8], at: usize, roles: &[u8]) -> usize
-    requires { ⌜ (at + 65536 < 2 ^ 64) × (length (now roles) ≤ 4096) ⌝ }
+    requires { ⌜ (at + 65536 < 2 ^ 64) × (length (now roles) ≤ MAX-ROWS) ⌝ }
     ensures { λ r. ⌜ Put (now (out .entry)) (now (out .exit)) at r (roleLines 0 (now (roles .entry))) ⌝ }
     ensures { λ r. ⌜ r ≤ at + 9 * length (now (roles .entry)) ⌝ }
 {
