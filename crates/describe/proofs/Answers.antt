@@ -30,7 +30,7 @@ use Rattle.reading.specs.Reading.{item}
 use Rattle.parse.specs.Contract.{on, no, Meets, stands, refuses}
 use Rattle.parse.specs.declared.variants.ValueAt.{ValueAt}
 use Rattle.parse.specs.declared.variants.ValueAt.the-variants as valueAts
-use Rattle.describe.specs.Value.{negativeText, Answer, refused, bodyValue, valueAnswer, variantAnswer, itemAnswer, answer, scratch, textOf}
+use Rattle.describe.specs.Value.{SCRATCH-BYTES, negativeText, Answer, refused, bodyValue, valueAnswer, variantAnswer, itemAnswer, answer, scratch, textOf}
 use Rattle.describe.specs.Listing as listing
 use Rattle.describe.specs.Contract.{ValueAs, part, textStart, textEnd, placeOf, Placed, listedAs, ListedAs}
 use Rattle.describe.specs.declared.listing.Listed.{Listed}
@@ -107,7 +107,7 @@ placed-refused {s} {x} r e = record { place = sym (ap (placeOf s) e); text = sym
 
 module _ (s : List ℕ) (k n : ℕ) where
   abbrev framedBy : list.Answer → Answer
-  framedBy a = framed refused (λ rows. ltb n 20) (itemAnswer (start s) k) s a
+  framedBy a = framed refused (λ rows. ltb n SCRATCH-BYTES) (itemAnswer (start s) k) s a
 
   pub value-checked : {m p : ℕ} → list.check s ≡ list.Answer.refused m p → answer s k n ≡ refused m p
   unfolding answer
@@ -123,7 +123,7 @@ module _ (s : List ℕ) (k n : ℕ) where
 
   pub value-refusal : (m p : ℕ) → answer s k n ≡ refused m p → OneRefusal readNumber s m p
   unfolding answer
-  value-refusal = refusals s refused (λ rows. ltb n 20) (itemAnswer (start s) k) (λ n p m o q. ((cc), (cc))) plain
+  value-refusal = refusals s refused (λ rows. ltb n SCRATCH-BYTES) (itemAnswer (start s) k) (λ n p m o q. ((cc), (cc))) plain
     where
       no-refusal : {B : Type 0} {m p : ℕ} (v : declaration.Value) → variantAnswer (start s) k v ≡ refused m p → B
       no-refusal declaration.absent q = let z : _≡_ {A = ℕ} 0 1 = cc in absurd (omega arith)

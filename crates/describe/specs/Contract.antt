@@ -6,6 +6,8 @@ use lib.ListN.{length, take}
 use lib.Dec.{leb, eqb}
 use lib.Seq.{slice}
 use mathlib.Core.Bool.{Bool, true, false, cond}
+use Rattle.token_list.specs.Byte.{BRACE}
+use Rattle.token_list.specs.Layout.{TEXT-OFFSET, MAX-BYTES}
 use Rattle.token_list.specs.Stream.{Trees, rowStart}
 use Rattle.token_list.specs.declared.check.Cursor.{Cursor}
 use Rattle.reading.specs.Declaration as declaration
@@ -44,7 +46,7 @@ partOf s x (places.Refused r) = []
 
 -- where the text of a row stands in a list
 abbrev pub textStart : List ℕ → ℕ → ℕ
-textStart s row = rowStart s row + 2
+textStart s row = rowStart s row + TEXT-OFFSET
 
 abbrev pub textEnd : List ℕ → ℕ → ℕ
 textEnd s row = rowStart s (row + 1) - 1
@@ -56,11 +58,12 @@ placeOf s (value.inList row t) = places.InList (textStart s row) (textEnd s row)
 placeOf s (value.inScratch t) = places.InScratch (length t)
 placeOf s (value.refused n p) = places.Refused (record { number = n; place = p })
 
--- a text of the list is past its first byte and not empty, and the list's last byte is none of it; one of the scratch has 1 to 20 bytes
+-- a text of the list is past its first byte and not empty, and the list's last byte is none of it; one of the scratch
+-- has 1 to SCRATCH-BYTES bytes
 abbrev pub InRange : ValuePlace → Type 0
 InRange places.None = Unit
-InRange (places.InList a e) = (0 < a) × (a < e) × (e < 65536)
-InRange (places.InScratch n) = (0 < n) × (n ≤ 20)
+InRange (places.InList a e) = (0 < a) × (a < e) × (e < MAX-BYTES)
+InRange (places.InScratch n) = (0 < n) × (n ≤ value.SCRATCH-BYTES)
 InRange (places.Refused r) = Unit
 
 -- the place, the text that stands there, and the scratch, which was `before` and is `after`
@@ -78,7 +81,7 @@ fieldsIn true s c f = (fs : List declaration.Field) × (f ≡ declaration.named 
 fieldsIn false s c f = (ts : List Trees) × (f ≡ declaration.tuple ts) × InsideAt (reading.every reading.tupleField) s c ts
 
 abbrev pub StructAt : List ℕ → ℕ → Cursor → declaration.Fields → Type 0
-StructAt s mark c f = fieldsIn (eqb mark 123) s c f
+StructAt s mark c f = fieldsIn (eqb mark BRACE) s c f
 
 -- what an answer says, of the output x
 abbrev pub listedAs : List ℕ → Listed → listing.Answer

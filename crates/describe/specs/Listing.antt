@@ -2,10 +2,12 @@
 use mathlib.Core.Path.{_≡_}
 use mathlib.Core.Bool.{false, cond}
 use mathlib.Core.List.{List, [], _∷_, _++_}
-use Prim.Native.Nat.{ℕ, _+_, _≤_}
+use Prim.Native.Nat.{ℕ, _+_, _*_, _≤_}
 use lib.Dec.{ltb}
 use lib.ListN.{length}
 use lib.Seq.{sets}
+use Rattle.token_list.specs.Byte.{bytes, SPACE, LF, QUOTE}
+use Rattle.token_list.specs.Layout.{MAX-BYTES, MAX-ROWS}
 use Rattle.token_list.specs.Check as list
 use Rattle.token_list.specs.Stream.{Trees}
 use Rattle.output.specs.Text.{decimal, refusalText}
@@ -14,33 +16,33 @@ use Rattle.reading.specs.Took.{Took, took, refuse}
 use Rattle.reading.specs.Answer.{framed}
 use Rattle.describe.specs.Value.{negativeText}
 
--- `part name number` and LF
+-- the line of names
 abbrev pub NAMES : List ℕ
-NAMES = 112 ∷ 97 ∷ 114 ∷ 116 ∷ 32 ∷ 110 ∷ 97 ∷ 109 ∷ 101 ∷ 32 ∷ 110 ∷ 117 ∷ 109 ∷ 98 ∷ 101 ∷ 114 ∷ 10 ∷ []
+NAMES = bytes "part name number\n"
 
 -- the parts, each with the space after it
 abbrev pub STRUCT : List ℕ
-STRUCT = 115 ∷ 116 ∷ 114 ∷ 117 ∷ 99 ∷ 116 ∷ 32 ∷ []
+STRUCT = bytes "struct "
 
 abbrev pub ENUM : List ℕ
-ENUM = 101 ∷ 110 ∷ 117 ∷ 109 ∷ 32 ∷ []
+ENUM = bytes "enum "
 
 abbrev pub PARAM : List ℕ
-PARAM = 112 ∷ 97 ∷ 114 ∷ 97 ∷ 109 ∷ 32 ∷ []
+PARAM = bytes "param "
 
 abbrev pub VARIANT : List ℕ
-VARIANT = 118 ∷ 97 ∷ 114 ∷ 105 ∷ 97 ∷ 110 ∷ 116 ∷ 32 ∷ []
+VARIANT = bytes "variant "
 
 abbrev pub FIELD : List ℕ
-FIELD = 102 ∷ 105 ∷ 101 ∷ 108 ∷ 100 ∷ 32 ∷ []
+FIELD = bytes "field "
 
--- `-`, where there is no name or no number
+-- where there is no name or no number
 abbrev pub DASH : List ℕ
-DASH = 45 ∷ []
+DASH = bytes "-"
 
 -- a line: part, name and number
 unfoldable pub line : List ℕ → List ℕ → List ℕ → List ℕ
-line part name number = part ++ (name ++ 32 ∷ (number ++ 10 ∷ []))
+line part name number = part ++ (name ++ SPACE ∷ (number ++ LF ∷ []))
 
 -- lines of things that are numbered from k on
 abbrev pub numbered : {A : Type 0} → (ℕ → A → List ℕ) → ℕ → List A → List ℕ
@@ -49,7 +51,7 @@ numbered f k (x ∷ xs) = f k x ++ numbered f (k + 1) xs
 
 -- a lifetime with its `'`
 abbrev pub parameterName : Parameter → List ℕ
-parameterName (lifetime n b) = 39 ∷ n
+parameterName (lifetime n b) = QUOTE ∷ n
 parameterName (constant n t) = n
 parameterName (type n b d) = n
 
@@ -128,9 +130,9 @@ abbrev pub answerText : Answer → List ℕ
 answerText (listed text) = text
 answerText (refused n p) = refusalText n p
 
--- the line of names, the 65,536 bytes that a list may have, and 20 bytes for each of its 4,096 rows
+-- 147,473: the 17 bytes of the line of names, the bytes that a list may have, and 20 bytes for each of its rows
 abbrev pub MOST : ℕ
-MOST = 147473
+MOST = 17 + MAX-BYTES + 20 * MAX-ROWS
 
 -- of a list s, and an output of n bytes
 pub record Fits (s : List ℕ) (n : ℕ) : Type 0 where

@@ -4,6 +4,7 @@ use mathlib.Core.List.{List, [], _∷_}
 use Prim.Native.Nat.{ℕ, zero, suc}
 use lib.Dec.{ltb, eqb}
 use lib.Seq.{sets}
+use Rattle.token_list.specs.Byte.{ZERO, MINUS}
 use Rattle.token_list.specs.Check as list
 use Rattle.output.specs.Text.{decimal}
 use Rattle.reading.specs.Declaration.{Value, absent, literal, negative, Variant, Body, fields, variants, Declaration}
@@ -13,7 +14,11 @@ use Rattle.reading.specs.Place.{start, inside, bodyAt, variantAt, valueRow}
 
 -- a negative, written anew: `-7` for `-007`, `0` for `-0`
 unfoldable pub negativeText : ℕ → List ℕ
-negativeText n = cond (eqb n 0) (48 ∷ []) (45 ∷ decimal n)
+negativeText n = cond (eqb n 0) (ZERO ∷ []) (MINUS ∷ decimal n)
+
+-- the most bytes that such a text has
+abbrev pub SCRATCH-BYTES : ℕ
+SCRATCH-BYTES = 20
 
 -- the value of the variant at a position; none where there is no such variant
 abbrev pub valueAt : ℕ → List Variant → Value
@@ -48,9 +53,9 @@ abbrev pub itemAnswer : Point → ℕ → Took Declaration → Answer
 itemAnswer x k (took d rs us) = variantAnswer x k (bodyValue k (d .body))
 itemAnswer x k (refuse n p) = refused n p
 
--- for a list s, the variant at position k, and a scratch of n bytes, which needs 20
+-- for a list s, the variant at position k, and a scratch of n bytes
 unfoldable pub answer : List ℕ → ℕ → ℕ → Answer
-answer s k n = framed refused (λ rows. ltb n 20) (itemAnswer (start s) k) s (list.check s)
+answer s k n = framed refused (λ rows. ltb n SCRATCH-BYTES) (itemAnswer (start s) k) s (list.check s)
 
 -- the scratch is written where the answer is a part of it, and past that part it stays
 abbrev pub scratch : List ℕ → Answer → List ℕ

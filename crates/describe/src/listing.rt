@@ -29,6 +29,8 @@ use token_list::check::Cursor;
 use token_list::check::END;
 use token_list::check::Refusal;
 use token_list::check::check;
+use token_list::layout::FIRST_ROW;
+use token_list::layout::MAX_ROWS;
 use token_list::stream::Peeked;
 use token_list::stream::Token;
 use token_list::stream::peek;
@@ -37,6 +39,8 @@ ghost use mathlib.Core.List.{List, [], _∷_, _++_};
 ghost use Prim.Native.Nat.{ℕ, _+_, _≤_, _<_};
 ghost use lib.ListN.{length};
 ghost use lib.Seq.{slice};
+ghost use Rattle.token_list.specs.Byte.{SPACE, LF};
+ghost use Rattle.token_list.specs.Layout.{FIRST-ROW, MAX-BYTES};
 ghost use Rattle.token_list.specs.Stream.{Trees, at};
 ghost use Rattle.token_list.specs.Place.{OneRefusal};
 ghost use Rattle.token_list.specs.Contract.{InList};
@@ -58,7 +62,7 @@ pub enum Listed {
 // The text of a token.
 fn put_token(s: &[u8], t: Token, out: &mut [u8], at: usize) -> usize
     requires { ⌜ t .end ≤ length (now s) ⌝ }
-    requires { ⌜ length (now s) ≤ 65536 ⌝ }
+    requires { ⌜ length (now s) ≤ MAX-BYTES ⌝ }
     requires { ⌜ at ≤ 1000000000000000000 ⌝ }
     ensures { λ r. ⌜ Put (now (out .entry)) (now (out .exit)) at r (slice (t .start) (t .end) (now (s .entry))) ⌝ }
     ensures { λ r. ⌜ r ≤ at + 65536 ⌝ }
@@ -74,7 +78,7 @@ fn put_token(s: &[u8], t: Token, out: &mut [u8], at: usize) -> usize
 // A part and a name.
 fn put_head(s: &[u8], part: &[u8], name: Token, out: &mut [u8], at: usize) -> usize
     requires { ⌜ name .end ≤ length (now s) ⌝ }
-    requires { ⌜ length (now s) ≤ 65536 ⌝ }
+    requires { ⌜ length (now s) ≤ MAX-BYTES ⌝ }
     requires { ⌜ length (now part) ≤ 8 ⌝ }
     requires { ⌜ at ≤ 100000000000000000 ⌝ }
     ensures { λ r. ⌜ Put (now (out .entry)) (now (out .exit)) at r (now (part .entry) ++ slice (name .start) (name .end) (now (s .entry))) ⌝ }
@@ -87,7 +91,7 @@ fn put_head(s: &[u8], part: &[u8], name: Token, out: &mut [u8], at: usize) -> us
 // A number that is a count or a position, and the line's end.
 fn put_position(out: &mut [u8], at: usize, n: usize) -> usize
     requires { ⌜ at ≤ 1000000000000000000 ⌝ }
-    ensures { λ r. ⌜ Put (now (out .entry)) (now (out .exit)) at r (32 ∷ (decimal n ++ 10 ∷ [])) ⌝ }
+    ensures { λ r. ⌜ Put (now (out .entry)) (now (out .exit)) at r (SPACE ∷ (decimal n ++ LF ∷ [])) ⌝ }
     ensures { λ r. ⌜ r ≤ at + 22 ⌝ }
 {
     let space = put_byte(out, at, b' ');
@@ -97,7 +101,7 @@ fn put_position(out: &mut [u8], at: usize, n: usize) -> usize
 
 fn put_named(s: &[u8], name: Token, out: &mut [u8], at: usize, n: usize) -> usize
     requires { ⌜ name .end ≤ length (now s) ⌝ }
-    requires { ⌜ length (now s) ≤ 65536 ⌝ }
+    requires { ⌜ length (now s) ≤ MAX-BYTES ⌝ }
     requires { ⌜ at ≤ 100000000000000000 ⌝ }
     ensures { λ r. ⌜ Put (now (out .entry)) (now (out .exit)) at r (line FIELD (slice (name .start) (name .end) (now (s .entry))) (decimal n)) ⌝ }
     ensures { λ r. ⌜ r ≤ at + 65566 ⌝ }
@@ -118,7 +122,7 @@ fn put_unnamed(out: &mut [u8], at: usize, n: usize) -> usize
 // The lines of the named fields that are read from `from` on.
 fn named_lines(s: &[u8], from: Cursor, roles: &mut [u8], out: &mut [u8], start: usize) -> usize
     requires { ⌜ InList (now s) from ⌝ }
-    requires { ⌜ length (now s) ≤ 65536 ⌝ }
+    requires { ⌜ length (now s) ≤ MAX-BYTES ⌝ }
     requires { ⌜ start ≤ 10000000000000000 ⌝ }
     ensures { λ r. ⌜ ((fs : List Field) → InsideAt (every namedField) (now (s .entry)) from fs → Put (now (out .entry)) (now (out .exit)) start r (numbered namedLine 0 fs)) ⌝ }
     ensures { λ r. ⌜ r ≤ start + 4300000000 ⌝ }
@@ -147,7 +151,7 @@ fn named_lines(s: &[u8], from: Cursor, roles: &mut [u8], out: &mut [u8], start: 
 // The lines of the fields without names that are read from `from` on.
 fn tuple_lines(s: &[u8], from: Cursor, roles: &mut [u8], out: &mut [u8], start: usize) -> usize
     requires { ⌜ InList (now s) from ⌝ }
-    requires { ⌜ length (now s) ≤ 65536 ⌝ }
+    requires { ⌜ length (now s) ≤ MAX-BYTES ⌝ }
     requires { ⌜ start ≤ 10000000000000000 ⌝ }
     ensures { λ r. ⌜ ((ts : List Trees) → InsideAt (every tupleField) (now (s .entry)) from ts → Put (now (out .entry)) (now (out .exit)) start r (numbered tupleLine 0 ts)) ⌝ }
     ensures { λ r. ⌜ r ≤ start + 4300000000 ⌝ }
@@ -174,7 +178,7 @@ fn tuple_lines(s: &[u8], from: Cursor, roles: &mut [u8], out: &mut [u8], start: 
 
 fn field_lines(s: &[u8], fields: FieldsAt, roles: &mut [u8], out: &mut [u8], at: usize) -> usize
     requires { ⌜ ((f : Fields) × FieldsOf (now s) fields f) ⌝ }
-    requires { ⌜ length (now s) ≤ 65536 ⌝ }
+    requires { ⌜ length (now s) ≤ MAX-BYTES ⌝ }
     requires { ⌜ at ≤ 10000000000000000 ⌝ }
     ensures { λ r. ⌜ ((f : Fields) → FieldsOf (now (s .entry)) fields f → Put (now (out .entry)) (now (out .exit)) at r (fieldLines f)) ⌝ }
     ensures { λ r. ⌜ r ≤ at + 4300000000 ⌝ }
@@ -189,7 +193,7 @@ fn field_lines(s: &[u8], fields: FieldsAt, roles: &mut [u8], out: &mut [u8], at:
 // A variant's number: its written value, or its position n.
 fn put_value(s: &[u8], v: ValueAt, n: usize, out: &mut [u8], at: usize) -> usize
     requires { ⌜ ((w : Value) × ValueOf (now s) v w) ⌝ }
-    requires { ⌜ length (now s) ≤ 65536 ⌝ }
+    requires { ⌜ length (now s) ≤ MAX-BYTES ⌝ }
     requires { ⌜ at ≤ 100000000000000000 ⌝ }
     ensures { λ r. ⌜ ((w : Value) → ValueOf (now (s .entry)) v w → Put (now (out .entry)) (now (out .exit)) at r (number n w)) ⌝ }
     ensures { λ r. ⌜ r ≤ at + 65536 ⌝ }
@@ -209,7 +213,7 @@ fn put_value(s: &[u8], v: ValueAt, n: usize, out: &mut [u8], at: usize) -> usize
 // A variant's own line.
 fn put_variant(s: &[u8], v: VariantAt, n: usize, out: &mut [u8], at: usize) -> usize
     requires { ⌜ ((a : Variant) × VariantOf (now s) v a) ⌝ }
-    requires { ⌜ length (now s) ≤ 65536 ⌝ }
+    requires { ⌜ length (now s) ≤ MAX-BYTES ⌝ }
     requires { ⌜ at ≤ 10000000000000000 ⌝ }
     ensures { λ r. ⌜ ((a : Variant) → VariantOf (now (s .entry)) v a → Put (now (out .entry)) (now (out .exit)) at r (variantLine n a)) ⌝ }
     ensures { λ r. ⌜ r ≤ at + 131082 ⌝ }
@@ -225,7 +229,7 @@ fn put_variant(s: &[u8], v: VariantAt, n: usize, out: &mut [u8], at: usize) -> u
 // The lines of the variants that are read from `from` on, each followed by its fields.
 fn variant_lines(s: &[u8], from: Cursor, roles: &mut [u8], out: &mut [u8], start: usize) -> usize
     requires { ⌜ InList (now s) from ⌝ }
-    requires { ⌜ length (now s) ≤ 65536 ⌝ }
+    requires { ⌜ length (now s) ≤ MAX-BYTES ⌝ }
     requires { ⌜ start ≤ 1000000000000000 ⌝ }
     ensures { λ r. ⌜ ((vs : List Variant) → InsideAt (every variant) (now (s .entry)) from vs → Put (now (out .entry)) (now (out .exit)) start r (numbered variantLines 0 vs)) ⌝ }
     ensures { λ r. ⌜ r ≤ start + 300000000000000 ⌝ }
@@ -254,7 +258,7 @@ fn variant_lines(s: &[u8], from: Cursor, roles: &mut [u8], out: &mut [u8], start
 
 fn put_parameter(s: &[u8], p: ParameterAt, out: &mut [u8], at: usize) -> usize
     requires { ⌜ ((a : Parameter) × ParameterOf (now s) (p .lifetime) (p .name) a) ⌝ }
-    requires { ⌜ length (now s) ≤ 65536 ⌝ }
+    requires { ⌜ length (now s) ≤ MAX-BYTES ⌝ }
     requires { ⌜ at ≤ 10000000000000000 ⌝ }
     ensures { λ r. ⌜ ((a : Parameter) → ParameterOf (now (s .entry)) (p .lifetime) (p .name) a → Put (now (out .entry)) (now (out .exit)) at r (parameterLine 0 a)) ⌝ }
     ensures { λ r. ⌜ r ≤ at + 65566 ⌝ }
@@ -278,7 +282,7 @@ fn parameter_lines(
     start: usize,
 ) -> usize
     requires { ⌜ InList (now s) from ⌝ }
-    requires { ⌜ length (now s) ≤ 65536 ⌝ }
+    requires { ⌜ length (now s) ≤ MAX-BYTES ⌝ }
     requires { ⌜ start ≤ 1000000000000000 ⌝ }
     ensures { λ r. ⌜ ((ps : List Parameter) → InsideAt (every (parameter angle)) (now (s .entry)) from ps → Put (now (out .entry)) (now (out .exit)) start r (numbered parameterLine 0 ps)) ⌝ }
     ensures { λ r. ⌜ r ≤ start + 4300000000 ⌝ }
@@ -304,7 +308,7 @@ fn parameter_lines(
 // The lines of the generics that are read at c.
 fn generics_lines(s: &[u8], c: Cursor, roles: &mut [u8], out: &mut [u8], at: usize) -> usize
     requires { ⌜ InList (now s) c ⌝ }
-    requires { ⌜ length (now s) ≤ 65536 ⌝ }
+    requires { ⌜ length (now s) ≤ MAX-BYTES ⌝ }
     requires { ⌜ at ≤ 1000000000000000 ⌝ }
     ensures { λ r. ⌜ ((g : Generics) → InsideAt generics (now (s .entry)) c g → Put (now (out .entry)) (now (out .exit)) at r (numbered parameterLine 0 (parametersOf g))) ⌝ }
     ensures { λ r. ⌜ r ≤ at + 4300000000 ⌝ }
@@ -326,7 +330,7 @@ fn generics_lines(s: &[u8], c: Cursor, roles: &mut [u8], out: &mut [u8], at: usi
 // The lines of a struct's body, whose group's inside is at c.
 fn struct_lines(s: &[u8], c: Cursor, mark: u8, roles: &mut [u8], out: &mut [u8], at: usize) -> usize
     requires { ⌜ InList (now s) c ⌝ }
-    requires { ⌜ length (now s) ≤ 65536 ⌝ }
+    requires { ⌜ length (now s) ≤ MAX-BYTES ⌝ }
     requires { ⌜ at ≤ 1000000000000000 ⌝ }
     ensures { λ r. ⌜ ((f : Fields) → StructAt (now (s .entry)) mark c f → Put (now (out .entry)) (now (out .exit)) at r (fieldLines f)) ⌝ }
     ensures { λ r. ⌜ r ≤ at + 4300000000 ⌝ }
@@ -340,7 +344,7 @@ fn struct_lines(s: &[u8], c: Cursor, mark: u8, roles: &mut [u8], out: &mut [u8],
 // The lines of a declaration's body.
 fn body_lines(s: &[u8], d: ItemAt, roles: &mut [u8], out: &mut [u8], at: usize) -> usize
     requires { ⌜ InList (now s) (d .body) ⌝ }
-    requires { ⌜ length (now s) ≤ 65536 ⌝ }
+    requires { ⌜ length (now s) ≤ MAX-BYTES ⌝ }
     requires { ⌜ at ≤ 1000000000000000 ⌝ }
     ensures { λ r. ⌜ ((b : Body) → InsideAt (bodyOf (kindOf (d .kind))) (now (s .entry)) (d .body) b → Put (now (out .entry)) (now (out .exit)) at r (bodyLines b)) ⌝ }
     ensures { λ r. ⌜ r ≤ at + 300000000000000 ⌝ }
@@ -363,7 +367,7 @@ fn body_lines(s: &[u8], d: ItemAt, roles: &mut [u8], out: &mut [u8], at: usize) 
 
 fn put_kind(s: &[u8], kind: DataType, name: Token, out: &mut [u8], at: usize) -> usize
     requires { ⌜ name .end ≤ length (now s) ⌝ }
-    requires { ⌜ length (now s) ≤ 65536 ⌝ }
+    requires { ⌜ length (now s) ≤ MAX-BYTES ⌝ }
     requires { ⌜ at ≤ 1000 ⌝ }
     ensures { λ r. ⌜ Put (now (out .entry)) (now (out .exit)) at r (kindText (kindOf kind) ++ slice (name .start) (name .end) (now (s .entry))) ⌝ }
     ensures { λ r. ⌜ r ≤ at + 65544 ⌝ }
@@ -377,7 +381,7 @@ fn put_kind(s: &[u8], kind: DataType, name: Token, out: &mut [u8], at: usize) ->
 // The item's line, after the line of names.
 fn put_item(s: &[u8], d: ItemAt, out: &mut [u8]) -> usize
     requires { ⌜ ((x : Declaration) × ItemOf (now s) d x) ⌝ }
-    requires { ⌜ length (now s) ≤ 65536 ⌝ }
+    requires { ⌜ length (now s) ≤ MAX-BYTES ⌝ }
     ensures { λ r. ⌜ ((x : Declaration) → ItemOf (now (s .entry)) d x → Put (now (out .entry)) (now (out .exit)) 0 r (itemLines x)) ⌝ }
     ensures { λ r. ⌜ r ≤ 70000 ⌝ }
 {
@@ -392,7 +396,7 @@ fn put_item(s: &[u8], d: ItemAt, out: &mut [u8]) -> usize
 // The whole listing.
 fn put_listing(s: &[u8], d: ItemAt, roles: &mut [u8], out: &mut [u8]) -> usize
     requires { ⌜ ((x : Declaration) × ItemOf (now s) d x) ⌝ }
-    requires { ⌜ length (now s) ≤ 65536 ⌝ }
+    requires { ⌜ length (now s) ≤ MAX-BYTES ⌝ }
     ensures { λ r. ⌜ ((x : Declaration) → ItemOf (now (s .entry)) d x → Put (now (out .entry)) (now (out .exit)) 0 r (listing x)) ⌝ }
 {
     let item = put_item(s, d, out);
@@ -404,7 +408,7 @@ fn put_listing(s: &[u8], d: ItemAt, roles: &mut [u8], out: &mut [u8]) -> usize
 // Measures the listing, and writes it where the output is long enough.
 fn fit_listing(s: &[u8], d: ItemAt, roles: &mut [u8], out: &mut [u8]) -> Listed
     requires { ⌜ ((x : Declaration) × ItemOf (now s) d x) ⌝ }
-    requires { ⌜ length (now s) ≤ 65536 ⌝ }
+    requires { ⌜ length (now s) ≤ MAX-BYTES ⌝ }
     ensures { λ r. ⌜ ((x : Declaration) → ItemOf (now (s .entry)) d x → ListedAs (now (out .entry)) (now (out .exit)) (fitted (length (now (out .entry))) (listed (listing x))) r) ⌝ }
 {
     let mut nowhere = [0u8; 1];
@@ -421,11 +425,14 @@ fn fit_listing(s: &[u8], d: ItemAt, roles: &mut [u8], out: &mut [u8]) -> Listed
 
 // The listing of a list that passes the check.
 fn read_listing(s: &[u8], out: &mut [u8], roles: &mut [u8]) -> Listed
-    requires { ⌜ InList (now s) (record { at = 10; row = 0 }) ⌝ }
-    requires { ⌜ length (now s) ≤ 65536 ⌝ }
-    ensures { λ r. ⌜ ListedAs (now (out .entry)) (now (out .exit)) (fitted (length (now (out .entry))) (itemAnswer (item 0 (at (now (s .entry)) 10 .here)))) r ⌝ }
+    requires { ⌜ InList (now s) (record { at = FIRST-ROW; row = 0 }) ⌝ }
+    requires { ⌜ length (now s) ≤ MAX-BYTES ⌝ }
+    ensures { λ r. ⌜ ListedAs (now (out .entry)) (now (out .exit)) (fitted (length (now (out .entry))) (itemAnswer (item 0 (at (now (s .entry)) FIRST-ROW .here)))) r ⌝ }
 {
-    let c = Cursor { at: 10, row: 0 };
+    let c = Cursor {
+        at: FIRST_ROW,
+        row: 0,
+    };
     match item(s, c, roles) {
         ItemStep::Refused(r) => Listed::Refused(r),
         ItemStep::At(d) => fit_listing(s, d, roles, out),
@@ -440,7 +447,7 @@ pub fn write_listing(list: &[u8], out: &mut [u8]) -> Listed
     match check(list) {
         Checked::Refused(r) => Listed::Refused(r),
         Checked::Passed(_) => {
-            let mut roles = [0u8; 4096];
+            let mut roles = [0u8; MAX_ROWS];
             read_listing(list, out, &mut roles)
         }
     }

@@ -14,6 +14,8 @@ use token_list::check::Cursor;
 use token_list::check::END;
 use token_list::check::Refusal;
 use token_list::check::check;
+use token_list::layout::FIRST_ROW;
+use token_list::layout::MAX_ROWS;
 use token_list::stream::Peeked;
 use token_list::stream::peek;
 ghost use mathlib.Core.Path.{_≡_};
@@ -22,19 +24,23 @@ ghost use mathlib.Core.List.{List};
 ghost use Prim.Native.Nat.{ℕ, _+_, _^_, _≤_, _<_};
 ghost use lib.ListN.{length};
 ghost use lib.Seq.{slice};
+ghost use Rattle.token_list.specs.Layout.{FIRST-ROW, MAX-BYTES};
 ghost use Rattle.token_list.specs.Stream.{at};
 ghost use Rattle.token_list.specs.Place.{OneRefusal};
 ghost use Rattle.token_list.specs.Contract.{InList};
 ghost use Rattle.output.specs.Contract.{Put};
-ghost use Rattle.reading.specs.Token.{negatable, worth};
+ghost use Rattle.reading.specs.Token.{MAX-I64, negatable, worth};
 ghost use Rattle.reading.specs.Declaration.{Value, Variant, Body};
 ghost use Rattle.reading.specs.Took.{Point};
 ghost use Rattle.reading.specs.Reading.{every, variant, bodyOf, item};
 ghost use Rattle.reading.specs.Place.{start, inside, variantAt, valueRow};
 ghost use Rattle.reading.specs.Answer.{readNumber};
 ghost use Rattle.parse.specs.Contract.{point, kindOf, InsideAt, ValueOf};
-ghost use Rattle.describe.specs.Value.{negativeText, valueAt, bodyValue, valueAnswer, itemAnswer, refused, answer};
+ghost use Rattle.describe.specs.Value.{SCRATCH-BYTES, negativeText, valueAt, bodyValue, valueAnswer, itemAnswer, refused, answer};
 ghost use Rattle.describe.specs.Contract.{ValueAs, Placed, partOf};
+
+// The scratch must have so many bytes, enough for every list.
+pub const SCRATCH_BYTES: usize = 20;
 
 // Where a value's text stands: nowhere, from one place of the list to another, or in so many bytes
 // at the start of the scratch.
@@ -50,7 +56,7 @@ pub fn worth(s: &[u8], start: usize, end: usize) -> usize
     requires { ⌜ end ≤ length (now s) ⌝ }
     requires { ⌜ negatable (slice start end (now s)) ≡ true ⌝ }
     ensures { λ r. ⌜ r ≡ worth (slice start end (now (s .entry))) ⌝ }
-    ensures { λ r. ⌜ r ≤ 9223372036854775807 ⌝ }
+    ensures { λ r. ⌜ r ≤ MAX-I64 ⌝ }
 {
     let mut n: usize = 0;
     let mut i = start;
@@ -66,9 +72,9 @@ pub fn worth(s: &[u8], start: usize, end: usize) -> usize
 // A negative number, written anew.
 pub fn put_negative(out: &mut [u8], at: usize, n: usize) -> usize
     requires { ⌜ at + 21 < 2 ^ 64 ⌝ }
-    requires { ⌜ n ≤ 9223372036854775807 ⌝ }
+    requires { ⌜ n ≤ MAX-I64 ⌝ }
     ensures { λ r. ⌜ Put (now (out .entry)) (now (out .exit)) at r (negativeText n) ⌝ }
-    ensures { λ r. ⌜ r ≤ at + 20 ⌝ }
+    ensures { λ r. ⌜ r ≤ at + SCRATCH-BYTES ⌝ }
 {
     if n == 0 {
         return put_byte(out, at, b'0');
@@ -128,8 +134,8 @@ fn value(s: &[u8], d: ItemAt, roles: &mut [u8], position: usize) -> ValueAt
 // Writes a negative into the scratch; a literal stays where it is.
 fn put_value(s: &[u8], v: ValueAt, scratch: &mut [u8]) -> ValuePlace
     requires { ⌜ ((w : Value) × ValueOf (now s) v w) ⌝ }
-    requires { ⌜ length (now s) ≤ 65536 ⌝ }
-    ensures { λ r. ⌜ ((x : Point) (w : Value) → ValueAs (now (s .entry)) x v w → 20 ≤ length (now (scratch .entry)) → Placed (now (s .entry)) (now (scratch .entry)) (now (scratch .exit)) (valueAnswer (valueRow x w) w) r) ⌝ }
+    requires { ⌜ length (now s) ≤ MAX-BYTES ⌝ }
+    ensures { λ r. ⌜ ((x : Point) (w : Value) → ValueAs (now (s .entry)) x v w → SCRATCH-BYTES ≤ length (now (scratch .entry)) → Placed (now (s .entry)) (now (scratch .entry)) (now (scratch .exit)) (valueAnswer (valueRow x w) w) r) ⌝ }
 {
     match v {
         ValueAt::Absent => ValuePlace::None,
@@ -150,12 +156,15 @@ fn put_value(s: &[u8], v: ValueAt, scratch: &mut [u8]) -> ValuePlace
 
 // The value in a list that passes the check.
 fn read_value(s: &[u8], position: usize, scratch: &mut [u8], roles: &mut [u8]) -> ValuePlace
-    requires { ⌜ InList (now s) (record { at = 10; row = 0 }) ⌝ }
-    requires { ⌜ 20 ≤ length (now scratch) ⌝ }
-    requires { ⌜ length (now s) ≤ 65536 ⌝ }
-    ensures { λ r. ⌜ Placed (now (s .entry)) (now (scratch .entry)) (now (scratch .exit)) (itemAnswer (start (now (s .entry))) position (item 0 (at (now (s .entry)) 10 .here))) r ⌝ }
+    requires { ⌜ InList (now s) (record { at = FIRST-ROW; row = 0 }) ⌝ }
+    requires { ⌜ SCRATCH-BYTES ≤ length (now scratch) ⌝ }
+    requires { ⌜ length (now s) ≤ MAX-BYTES ⌝ }
+    ensures { λ r. ⌜ Placed (now (s .entry)) (now (scratch .entry)) (now (scratch .exit)) (itemAnswer (start (now (s .entry))) position (item 0 (at (now (s .entry)) FIRST-ROW .here))) r ⌝ }
 {
-    let c = Cursor { at: 10, row: 0 };
+    let c = Cursor {
+        at: FIRST_ROW,
+        row: 0,
+    };
     match item(s, c, roles) {
         ItemStep::Refused(r) => ValuePlace::Refused(r),
         ItemStep::At(d) => {
@@ -166,7 +175,7 @@ fn read_value(s: &[u8], position: usize, scratch: &mut [u8], roles: &mut [u8]) -
 }
 
 // Where the value of the variant at this position stands. The scratch is written in the one case
-// that the answer is a part of it; 20 bytes are enough for every list, and must be there.
+// that the answer is a part of it.
 pub fn value_of(list: &[u8], position: usize, scratch: &mut [u8]) -> ValuePlace
     ensures { λ r. ⌜ Placed (now (list .entry)) (now (scratch .entry)) (now (scratch .exit)) (answer (now (list .entry)) position (length (now (scratch .entry)))) r ⌝ }
     ensures { λ _. ⌜ ((n p : ℕ) → answer (now (list .entry)) position (length (now (scratch .entry))) ≡ refused n p → OneRefusal readNumber (now (list .entry)) n p) ⌝ }
@@ -174,13 +183,13 @@ pub fn value_of(list: &[u8], position: usize, scratch: &mut [u8]) -> ValuePlace
     match check(list) {
         Checked::Refused(r) => ValuePlace::Refused(r),
         Checked::Passed(_) => {
-            if scratch.len() < 20 {
+            if scratch.len() < SCRATCH_BYTES {
                 return ValuePlace::Refused(Refusal {
                     number: 8,
                     place: END,
                 });
             }
-            let mut roles = [0u8; 4096];
+            let mut roles = [0u8; MAX_ROWS];
             read_value(list, position, scratch, &mut roles)
         }
     }
