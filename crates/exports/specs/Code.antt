@@ -20,7 +20,7 @@ pub data Case : Type 0 where
   accepted : ℕ → Case
   refusal : ℕ → ℕ → Case
 
--- 2^32
+-- 2^32: a refusal is told from here on
 abbrev pub REFUSED : ℕ
 REFUSED = 4294967296
 
@@ -67,15 +67,22 @@ pub record ListedInto (s before after : List ℕ) (r : ℕ) : Type 0 where
   pub coded : Coded (listingCase (listing.answer s (length before))) r
   pub output : after ≡ listing.output before (listing.answer s (length before))
 
--- 0 for no value, below 65,536 the length of a part of the scratch, else 65,536 times the start of a part of the list, plus its end
+-- 2^16: a part of the list is told from here on
+abbrev pub IN-LIST : ℕ
+IN-LIST = 65536
+
+-- 0 for no value, below IN-LIST the length of a part of the scratch, else IN-LIST times the start of a part of the list,
+-- plus its end
 abbrev pub placeCase : ValuePlace → Case
 placeCase places.None = accepted 0
 placeCase (places.InScratch n) = accepted n
-placeCase (places.InList a e) = accepted (a * 65536 + e)
+placeCase (places.InList a e) = accepted (a * IN-LIST + e)
 placeCase (places.Refused r) = refusal (r .number) (r .place)
 
 unfoldable pub decodedPlace : Case → ValuePlace
-decodedPlace (accepted v) = cond (eqb v 0) places.None (cond (ltb v 65536) (places.InScratch v) (places.InList (v / 65536) (v % 65536)))
+decodedPlace (accepted v) =
+    cond (eqb v 0) places.None
+    (cond (ltb v IN-LIST) (places.InScratch v) (places.InList (v / IN-LIST) (v % IN-LIST)))
 decodedPlace (refusal n p) = places.Refused (record { number = n; place = p })
 
 -- the place of the value of the variant of s at a position, and the whole scratch

@@ -10,8 +10,14 @@ use token_list::check::Checked;
 use token_list::check::Refusal;
 ghost use mathlib.Core.Path.{_≡_};
 ghost use Prim.Native.Nat.{_≤_};
-ghost use Rattle.token_list.specs.Check.{check};
+ghost use Rattle.token_list.specs.Check.{END, check};
 ghost use Rattle.exports.specs.Code.{refusal, code, Coded, checkCase, ReadInto, ListedInto, ValueInto};
+
+// A number from here on tells a refusal.
+const REFUSED: u64 = 4294967296;
+
+// And one from here on a part of the list, where a value is asked for.
+const IN_LIST: u64 = 65536;
 
 fn wide(n: u8) -> u64
     ensures { λ r. ⌜ r ≡ n ⌝ }
@@ -20,12 +26,12 @@ fn wide(n: u8) -> u64
 }
 
 fn coded(r: Refusal) -> u64
-    requires { ⌜ r .place ≤ 65535 ⌝ }
+    requires { ⌜ r .place ≤ END ⌝ }
     ensures { λ c. ⌜ c ≡ code (refusal (r .number) (r .place)) ⌝ }
 {
     let number = wide(r.number);
     let place = r.place as u64;
-    number * 4294967296 + place
+    number * REFUSED + place
 }
 
 // Checks a list: the number of its rows, or a refusal.
@@ -73,7 +79,7 @@ pub extern "C" fn kusthrila_value(list: &[u8], position: usize, scratch: &mut [u
         ValuePlace::InList(start, end) => {
             let from = start as u64;
             let to = end as u64;
-            from * 65536 + to
+            from * IN_LIST + to
         }
         ValuePlace::Refused(r) => coded(r),
     }

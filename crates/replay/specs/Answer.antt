@@ -4,10 +4,13 @@ use mathlib.Core.List.{List, [], _∷_}
 use Prim.Native.Nat.{ℕ, _+_}
 use lib.Dec.{eqb, ltb}
 use lib.ListN.{length, take, drop}
+use Rattle.token_list.specs.Byte.{code, bytes, DOT, LF}
+use Rattle.token_list.specs.Layout.{MAX-ROWS}
 use Rattle.token_list.specs.Text.{same, member}
 use Rattle.token_list.specs.Check.{check}
 use Rattle.output.specs.Text.{refusalText}
 use Rattle.report.specs.Text.{answerText}
+use Rattle.reading.specs.Role as role
 use Rattle.reading.specs.Answer.{Answer, declared, refused, answer}
 use Rattle.describe.specs.Listing as listing
 use Rattle.replay.specs.declared.header.Topic.{Topic}
@@ -15,43 +18,51 @@ use Rattle.replay.specs.declared.header.Topic.the-variants.{Check, Roles
 
 -- the roles whose rows the Rust's answer always names
 abbrev pub NAMED : List ℕ
-NAMED = 9 ∷ 11 ∷ 13 ∷ 17 ∷ 18 ∷ []
+NAMED = role.parameter-name ∷ role.bound ∷ role.where-run ∷ role.field-name ∷ role.type ∷ []
 
 -- the role's letter; or `.` for a row that the Rust's answer need not name, except in `every`
 unfoldable pub letterFits : Bool → ℕ → ℕ → Bool
-letterFits every b r = cond (eqb b 46) (cond every false (not (member r NAMED))) (eqb b (97 + r))
+letterFits every b r = cond (eqb b DOT) (cond every false (not (member r NAMED))) (eqb b (code "a" + r))
 
 -- a letter for each role, then LF
 abbrev pub lettersFit : Bool → List ℕ → List ℕ → Bool
 lettersFit every [] [] = false
 lettersFit every [] (r ∷ rs) = false
-lettersFit every (b ∷ bs) [] = same (b ∷ bs) (10 ∷ [])
+lettersFit every (b ∷ bs) [] = same (b ∷ bs) (LF ∷ [])
 lettersFit every (b ∷ bs) (r ∷ rs) = letterFits every b r && lettersFit every bs rs
 
--- `accepted` and LF
+-- the line before the letters, and its length
 abbrev pub ACCEPTED : List ℕ
-ACCEPTED = 97 ∷ 99 ∷ 99 ∷ 101 ∷ 112 ∷ 116 ∷ 101 ∷ 100 ∷ 10 ∷ []
+ACCEPTED = bytes "accepted\n"
+
+abbrev pub LETTERS : ℕ
+LETTERS = 9
 
 -- the line `accepted`, then the letters
 unfoldable pub acceptedFits : List ℕ → List ℕ → Bool
-acceptedFits bytes rs = cond (ltb (length bytes) 9) false (same (take 9 bytes) ACCEPTED && lettersFit false (drop 9 bytes) rs)
+acceptedFits t rs =
+    cond (ltb (length t) LETTERS) false (same (take LETTERS t) ACCEPTED && lettersFit false (drop LETTERS t) rs)
 
 abbrev pub rolesFit : List ℕ → Answer → Bool
-rolesFit bytes (declared d rs) = acceptedFits bytes rs
-rolesFit bytes (refused n p) = same bytes (refusalText n p)
+rolesFit t (declared d rs) = acceptedFits t rs
+rolesFit t (refused n p) = same t (refusalText n p)
 
 -- a refusal has no such section
 abbrev pub everyFits : List ℕ → Answer → Bool
-everyFits bytes (declared d rs) = lettersFit true bytes rs
-everyFits bytes (refused n p) = false
+everyFits t (declared d rs) = lettersFit true t rs
+everyFits t (refused n p) = false
 
 abbrev pub listingFits : List ℕ → listing.Answer → Bool
-listingFits bytes (listing.listed text) = same bytes text
-listingFits bytes (listing.refused n p) = same bytes (refusalText n p)
+listingFits t (listing.listed text) = same t text
+listingFits t (listing.refused n p) = same t (refusalText n p)
+
+-- the bytes of the output that a listing is written to: room for every one
+abbrev pub OUTPUT : ℕ
+OUTPUT = 262144
 
 -- whether a section's bytes are the answer to a list
 abbrev pub right : Topic → List ℕ → List ℕ → Bool
-right Check l bytes = same bytes (answerText (check l))
-right Roles l bytes = rolesFit bytes (answer l 4096)
-right Every l bytes = everyFits bytes (answer l 4096)
-right Listing l bytes = listingFits bytes (listing.answer l 262144)
+right Check l t = same t (answerText (check l))
+right Roles l t = rolesFit t (answer l MAX-ROWS)
+right Every l t = everyFits t (answer l MAX-ROWS)
+right Listing l t = listingFits t (listing.answer l OUTPUT)

@@ -4,6 +4,7 @@ use mathlib.Core.List.{List, [], _∷_}
 use Prim.Native.Nat.{ℕ, suc, _+_}
 use lib.Dec.{eqb, ltb}
 use lib.ListN.{length, take, drop}
+use Rattle.token_list.specs.Byte.{code, bytes, SPACE, LF}
 use Rattle.token_list.specs.Text.{same, between, digit}
 use Rattle.reading.specs.Token.{worth}
 use Rattle.replay.specs.declared.header.Topic.{Topic}
@@ -13,16 +14,14 @@ use Rattle.replay.specs.declared.header.Section.the-variants.{List as Li
 use Rattle.replay.specs.declared.header.Header.{Header}
 use Rattle.replay.specs.declared.header.Header.the-variants.{Found, Malformed}
 
--- `list`
 abbrev pub LIST : List ℕ
-LIST = 108 ∷ 105 ∷ 115 ∷ 116 ∷ []
+LIST = bytes "list"
 
--- `check`, `roles`, `every`, `listing`
 abbrev pub topicName : Topic → List ℕ
-topicName Check = 99 ∷ 104 ∷ 101 ∷ 99 ∷ 107 ∷ []
-topicName Roles = 114 ∷ 111 ∷ 108 ∷ 101 ∷ 115 ∷ []
-topicName Every = 101 ∷ 118 ∷ 101 ∷ 114 ∷ 121 ∷ []
-topicName Listing = 108 ∷ 105 ∷ 115 ∷ 116 ∷ 105 ∷ 110 ∷ 103 ∷ []
+topicName Check = bytes "check"
+topicName Roles = bytes "roles"
+topicName Every = bytes "every"
+topicName Listing = bytes "listing"
 
 abbrev pub sectionNamed : List ℕ → Section
 sectionNamed t =
@@ -37,10 +36,13 @@ abbrev pub run : (ℕ → Bool) → List ℕ → ℕ
 run p [] = 0
 run p (b ∷ bs) = cond (p b) (suc (run p bs)) 0
 
+abbrev pub MAX-DIGITS : ℕ
+MAX-DIGITS = 9
+
 -- the digits t, and what follows them; the section would start at `start`
 abbrev pub ended : Section → ℕ → List ℕ → List ℕ → Header
 ended k start t [] = Malformed
-ended k start t (b ∷ bs) = cond (eqb b 10 && between 1 9 (length t)) (Found k (worth t) start) Malformed
+ended k start t (b ∷ bs) = cond (eqb b LF && between 1 MAX-DIGITS (length t)) (Found k (worth t) start) Malformed
 
 -- the bytes u from the place `at` on, after the space
 abbrev pub sized : Section → ℕ → List ℕ → Header
@@ -49,10 +51,10 @@ sized k at u = ended k (at + run digit u + 1) (take (run digit u) u) (drop (run 
 -- the name t, and what follows it from the place `at` on
 abbrev pub named : ℕ → List ℕ → List ℕ → Header
 named at t [] = Malformed
-named at t (b ∷ bs) = cond (eqb b 32 && ltb 0 (length t)) (sized (sectionNamed t) (at + 1) bs) Malformed
+named at t (b ∷ bs) = cond (eqb b SPACE && ltb 0 (length t)) (sized (sectionNamed t) (at + 1) bs) Malformed
 
 abbrev pub lower : ℕ → Bool
-lower b = between 97 122 b
+lower b = between (code "a") (code "z") b
 
 -- the bytes u from the place `at` on
 abbrev pub header : ℕ → List ℕ → Header

@@ -14,9 +14,13 @@ pub record Placed (n m : ℕ) (s : State) : Type 0 where
   pub unread : Within n (s .at)
   pub list : s .list ≤ m
 
+-- the largest usize
+abbrev pub MAX-USIZE : ℕ
+MAX-USIZE = 18446744073709551615
+
 -- one more; the largest usize stays
 abbrev pub more : ℕ → ℕ
-more n = cond (ltb n 18446744073709551615) (n + 1) n
+more n = cond (ltb n MAX-USIZE) (n + 1) n
 
 -- one more where the answer is not right
 abbrev pub differing : Bool → ℕ → ℕ

@@ -3,23 +3,30 @@ use crate::header::Topic;
 use describe::listing::Listed;
 use describe::listing::write_listing;
 use output::put::put_refusal;
+use parse::role::BOUND;
+use parse::role::FIELD_NAME;
+use parse::role::PARAMETER_NAME;
+use parse::role::TYPE;
+use parse::role::WHERE_RUN;
 use report::check::report_check;
 use report::roles::Roles;
 use report::roles::read_roles;
 use token_list::check::Refusal;
+use token_list::layout::MAX_ROWS;
 use token_list::text::is_one_of;
 use token_list::text::text_is;
 ghost use mathlib.Core.Path.{_≡_};
 ghost use Prim.Native.Nat.{_≤_};
 ghost use lib.ListN.{length};
 ghost use lib.Seq.{slice};
+ghost use Rattle.token_list.specs.Layout.{MAX-ROWS};
 ghost use Rattle.token_list.specs.Text.{same};
 ghost use Rattle.token_list.specs.Check.{check};
 ghost use Rattle.output.specs.Text.{refusalText};
 ghost use Rattle.report.specs.Text.{answerText};
 ghost use Rattle.reading.specs.Answer.{answer};
 ghost use Rattle.describe.specs.Listing as listing;
-ghost use Rattle.replay.specs.Answer.{letterFits, lettersFit, acceptedFits, rolesFit, everyFits, listingFits, right};
+ghost use Rattle.replay.specs.Answer.{OUTPUT, letterFits, lettersFit, acceptedFits, rolesFit, everyFits, listingFits, right};
 
 // Whether the bytes from start to end are the report of the list check.
 fn is_check(list: &[u8], s: &[u8], start: usize, end: usize) -> bool
@@ -50,7 +57,7 @@ fn letter_fits(letter: u8, role: u8, every: bool) -> bool
         if every {
             return false;
         }
-        let named = [9u8, 11, 13, 17, 18];
+        let named = [PARAMETER_NAME, BOUND, WHERE_RUN, FIELD_NAME, TYPE];
         return !is_one_of(role, &named);
     }
     letter as usize == 97 + role as usize
@@ -76,15 +83,18 @@ fn letters_fit(s: &[u8], start: usize, end: usize, roles: &[u8], every: bool) ->
     text_is(s, at, end, b"\n")
 }
 
+// The letters stand past the line `accepted`.
+const LETTERS: usize = 9;
+
 // Whether the bytes from start to end are the line `accepted` and the letters of the roles.
 fn accepted_fits(s: &[u8], start: usize, end: usize, roles: &[u8]) -> bool
     requires { ⌜ (start ≤ end) × (end ≤ length (now s)) ⌝ }
     ensures { λ r. ⌜ r ≡ acceptedFits (slice start end (now (s .entry))) (now (roles .entry)) ⌝ }
 {
-    if end - start < 9 {
+    if end - start < LETTERS {
         return false;
     }
-    let letters = start + 9;
+    let letters = start + LETTERS;
     if !text_is(s, start, letters, b"accepted\n") {
         return false;
     }
@@ -92,16 +102,16 @@ fn accepted_fits(s: &[u8], start: usize, end: usize, roles: &[u8]) -> bool
 }
 
 // A byte for each row that a list may have.
-fn role_buffer() -> [u8; 4096]
-    ensures { λ r. ⌜ 4096 ≡ length r ⌝ }
+fn role_buffer() -> [u8; MAX_ROWS]
+    ensures { λ r. ⌜ MAX-ROWS ≡ length r ⌝ }
 {
-    [0; 4096]
+    [0; MAX_ROWS]
 }
 
 // Whether the bytes from start to end are the refusal, or name no other role than the list's rows have.
 fn is_roles(list: &[u8], s: &[u8], start: usize, end: usize) -> bool
     requires { ⌜ (start ≤ end) × (end ≤ length (now s)) ⌝ }
-    ensures { λ r. ⌜ r ≡ rolesFit (slice start end (now (s .entry))) (answer (now (list .entry)) 4096) ⌝ }
+    ensures { λ r. ⌜ r ≡ rolesFit (slice start end (now (s .entry))) (answer (now (list .entry)) MAX-ROWS) ⌝ }
 {
     let mut roles = role_buffer();
     match read_roles(list, &mut roles) {
@@ -113,7 +123,7 @@ fn is_roles(list: &[u8], s: &[u8], start: usize, end: usize) -> bool
 // Whether the bytes from start to end are the letters of every row's role.
 fn is_every(list: &[u8], s: &[u8], start: usize, end: usize) -> bool
     requires { ⌜ end ≤ length (now s) ⌝ }
-    ensures { λ r. ⌜ r ≡ everyFits (slice start end (now (s .entry))) (answer (now (list .entry)) 4096) ⌝ }
+    ensures { λ r. ⌜ r ≡ everyFits (slice start end (now (s .entry))) (answer (now (list .entry)) MAX-ROWS) ⌝ }
 {
     let mut roles = role_buffer();
     match read_roles(list, &mut roles) {
@@ -123,16 +133,18 @@ fn is_every(list: &[u8], s: &[u8], start: usize, end: usize) -> bool
 }
 
 // Room for the listing of any list.
-fn listing_buffer() -> [u8; 262144]
-    ensures { λ r. ⌜ 262144 ≡ length r ⌝ }
+const OUTPUT: usize = 262144;
+
+fn listing_buffer() -> [u8; OUTPUT]
+    ensures { λ r. ⌜ OUTPUT ≡ length r ⌝ }
 {
-    [0; 262144]
+    [0; OUTPUT]
 }
 
 // Whether the bytes from start to end are the listing, or the refusal.
 fn is_listing(list: &[u8], s: &[u8], start: usize, end: usize) -> bool
     requires { ⌜ end ≤ length (now s) ⌝ }
-    ensures { λ r. ⌜ r ≡ listingFits (slice start end (now (s .entry))) (listing.answer (now (list .entry)) 262144) ⌝ }
+    ensures { λ r. ⌜ r ≡ listingFits (slice start end (now (s .entry))) (listing.answer (now (list .entry)) OUTPUT) ⌝ }
 {
     let mut out = listing_buffer();
     match write_listing(list, &mut out) {

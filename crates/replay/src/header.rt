@@ -86,6 +86,9 @@ pub fn put_topic(out: &mut [u8], at: usize, topic: Topic) -> usize
     }
 }
 
+// The most digits that a section's size has.
+const MAX_DIGITS: usize = 9;
+
 // The header of this section whose digits are looked for from `from` on.
 fn read_size(s: &[u8], from: usize, to: usize, section: Section) -> Header
     requires { ⌜ (from ≤ to) × (to ≤ length (now s)) ⌝ }
@@ -101,7 +104,7 @@ fn read_size(s: &[u8], from: usize, to: usize, section: Section) -> Header
     if end == from {
         return Header::Malformed;
     }
-    if 9 < end - from {
+    if MAX_DIGITS < end - from {
         return Header::Malformed;
     }
     let size = worth(s, from, end);
