@@ -71,8 +71,8 @@ pub record ListedInto (s before after : List ℕ) (r : ℕ) : Type 0 where
 abbrev pub IN-LIST : ℕ
 IN-LIST = 65536
 
--- 0 for no value, below IN-LIST the length of a part of the scratch, else IN-LIST times the start of a part of the list,
--- plus its end
+-- 0 for no value, below IN-LIST the length of a part of the scratch, else IN-LIST times the start of a part of the
+-- list, plus its end
 abbrev pub placeCase : ValuePlace → Case
 placeCase places.None = accepted 0
 placeCase (places.InScratch n) = accepted n

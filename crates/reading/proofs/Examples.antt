@@ -2,6 +2,7 @@
 use mathlib.Core.Path.{_≡_, refl}
 use mathlib.Core.Bool.{Bool, true, not, _&&_, _||_, or-true}
 use mathlib.Core.List.{[], _∷_}
+use Rattle.token_list.specs.Byte.{bytes}
 use Rattle.token_list.specs.Check.{check}
 use Rattle.token_list.specs.Row.{formOf}
 use Rattle.token_list.specs.Stream.{before, at}
@@ -9,7 +10,6 @@ use Rattle.reading.specs.Token.{negatable}
 use Rattle.reading.specs.Keyword.{keyword, identifier}
 use Rattle.reading.specs.SimplePath.{scopeForm}
 use Rattle.reading.specs.Answer.{answer}
-use Rattle.reading.specs.Bytes.{bytes}
 use Rattle.reading.specs.Examples.{allAgree, examples, VALVE, ARROW}
 use Rattle.reading.specs.Promise.{stream}
 use Rattle.reading.specs.Grammar as g

@@ -4,9 +4,9 @@ use mathlib.Core.List.{List, [], _∷_}
 use Prim.Native.Nat.{ℕ}
 use Prim.Native.String.{String}
 use lib.Dec.{eqb}
+use Rattle.token_list.specs.Byte.{bytes}
 use Rattle.token_list.specs.Check.{END}
 use Rattle.token_list.specs.Text.{same}
-use Rattle.reading.specs.Bytes.{bytes}
 use Rattle.reading.specs.Answer.{Answer, declared, answer}
 
 -- what the paper says: the roles, only that the list is accepted, or a refusal's number and place

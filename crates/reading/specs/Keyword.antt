@@ -4,8 +4,8 @@ use mathlib.Core.Bool.{Bool, true, false, not, _||_}
 use mathlib.Core.List.{List, [], _∷_}
 use Prim.Native.Nat.{ℕ}
 use Prim.Native.String.{String}
+use Rattle.token_list.specs.Byte.{bytes}
 use Rattle.token_list.specs.Text.{same}
-use Rattle.reading.specs.Bytes.{bytes}
 
 -- strict keywords; in the last line those of 2018 and later
 abbrev pub strict : List String

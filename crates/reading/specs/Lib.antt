@@ -1,6 +1,5 @@
 -- What a declaration is to the reader (document 01 and the Rust Reference 1.63): the Reference's keywords and simple
 -- paths, the roles, the role grammar, the reading, the whole answer, and the promise that each row has one role.
-pub mod Bytes
 pub mod Keyword
 pub mod Role
 pub mod Token

@@ -2,10 +2,9 @@
 -- two rows.
 use mathlib.Core.Bool.{Bool, true, false, not, _&&_, _||_}
 use mathlib.Core.List.{[], _∷_}
-use Rattle.token_list.specs.Byte.{COLON}
+use Rattle.token_list.specs.Byte.{bytes, COLON}
 use Rattle.token_list.specs.Row.{Row}
 use Rattle.token_list.specs.Stream.{Trees, end, leaf, group}
-use Rattle.reading.specs.Bytes.{bytes}
 use Rattle.reading.specs.Keyword.{oneOf, identifier}
 use Rattle.reading.specs.Token.{isIdent, isPunct, isWord, isEnd}
 

@@ -4,12 +4,11 @@ use mathlib.Core.List.{List, [], _∷_}
 use Prim.Native.Nat.{ℕ, _+_, _-_, _*_}
 use lib.Dec.{leb, eqb}
 use lib.ListN.{replicate}
-use Rattle.token_list.specs.Byte.{ZERO}
+use Rattle.token_list.specs.Byte.{bytes, ZERO}
 use Rattle.token_list.specs.Layout.{IDENT, LITERAL, PUNCT}
 use Rattle.token_list.specs.Text.{same, all, digit}
 use Rattle.token_list.specs.Row.{Row, first}
 use Rattle.token_list.specs.Stream.{Trees, end, leaf, group, size}
-use Rattle.reading.specs.Bytes.{bytes}
 
 -- ## One token
 

@@ -48,6 +48,9 @@ fn is_refusal(refusal: Refusal, s: &[u8], start: usize, end: usize) -> bool
     text_is(s, start, end, &out[..n])
 }
 
+// The letter of role 0, `a`; those of the others follow it.
+const FIRST_LETTER: usize = b'a' as usize;
+
 // Whether a letter stands for a role. A `.` does where the Rust's answer need not name the row: not in
 // `every`, and not for roles whose rows it always names.
 fn letter_fits(letter: u8, role: u8, every: bool) -> bool
@@ -60,7 +63,7 @@ fn letter_fits(letter: u8, role: u8, every: bool) -> bool
         let named = [PARAMETER_NAME, BOUND, WHERE_RUN, FIELD_NAME, TYPE];
         return !is_one_of(role, &named);
     }
-    letter as usize == 97 + role as usize
+    letter as usize == FIRST_LETTER + role as usize
 }
 
 // Whether the bytes from start to end are a letter for each role, then LF.

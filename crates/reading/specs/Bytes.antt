@@ -1,2 +1,0 @@
--- Texts written as texts.
-pub use Rattle.token_list.specs.Byte.{bytes}
