@@ -24,12 +24,12 @@ use Rattle.parse.specs.declared.item.ItemAt.{ItemAt}
 use Rattle.parse.specs.declared.item.Parse.the-variants as parses
 use Rattle.describe.specs.Listing as listing
 use Rattle.describe.specs.Value as value
-use Rattle.describe.specs.Contract.{InRange, placeOf, Placed}
+use Rattle.describe.specs.Contract.{InRange, textStart, textEnd, placeOf, Placed}
 use Rattle.describe.specs.declared.value.ValuePlace.{ValuePlace}
 use Rattle.describe.specs.declared.value.ValuePlace.the-variants as places
 use Rattle.describe.proofs.Answers.{listing-refusal}
 use Rattle.describe.proofs.Length.{fits}
-use Rattle.exports.specs.Code.{Case, accepted, refusal, REFUSED, code, decoded, Coded, checkCase, kindCode, readCase, listingCase, placeCase, decodedPlace, ValueInto}
+use Rattle.exports.specs.Code.{IN-LIST, Case, accepted, refusal, REFUSED, code, decoded, Coded, checkCase, kindCode, readCase, listingCase, placeCase, decodedPlace, ValueInto}
 
 -- ## A number gives back its case, number and place
 
@@ -51,8 +51,29 @@ gives-back (refusal n p) h =
     passed-over _ _ _ (le-ltb (n * REFUSED + p) REFUSED (omega (arith, h .0)))
     ∙ (λ i. refusal (upper REFUSED n p (omega arith) (h .1) i) (lower REFUSED n p (h .1) i))
 
-pub coded-as : (c : Case) {r : ℕ} → Small c → r ≡ code c → Coded c r
-coded-as c h e = record { code = e; back = ap decoded e ∙ gives-back c h }
+place-low : {f : ℕ → Bool} {s : List ℕ} {n p : ℕ} → OneRefusal f s n p → p ≤ 65535
+place-low o = ⊎-elim (λ e. omega (arith, e)) (λ k. omega (arith, k .low)) (o .stands)
+
+-- a case whose refusal has one of these numbers, with a row or the end mark
+pub data Told (numbers : ℕ → Bool) (s : List ℕ) : Case → Type 0 where
+  small : {v : ℕ} → v < REFUSED → Told numbers s (accepted v)
+  one : {n p : ℕ} → 1 ≤ n → OneRefusal numbers s n p → Told numbers s (refusal n p)
+
+pub coded-as : {f : ℕ → Bool} {s : List ℕ} {c : Case} {r : ℕ} → Told f s c → r ≡ code c → Coded f s c r
+coded-as {c = c} t e =
+    let back = ap decoded e ∙ gives-back c (low t) in
+    record { code = e; back = back; refusal = λ n p q. given (sym back ∙ q) t }
+  where
+    low : {f : ℕ → Bool} {s : List ℕ} {c : Case} → Told f s c → Small c
+    low (small h) = h
+    low (one h o) = (h, omega (arith, place-low o))
+
+    given : {f : ℕ → Bool} {s : List ℕ} {c : Case} {n p : ℕ} → c ≡ refusal n p → Told f s c → OneRefusal f s n p
+    given q (small h) = let z : _≡_ {A = ℕ} 0 1 = cc in absurd (omega arith)
+    given {f} {s} {n = n} {p = p} q (one {n = m} {p = o} h k) =
+        let number : m ≡ n = cc in
+        let place : o ≡ p = cc in
+        subst (λ (i : ℕ). OneRefusal f s i p) number (subst (OneRefusal f s m) place k)
 
 -- a value's place too
 pub place-back : (p : ValuePlace) → InRange p → decodedPlace (placeCase p) ≡ p
@@ -76,49 +97,43 @@ from-one n e = go (between 1 8 n) refl e
     go true q h = leb-true 1 n (and-parts (leb 1 n) (leb n 8) q .0)
     go false q h = omega (arith, leb-true 11 n (and-parts (leb 11 n) (leb n 27) h .0))
 
-place-low : {f : ℕ → Bool} {s : List ℕ} {n p : ℕ} → OneRefusal f s n p → p ≤ 65535
-place-low o = ⊎-elim (λ e. omega (arith, e)) (λ k. omega (arith, k .low)) (o .stands)
-
 pub read-small : {s : List ℕ} {n p : ℕ} → OneRefusal readNumber s n p → (1 ≤ n) × (p ≤ 65535)
 read-small {n = n} o = (from-one n (o .one), place-low o)
 
 pub check-small : {s : List ℕ} {n p : ℕ} → OneRefusal checkNumber s n p → (1 ≤ n) × (p ≤ 65535)
 check-small {n = n} o = (leb-true 1 n (and-parts (leb 1 n) (leb n 7) (o .one) .0), place-low o)
 
-below : {n p : ℕ} → (1 ≤ n) × (p ≤ 65535) → Small (refusal n p)
-below h = (h .0, omega (arith, h .1))
-
-pub checked-small : (s : List ℕ) → Small (checkCase (list.check s))
-checked-small s = go (list.check s) refl
+pub checked-told : (s : List ℕ) → Told checkNumber s (checkCase (list.check s))
+checked-told s = go (list.check s) refl
   where
-    go : (a : list.Answer) → list.check s ≡ a → Small (checkCase a)
-    go (list.Answer.passed n) e = omega (arith, bounds s e .rows)
-    go (list.Answer.refused n p) e = below (check-small (check-refusal s n p e))
+    go : (a : list.Answer) → list.check s ≡ a → Told checkNumber s (checkCase a)
+    go (list.Answer.passed n) e = small {v = n} (omega (arith, bounds s e .rows))
+    go (list.Answer.refused n p) e = let o = check-refusal s n p e in one (check-small o .0) o
 
 kind-small : (k : Kind) → kindCode k < REFUSED
 kind-small struct = omega arith
 kind-small enum = omega arith
 
-pub answered-small : (s : List ℕ) (room : ℕ) → Small (readCase (answers.answer s room))
-answered-small s room = go (answers.answer s room) refl
+pub answered-told : (s : List ℕ) (room : ℕ) → Told readNumber s (readCase (answers.answer s room))
+answered-told s room = go (answers.answer s room) refl
   where
-    go : (a : answers.Answer) → answers.answer s room ≡ a → Small (readCase a)
-    go (answers.declared d rs) e = kind-small (d .kind)
-    go (answers.refused n p) e = below (read-small (answer-read s room n p e))
+    go : (a : answers.Answer) → answers.answer s room ≡ a → Told readNumber s (readCase a)
+    go (answers.declared d rs) e = small (kind-small (d .kind))
+    go (answers.refused n p) e = let o = answer-read s room n p e in one (read-small o .0) o
 
-pub listed-small : (s : List ℕ) (room : ℕ) → Small (listingCase (listing.answer s room))
-listed-small s room = go (listing.answer s room) refl
+pub listed-told : (s : List ℕ) (room : ℕ) → Told readNumber s (listingCase (listing.answer s room))
+listed-told s room = go (listing.answer s room) refl
   where
-    go : (a : listing.Answer) → listing.answer s room ≡ a → Small (listingCase a)
-    go (listing.listed text) e = omega (arith, fits s room .longest text e)
-    go (listing.refused n p) e = below (read-small (listing-refusal s room n p e))
+    go : (a : listing.Answer) → listing.answer s room ≡ a → Told readNumber s (listingCase a)
+    go (listing.listed text) e = small {v = length text} (omega (arith, fits s room .longest text e))
+    go (listing.refused n p) e = let o = listing-refusal s room n p e in one (read-small o .0) o
 
-pub placed-small : (s : List ℕ) (a : value.Answer) → InRange (placeOf s a) → ((n p : ℕ) → a ≡ value.refused n p → OneRefusal readNumber s n p)
-    → Small (placeCase (placeOf s a))
-placed-small s value.none h k = omega arith
-placed-small s (value.inList row t) h k = omega (arith, h .1, h .2)
-placed-small s (value.inScratch t) h k = omega (arith, h .1)
-placed-small s (value.refused n p) h k = below (read-small (k n p refl))
+placed-told : (s : List ℕ) (a : value.Answer) → InRange (placeOf s a) → ((n p : ℕ) → a ≡ value.refused n p → OneRefusal readNumber s n p)
+    → Told readNumber s (placeCase (placeOf s a))
+placed-told s value.none h k = small {v = 0} (omega arith)
+placed-told s (value.inList row t) h k = small {v = textStart s row * IN-LIST + textEnd s row} (omega (arith, h .1, h .2))
+placed-told s (value.inScratch t) h k = small {v = length t} (omega (arith, h .1))
+placed-told s (value.refused n p) h k = let o = k n p refl in one (read-small o .0) o
 
 -- ## The number of an answer, by the case of the reader's enum
 
@@ -155,5 +170,5 @@ module _ (s : List ℕ) (position : ℕ) (x y : List ℕ) {r : ValuePlace} (h : 
   pub value-into : {p : ValuePlace} {c : ℕ} → r ≡ p → c ≡ code (placeCase p) → ValueInto s position x y c
   value-into {p} {c} e q =
       let range = subst InRange (h .place) (h .range) in
-      let coded = coded-as (placeCase (placeOf s a)) (placed-small s a range k) (q ∙ ap (λ (z : ValuePlace). code (placeCase z)) (sym e ∙ h .place)) in
+      let coded = coded-as (placed-told s a range k) (q ∙ ap (λ (z : ValuePlace). code (placeCase z)) (sym e ∙ h .place)) in
       record { coded = coded; back = ap decodedPlace (coded .back) ∙ place-back (placeOf s a) range; scratch = h .scratch }

@@ -1,12 +1,13 @@
 -- Answers as one number: below 2^32 nothing was refused, else the number is 2^32 times the refusal's number, plus its place (a
 -- row, or the end mark 65,535).
 use mathlib.Core.Path.{_≡_}
-use mathlib.Core.Bool.{cond}
+use mathlib.Core.Bool.{Bool, cond}
 use mathlib.Core.List.{List}
 use Prim.Native.Nat.{ℕ, _+_, _*_, _/_, _%_}
 use lib.Dec.{eqb, ltb}
 use lib.ListN.{length}
 use Rattle.token_list.specs.Check as list
+use Rattle.token_list.specs.Place.{OneRefusal}
 use Rattle.reading.specs.Declaration.{Kind, struct, enum}
 use Rattle.reading.specs.Answer as answers
 use Rattle.describe.specs.Listing as listing
@@ -31,10 +32,12 @@ code (refusal n p) = n * REFUSED + p
 unfoldable pub decoded : ℕ → Case
 decoded c = cond (ltb c REFUSED) (accepted c) (refusal (c / REFUSED) (c % REFUSED))
 
--- the number r stands for this case, and gives it back
-pub record Coded (c : Case) (r : ℕ) : Type 0 where
+-- the number r stands for this case of a list s, and gives it back; a refusal has one of these numbers, with a row or the
+-- end mark
+pub record Coded (numbers : ℕ → Bool) (s : List ℕ) (c : Case) (r : ℕ) : Type 0 where
   pub code : r ≡ code c
   pub back : decoded r ≡ c
+  pub refusal : (n p : ℕ) → decoded r ≡ refusal n p → OneRefusal numbers s n p
 
 -- ## Each function's answer
 
@@ -54,7 +57,7 @@ readCase (answers.refused n p) = refusal n p
 
 -- the answer for a list s, and the whole role buffer
 pub record ReadInto (s before after : List ℕ) (r : ℕ) : Type 0 where
-  pub coded : Coded (readCase (answers.answer s (length before))) r
+  pub coded : Coded answers.readNumber s (readCase (answers.answer s (length before))) r
   pub buffer : after ≡ answers.buffer (length before) (answers.answer s (length before))
 
 -- the listing's length
@@ -64,7 +67,7 @@ listingCase (listing.refused n p) = refusal n p
 
 -- the answer for a list s, and the whole output
 pub record ListedInto (s before after : List ℕ) (r : ℕ) : Type 0 where
-  pub coded : Coded (listingCase (listing.answer s (length before))) r
+  pub coded : Coded answers.readNumber s (listingCase (listing.answer s (length before))) r
   pub output : after ≡ listing.output before (listing.answer s (length before))
 
 -- 2^16: a part of the list is told from here on
@@ -87,6 +90,6 @@ decodedPlace (refusal n p) = places.Refused (record { number = n; place = p })
 
 -- the place of the value of the variant of s at a position, and the whole scratch
 pub record ValueInto (s : List ℕ) (position : ℕ) (before after : List ℕ) (r : ℕ) : Type 0 where
-  pub coded : Coded (placeCase (placeOf s (value.answer s position (length before)))) r
+  pub coded : Coded answers.readNumber s (placeCase (placeOf s (value.answer s position (length before)))) r
   pub back : decodedPlace (decoded r) ≡ placeOf s (value.answer s position (length before))
   pub scratch : after ≡ value.scratch before (value.answer s position (length before))

@@ -11,6 +11,7 @@ use token_list::check::Refusal;
 ghost use mathlib.Core.Path.{_≡_};
 ghost use Prim.Native.Nat.{_≤_};
 ghost use Rattle.token_list.specs.Check.{END, check};
+ghost use Rattle.token_list.specs.Place.{checkNumber};
 ghost use Rattle.exports.specs.Code.{refusal, code, Coded, checkCase, ReadInto, ListedInto, ValueInto};
 
 // A number from here on tells a refusal.
@@ -37,7 +38,7 @@ fn coded(r: Refusal) -> u64
 // Checks a list: the number of its rows, or a refusal.
 #[no_mangle]
 pub extern "C" fn kusthrila_check(list: &[u8]) -> u64
-    ensures { λ r. ⌜ Coded (checkCase (check (now (list .entry)))) r ⌝ }
+    ensures { λ r. ⌜ Coded checkNumber (now (list .entry)) (checkCase (check (now (list .entry)))) r ⌝ }
 {
     match check::check(list) {
         Checked::Passed(rows) => rows as u64,

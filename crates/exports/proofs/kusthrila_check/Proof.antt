@@ -1,7 +1,7 @@
 use mathlib.Core.Path.{refl, sym, _∙_, ap}
 use Rattle.token_list.specs.Contract.{checked}
 use Rattle.exports.specs.Code.{code, checkCase}
-use Rattle.exports.proofs.Codes.{coded-as, checked-small, check-small}
+use Rattle.exports.proofs.Codes.{coded-as, checked-told, check-small}
 use borrow.Author.Needs.{needs}
 use Rattle.exports.proofs.kusthrila_check.Statement.{statement}
 use Rattle.exports.proofs.kusthrila_check.Tie as tie
@@ -25,14 +25,14 @@ returns c =
     let s = c .before .before .before .before .before .args .list .now in
     let check = c .before .before .before .check in
     let answer = sym (ap checked (c .before .rows .given .1)) ∙ check .ensures .answer in
-    coded-as _ (checked-small s) (ap (λ a. code (checkCase a)) answer)
+    coded-as (checked-told s) (ap (λ a. code (checkCase a)) answer)
 
 returns-2 : tie.Need-returns-2
 returns-2 c =
     let s = c .before .before .before .before .before .before .args .list .now in
     let check = c .before .before .before .before .check in
     let answer = sym (ap checked (c .before .before .r .given .1)) ∙ check .ensures .answer in
-    coded-as _ (checked-small s) (c .coded .ensures ∙ ap (λ a. code (checkCase a)) answer)
+    coded-as (checked-told s) (c .coded .ensures ∙ ap (λ a. code (checkCase a)) answer)
 
 pub kusthrila-check-spec : {M : Type 1} → statement M
 kusthrila-check-spec =

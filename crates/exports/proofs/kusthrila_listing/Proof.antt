@@ -3,7 +3,7 @@ use lib.ListN.{length}
 use lib.Seq.{length-take-le}
 use Rattle.describe.specs.Contract.{listedAs}
 use Rattle.exports.specs.Code.{code, listingCase}
-use Rattle.exports.proofs.Codes.{coded-as, listed-small, read-small}
+use Rattle.exports.proofs.Codes.{coded-as, listed-told, read-small}
 use borrow.Author.Needs.{needs}
 use Rattle.exports.proofs.kusthrila_listing.Statement.{statement}
 use Rattle.exports.proofs.kusthrila_listing.Tie as tie
@@ -35,7 +35,7 @@ returns c =
     let room = rw (n .given .1) at (listed .ensures .0 .room) in
     let long = sym (length-take-le (n .given .0 .0) (listed .last .1 .0) room) in
     record {
-      coded = coded-as _ (listed-small (args .list .now) (length (args .out .now))) (long ∙ ap (λ a. code (listingCase a)) answer);
+      coded = coded-as (listed-told (args .list .now) (length (args .out .now))) (long ∙ ap (λ a. code (listingCase a)) answer);
       output = listed .ensures .0 .output;
     }
 
@@ -48,7 +48,7 @@ returns-2 c =
     let listed = c .before .before .before .before .before .before .write-listing in
     let answer = sym (ap (listedAs (listed .last .1 .0)) (c .before .before .r .given .1)) ∙ listed .ensures .0 .answer in
     record {
-      coded = coded-as _ (listed-small (args .list .now) (length (args .out .now))) (c .coded .ensures ∙ ap (λ a. code (listingCase a)) answer);
+      coded = coded-as (listed-told (args .list .now) (length (args .out .now))) (c .coded .ensures ∙ ap (λ a. code (listingCase a)) answer);
       output = listed .ensures .0 .output;
     }
 

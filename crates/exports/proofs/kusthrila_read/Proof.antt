@@ -3,7 +3,7 @@ use lib.ListN.{length}
 use Rattle.reading.specs.Answer.{answer}
 use Rattle.parse.specs.Contract.{ParsedAs}
 use Rattle.exports.specs.Code.{code, readCase}
-use Rattle.exports.proofs.Codes.{coded-as, answered-small, read-small, struct-code, enum-code, refused-case}
+use Rattle.exports.proofs.Codes.{coded-as, answered-told, read-small, struct-code, enum-code, refused-case}
 use borrow.Author.Needs.{needs}
 use Rattle.exports.proofs.kusthrila_read.Statement.{statement}
 use Rattle.exports.proofs.kusthrila_read.Tie as tie
@@ -39,7 +39,7 @@ returns c =
     let s = args .list .now in
     let a = answer s (length (args .roles .now)) in
     let parsed = subst (λ r. ParsedAs s r a) (c .enum-told .given .1) (new .ensures .0 .answer) in
-    record { coded = coded-as _ (answered-small s _) (struct-code s _ a parsed); buffer = new .ensures .0 .buffer }
+    record { coded = coded-as (answered-told s _) (struct-code s _ a parsed); buffer = new .ensures .0 .buffer }
 
 same-length-2 : tie.Need-same-length-2
 same-length-2 c = search needs
@@ -51,7 +51,7 @@ returns-2 c =
     let s = args .list .now in
     let a = answer s (length (args .roles .now)) in
     let parsed = subst (λ r. ParsedAs s r a) (c .enum-told2 .given .1) (new .ensures .0 .answer) in
-    record { coded = coded-as _ (answered-small s _) (enum-code s _ a parsed); buffer = new .ensures .0 .buffer }
+    record { coded = coded-as (answered-told s _) (enum-code s _ a parsed); buffer = new .ensures .0 .buffer }
 
 same-length-3 : tie.Need-same-length-3
 same-length-3 c = search needs
@@ -64,7 +64,7 @@ returns-3 c =
     let a = answer s (length (args .roles .now)) in
     let parsed = subst (λ r. ParsedAs s r a) (c .before .before .r .given .1) (new .ensures .0 .answer) in
     let number = c .coded .ensures ∙ ap (λ x. code (readCase x)) (sym (refused-case s _ a parsed)) in
-    record { coded = coded-as _ (answered-small s _) number; buffer = new .ensures .0 .buffer }
+    record { coded = coded-as (answered-told s _) number; buffer = new .ensures .0 .buffer }
 
 pub kusthrila-read-spec : {M : Type 1} → statement M
 kusthrila-read-spec =
