@@ -77,8 +77,10 @@ pub record Placed (s before after : List ℕ) (a : value.Answer) (r : ValuePlace
 
 -- the fields f of a struct's group with the delimiter `mark`, whose inside is at c
 abbrev pub fieldsIn : Bool → List ℕ → Cursor → declaration.Fields → Type 0
-fieldsIn true s c f = (fs : List declaration.Field) × (f ≡ declaration.named fs) × InsideAt (reading.every reading.namedField) s c fs
-fieldsIn false s c f = (ts : List Trees) × (f ≡ declaration.tuple ts) × InsideAt (reading.every reading.tupleField) s c ts
+fieldsIn true s c f =
+    (fs : List declaration.Field) × (f ≡ declaration.named fs) × InsideAt (reading.every reading.namedField) s c fs
+fieldsIn false s c f =
+    (ts : List Trees) × (f ≡ declaration.tuple ts) × InsideAt (reading.every reading.tupleField) s c ts
 
 abbrev pub StructAt : List ℕ → ℕ → Cursor → declaration.Fields → Type 0
 StructAt s mark c f = fieldsIn (eqb mark BRACE) s c f

@@ -1,5 +1,5 @@
--- What the describe crate's contracts say. Value and Listing state the texts, from document 01; Contract ties the code's answers
--- to them.
+-- What the describe crate's contracts say. Value and Listing state the texts, from document 01; Contract ties the
+-- code's answers to them.
 pub mod Value
 pub mod Listing
 pub mod Contract

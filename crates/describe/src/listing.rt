@@ -81,7 +81,8 @@ fn put_head(s: &[u8], part: &[u8], name: Token, out: &mut [u8], at: usize) -> us
     requires { ⌜ length (now s) ≤ MAX-BYTES ⌝ }
     requires { ⌜ length (now part) ≤ 8 ⌝ }
     requires { ⌜ at ≤ 100000000000000000 ⌝ }
-    ensures { λ r. ⌜ Put (now (out .entry)) (now (out .exit)) at r (now (part .entry) ++ slice (name .start) (name .end) (now (s .entry))) ⌝ }
+    ensures { λ r. ⌜ Put (now (out .entry)) (now (out .exit)) at r
+        (now (part .entry) ++ slice (name .start) (name .end) (now (s .entry))) ⌝ }
     ensures { λ r. ⌜ r ≤ at + 65544 ⌝ }
 {
     let word = put_bytes(out, at, part);
@@ -103,7 +104,8 @@ fn put_named(s: &[u8], name: Token, out: &mut [u8], at: usize, n: usize) -> usiz
     requires { ⌜ name .end ≤ length (now s) ⌝ }
     requires { ⌜ length (now s) ≤ MAX-BYTES ⌝ }
     requires { ⌜ at ≤ 100000000000000000 ⌝ }
-    ensures { λ r. ⌜ Put (now (out .entry)) (now (out .exit)) at r (line FIELD (slice (name .start) (name .end) (now (s .entry))) (decimal n)) ⌝ }
+    ensures { λ r. ⌜ Put (now (out .entry)) (now (out .exit)) at r
+        (line FIELD (slice (name .start) (name .end) (now (s .entry))) (decimal n)) ⌝ }
     ensures { λ r. ⌜ r ≤ at + 65566 ⌝ }
 {
     let head = put_head(s, b"field ", name, out, at);
@@ -124,7 +126,8 @@ fn named_lines(s: &[u8], from: Cursor, roles: &mut [u8], out: &mut [u8], start: 
     requires { ⌜ InList (now s) from ⌝ }
     requires { ⌜ length (now s) ≤ MAX-BYTES ⌝ }
     requires { ⌜ start ≤ 10000000000000000 ⌝ }
-    ensures { λ r. ⌜ ((fs : List Field) → InsideAt (every namedField) (now (s .entry)) from fs → Put (now (out .entry)) (now (out .exit)) start r (numbered namedLine 0 fs)) ⌝ }
+    ensures { λ r. ⌜ ((fs : List Field) → InsideAt (every namedField) (now (s .entry)) from fs →
+        Put (now (out .entry)) (now (out .exit)) start r (numbered namedLine 0 fs)) ⌝ }
     ensures { λ r. ⌜ r ≤ start + 4300000000 ⌝ }
 {
     let mut c = from;
@@ -153,7 +156,8 @@ fn tuple_lines(s: &[u8], from: Cursor, roles: &mut [u8], out: &mut [u8], start: 
     requires { ⌜ InList (now s) from ⌝ }
     requires { ⌜ length (now s) ≤ MAX-BYTES ⌝ }
     requires { ⌜ start ≤ 10000000000000000 ⌝ }
-    ensures { λ r. ⌜ ((ts : List Trees) → InsideAt (every tupleField) (now (s .entry)) from ts → Put (now (out .entry)) (now (out .exit)) start r (numbered tupleLine 0 ts)) ⌝ }
+    ensures { λ r. ⌜ ((ts : List Trees) → InsideAt (every tupleField) (now (s .entry)) from ts →
+        Put (now (out .entry)) (now (out .exit)) start r (numbered tupleLine 0 ts)) ⌝ }
     ensures { λ r. ⌜ r ≤ start + 4300000000 ⌝ }
 {
     let mut c = from;
@@ -180,7 +184,8 @@ fn field_lines(s: &[u8], fields: FieldsAt, roles: &mut [u8], out: &mut [u8], at:
     requires { ⌜ ((f : Fields) × FieldsOf (now s) fields f) ⌝ }
     requires { ⌜ length (now s) ≤ MAX-BYTES ⌝ }
     requires { ⌜ at ≤ 10000000000000000 ⌝ }
-    ensures { λ r. ⌜ ((f : Fields) → FieldsOf (now (s .entry)) fields f → Put (now (out .entry)) (now (out .exit)) at r (fieldLines f)) ⌝ }
+    ensures { λ r. ⌜ ((f : Fields) → FieldsOf (now (s .entry)) fields f →
+        Put (now (out .entry)) (now (out .exit)) at r (fieldLines f)) ⌝ }
     ensures { λ r. ⌜ r ≤ at + 4300000000 ⌝ }
 {
     match fields {
@@ -195,7 +200,8 @@ fn put_value(s: &[u8], v: ValueAt, n: usize, out: &mut [u8], at: usize) -> usize
     requires { ⌜ ((w : Value) × ValueOf (now s) v w) ⌝ }
     requires { ⌜ length (now s) ≤ MAX-BYTES ⌝ }
     requires { ⌜ at ≤ 100000000000000000 ⌝ }
-    ensures { λ r. ⌜ ((w : Value) → ValueOf (now (s .entry)) v w → Put (now (out .entry)) (now (out .exit)) at r (number n w)) ⌝ }
+    ensures { λ r. ⌜ ((w : Value) → ValueOf (now (s .entry)) v w →
+        Put (now (out .entry)) (now (out .exit)) at r (number n w)) ⌝ }
     ensures { λ r. ⌜ r ≤ at + 65536 ⌝ }
 {
     match v {
@@ -215,7 +221,8 @@ fn put_variant(s: &[u8], v: VariantAt, n: usize, out: &mut [u8], at: usize) -> u
     requires { ⌜ ((a : Variant) × VariantOf (now s) v a) ⌝ }
     requires { ⌜ length (now s) ≤ MAX-BYTES ⌝ }
     requires { ⌜ at ≤ 10000000000000000 ⌝ }
-    ensures { λ r. ⌜ ((a : Variant) → VariantOf (now (s .entry)) v a → Put (now (out .entry)) (now (out .exit)) at r (variantLine n a)) ⌝ }
+    ensures { λ r. ⌜ ((a : Variant) → VariantOf (now (s .entry)) v a →
+        Put (now (out .entry)) (now (out .exit)) at r (variantLine n a)) ⌝ }
     ensures { λ r. ⌜ r ≤ at + 131082 ⌝ }
 {
     let name = v.name;
@@ -231,7 +238,8 @@ fn variant_lines(s: &[u8], from: Cursor, roles: &mut [u8], out: &mut [u8], start
     requires { ⌜ InList (now s) from ⌝ }
     requires { ⌜ length (now s) ≤ MAX-BYTES ⌝ }
     requires { ⌜ start ≤ 1000000000000000 ⌝ }
-    ensures { λ r. ⌜ ((vs : List Variant) → InsideAt (every variant) (now (s .entry)) from vs → Put (now (out .entry)) (now (out .exit)) start r (numbered variantLines 0 vs)) ⌝ }
+    ensures { λ r. ⌜ ((vs : List Variant) → InsideAt (every variant) (now (s .entry)) from vs →
+        Put (now (out .entry)) (now (out .exit)) start r (numbered variantLines 0 vs)) ⌝ }
     ensures { λ r. ⌜ r ≤ start + 300000000000000 ⌝ }
 {
     let mut c = from;
@@ -260,7 +268,8 @@ fn put_parameter(s: &[u8], p: ParameterAt, out: &mut [u8], at: usize) -> usize
     requires { ⌜ ((a : Parameter) × ParameterOf (now s) (p .lifetime) (p .name) a) ⌝ }
     requires { ⌜ length (now s) ≤ MAX-BYTES ⌝ }
     requires { ⌜ at ≤ 10000000000000000 ⌝ }
-    ensures { λ r. ⌜ ((a : Parameter) → ParameterOf (now (s .entry)) (p .lifetime) (p .name) a → Put (now (out .entry)) (now (out .exit)) at r (parameterLine 0 a)) ⌝ }
+    ensures { λ r. ⌜ ((a : Parameter) → ParameterOf (now (s .entry)) (p .lifetime) (p .name) a →
+        Put (now (out .entry)) (now (out .exit)) at r (parameterLine 0 a)) ⌝ }
     ensures { λ r. ⌜ r ≤ at + 65566 ⌝ }
 {
     let name = p.name;
@@ -284,7 +293,8 @@ fn parameter_lines(
     requires { ⌜ InList (now s) from ⌝ }
     requires { ⌜ length (now s) ≤ MAX-BYTES ⌝ }
     requires { ⌜ start ≤ 1000000000000000 ⌝ }
-    ensures { λ r. ⌜ ((ps : List Parameter) → InsideAt (every (parameter angle)) (now (s .entry)) from ps → Put (now (out .entry)) (now (out .exit)) start r (numbered parameterLine 0 ps)) ⌝ }
+    ensures { λ r. ⌜ ((ps : List Parameter) → InsideAt (every (parameter angle)) (now (s .entry)) from ps →
+        Put (now (out .entry)) (now (out .exit)) start r (numbered parameterLine 0 ps)) ⌝ }
     ensures { λ r. ⌜ r ≤ start + 4300000000 ⌝ }
 {
     let mut c = from;
@@ -310,7 +320,8 @@ fn generics_lines(s: &[u8], c: Cursor, roles: &mut [u8], out: &mut [u8], at: usi
     requires { ⌜ InList (now s) c ⌝ }
     requires { ⌜ length (now s) ≤ MAX-BYTES ⌝ }
     requires { ⌜ at ≤ 1000000000000000 ⌝ }
-    ensures { λ r. ⌜ ((g : Generics) → InsideAt generics (now (s .entry)) c g → Put (now (out .entry)) (now (out .exit)) at r (numbered parameterLine 0 (parametersOf g))) ⌝ }
+    ensures { λ r. ⌜ ((g : Generics) → InsideAt generics (now (s .entry)) c g →
+        Put (now (out .entry)) (now (out .exit)) at r (numbered parameterLine 0 (parametersOf g))) ⌝ }
     ensures { λ r. ⌜ r ≤ at + 4300000000 ⌝ }
 {
     let row = c.row;
@@ -332,7 +343,8 @@ fn struct_lines(s: &[u8], c: Cursor, mark: u8, roles: &mut [u8], out: &mut [u8],
     requires { ⌜ InList (now s) c ⌝ }
     requires { ⌜ length (now s) ≤ MAX-BYTES ⌝ }
     requires { ⌜ at ≤ 1000000000000000 ⌝ }
-    ensures { λ r. ⌜ ((f : Fields) → StructAt (now (s .entry)) mark c f → Put (now (out .entry)) (now (out .exit)) at r (fieldLines f)) ⌝ }
+    ensures { λ r. ⌜ ((f : Fields) → StructAt (now (s .entry)) mark c f →
+        Put (now (out .entry)) (now (out .exit)) at r (fieldLines f)) ⌝ }
     ensures { λ r. ⌜ r ≤ at + 4300000000 ⌝ }
 {
     if mark == b'{' {
@@ -346,7 +358,8 @@ fn body_lines(s: &[u8], d: ItemAt, roles: &mut [u8], out: &mut [u8], at: usize) 
     requires { ⌜ InList (now s) (d .body) ⌝ }
     requires { ⌜ length (now s) ≤ MAX-BYTES ⌝ }
     requires { ⌜ at ≤ 1000000000000000 ⌝ }
-    ensures { λ r. ⌜ ((b : Body) → InsideAt (bodyOf (kindOf (d .kind))) (now (s .entry)) (d .body) b → Put (now (out .entry)) (now (out .exit)) at r (bodyLines b)) ⌝ }
+    ensures { λ r. ⌜ ((b : Body) → InsideAt (bodyOf (kindOf (d .kind))) (now (s .entry)) (d .body) b →
+        Put (now (out .entry)) (now (out .exit)) at r (bodyLines b)) ⌝ }
     ensures { λ r. ⌜ r ≤ at + 300000000000000 ⌝ }
 {
     let c = d.body;
@@ -369,7 +382,8 @@ fn put_kind(s: &[u8], kind: DataType, name: Token, out: &mut [u8], at: usize) ->
     requires { ⌜ name .end ≤ length (now s) ⌝ }
     requires { ⌜ length (now s) ≤ MAX-BYTES ⌝ }
     requires { ⌜ at ≤ 1000 ⌝ }
-    ensures { λ r. ⌜ Put (now (out .entry)) (now (out .exit)) at r (kindText (kindOf kind) ++ slice (name .start) (name .end) (now (s .entry))) ⌝ }
+    ensures { λ r. ⌜ Put (now (out .entry)) (now (out .exit)) at r
+        (kindText (kindOf kind) ++ slice (name .start) (name .end) (now (s .entry))) ⌝ }
     ensures { λ r. ⌜ r ≤ at + 65544 ⌝ }
 {
     match kind {
@@ -382,7 +396,8 @@ fn put_kind(s: &[u8], kind: DataType, name: Token, out: &mut [u8], at: usize) ->
 fn put_item(s: &[u8], d: ItemAt, out: &mut [u8]) -> usize
     requires { ⌜ ((x : Declaration) × ItemOf (now s) d x) ⌝ }
     requires { ⌜ length (now s) ≤ MAX-BYTES ⌝ }
-    ensures { λ r. ⌜ ((x : Declaration) → ItemOf (now (s .entry)) d x → Put (now (out .entry)) (now (out .exit)) 0 r (itemLines x)) ⌝ }
+    ensures { λ r. ⌜ ((x : Declaration) → ItemOf (now (s .entry)) d x →
+        Put (now (out .entry)) (now (out .exit)) 0 r (itemLines x)) ⌝ }
     ensures { λ r. ⌜ r ≤ 70000 ⌝ }
 {
     let names = put_bytes(out, 0, b"part name number\n");
@@ -397,7 +412,8 @@ fn put_item(s: &[u8], d: ItemAt, out: &mut [u8]) -> usize
 fn put_listing(s: &[u8], d: ItemAt, roles: &mut [u8], out: &mut [u8]) -> usize
     requires { ⌜ ((x : Declaration) × ItemOf (now s) d x) ⌝ }
     requires { ⌜ length (now s) ≤ MAX-BYTES ⌝ }
-    ensures { λ r. ⌜ ((x : Declaration) → ItemOf (now (s .entry)) d x → Put (now (out .entry)) (now (out .exit)) 0 r (listing x)) ⌝ }
+    ensures { λ r. ⌜ ((x : Declaration) → ItemOf (now (s .entry)) d x →
+        Put (now (out .entry)) (now (out .exit)) 0 r (listing x)) ⌝ }
 {
     let item = put_item(s, d, out);
     let c = d.generics;
@@ -409,7 +425,8 @@ fn put_listing(s: &[u8], d: ItemAt, roles: &mut [u8], out: &mut [u8]) -> usize
 fn fit_listing(s: &[u8], d: ItemAt, roles: &mut [u8], out: &mut [u8]) -> Listed
     requires { ⌜ ((x : Declaration) × ItemOf (now s) d x) ⌝ }
     requires { ⌜ length (now s) ≤ MAX-BYTES ⌝ }
-    ensures { λ r. ⌜ ((x : Declaration) → ItemOf (now (s .entry)) d x → ListedAs (now (out .entry)) (now (out .exit)) (fitted (length (now (out .entry))) (listed (listing x))) r) ⌝ }
+    ensures { λ r. ⌜ ((x : Declaration) → ItemOf (now (s .entry)) d x →
+        ListedAs (now (out .entry)) (now (out .exit)) (fitted (length (now (out .entry))) (listed (listing x))) r) ⌝ }
 {
     let mut nowhere = [0u8; 1];
     let needed = put_listing(s, d, roles, &mut nowhere);
@@ -427,7 +444,8 @@ fn fit_listing(s: &[u8], d: ItemAt, roles: &mut [u8], out: &mut [u8]) -> Listed
 fn read_listing(s: &[u8], out: &mut [u8], roles: &mut [u8]) -> Listed
     requires { ⌜ InList (now s) (record { at = FIRST-ROW; row = 0 }) ⌝ }
     requires { ⌜ length (now s) ≤ MAX-BYTES ⌝ }
-    ensures { λ r. ⌜ ListedAs (now (out .entry)) (now (out .exit)) (fitted (length (now (out .entry))) (itemAnswer (item 0 (at (now (s .entry)) FIRST-ROW .here)))) r ⌝ }
+    ensures { λ r. ⌜ ListedAs (now (out .entry)) (now (out .exit))
+        (fitted (length (now (out .entry))) (itemAnswer (item 0 (at (now (s .entry)) FIRST-ROW .here)))) r ⌝ }
 {
     let c = Cursor {
         at: FIRST_ROW,
@@ -441,8 +459,10 @@ fn read_listing(s: &[u8], out: &mut [u8], roles: &mut [u8]) -> Listed
 
 // Writes the listing of the declaration at the start of the output; on a refusal nothing is written.
 pub fn write_listing(list: &[u8], out: &mut [u8]) -> Listed
-    ensures { λ r. ⌜ ListedAs (now (out .entry)) (now (out .exit)) (answer (now (list .entry)) (length (now (out .entry)))) r ⌝ }
-    ensures { λ _. ⌜ ((n p : ℕ) → answer (now (list .entry)) (length (now (out .entry))) ≡ refused n p → OneRefusal readNumber (now (list .entry)) n p) ⌝ }
+    ensures { λ r. ⌜ ListedAs (now (out .entry)) (now (out .exit))
+        (answer (now (list .entry)) (length (now (out .entry)))) r ⌝ }
+    ensures { λ _. ⌜ ((n p : ℕ) → answer (now (list .entry)) (length (now (out .entry))) ≡ refused n p →
+        OneRefusal readNumber (now (list .entry)) n p) ⌝ }
 {
     match check(list) {
         Checked::Refused(r) => Listed::Refused(r),

@@ -86,7 +86,8 @@ pub fn put_negative(out: &mut [u8], at: usize, n: usize) -> usize
 // The value of the variant at this position of those that are read from `from` on.
 fn find(s: &[u8], from: Cursor, roles: &mut [u8], position: usize) -> ValueAt
     requires { ⌜ InList (now s) from ⌝ }
-    ensures { λ r. ⌜ ((vs : List Variant) → InsideAt (every variant) (now (s .entry)) from vs → ValueAs (now (s .entry)) (variantAt position (point (now (s .entry)) from)) r (valueAt position vs)) ⌝ }
+    ensures { λ r. ⌜ ((vs : List Variant) → InsideAt (every variant) (now (s .entry)) from vs →
+        ValueAs (now (s .entry)) (variantAt position (point (now (s .entry)) from)) r (valueAt position vs)) ⌝ }
 {
     let mut c = from;
     let mut left = position;
@@ -112,7 +113,9 @@ fn find(s: &[u8], from: Cursor, roles: &mut [u8], position: usize) -> ValueAt
 // The value of the variant at this position of a declaration.
 fn value(s: &[u8], d: ItemAt, roles: &mut [u8], position: usize) -> ValueAt
     requires { ⌜ InList (now s) (d .body) ⌝ }
-    ensures { λ r. ⌜ ((b : Body) → InsideAt (bodyOf (kindOf (d .kind))) (now (s .entry)) (d .body) b → ValueAs (now (s .entry)) (variantAt position (inside (point (now (s .entry)) (d .body)))) r (bodyValue position b)) ⌝ }
+    ensures { λ r. ⌜ ((b : Body) → InsideAt (bodyOf (kindOf (d .kind))) (now (s .entry)) (d .body) b →
+        ValueAs (now (s .entry)) (variantAt position (inside (point (now (s .entry)) (d .body)))) r
+        (bodyValue position b)) ⌝ }
 {
     let kind = d.kind;
     match kind {
@@ -135,7 +138,9 @@ fn value(s: &[u8], d: ItemAt, roles: &mut [u8], position: usize) -> ValueAt
 fn put_value(s: &[u8], v: ValueAt, scratch: &mut [u8]) -> ValuePlace
     requires { ⌜ ((w : Value) × ValueOf (now s) v w) ⌝ }
     requires { ⌜ length (now s) ≤ MAX-BYTES ⌝ }
-    ensures { λ r. ⌜ ((x : Point) (w : Value) → ValueAs (now (s .entry)) x v w → SCRATCH-BYTES ≤ length (now (scratch .entry)) → Placed (now (s .entry)) (now (scratch .entry)) (now (scratch .exit)) (valueAnswer (valueRow x w) w) r) ⌝ }
+    ensures { λ r. ⌜ ((x : Point) (w : Value) → ValueAs (now (s .entry)) x v w →
+        SCRATCH-BYTES ≤ length (now (scratch .entry)) →
+        Placed (now (s .entry)) (now (scratch .entry)) (now (scratch .exit)) (valueAnswer (valueRow x w) w) r) ⌝ }
 {
     match v {
         ValueAt::Absent => ValuePlace::None,
@@ -159,7 +164,8 @@ fn read_value(s: &[u8], position: usize, scratch: &mut [u8], roles: &mut [u8]) -
     requires { ⌜ InList (now s) (record { at = FIRST-ROW; row = 0 }) ⌝ }
     requires { ⌜ SCRATCH-BYTES ≤ length (now scratch) ⌝ }
     requires { ⌜ length (now s) ≤ MAX-BYTES ⌝ }
-    ensures { λ r. ⌜ Placed (now (s .entry)) (now (scratch .entry)) (now (scratch .exit)) (itemAnswer (start (now (s .entry))) position (item 0 (at (now (s .entry)) FIRST-ROW .here))) r ⌝ }
+    ensures { λ r. ⌜ Placed (now (s .entry)) (now (scratch .entry)) (now (scratch .exit))
+        (itemAnswer (start (now (s .entry))) position (item 0 (at (now (s .entry)) FIRST-ROW .here))) r ⌝ }
 {
     let c = Cursor {
         at: FIRST_ROW,
@@ -177,8 +183,10 @@ fn read_value(s: &[u8], position: usize, scratch: &mut [u8], roles: &mut [u8]) -
 // Where the value of the variant at this position stands. The scratch is written in the one case
 // that the answer is a part of it.
 pub fn value_of(list: &[u8], position: usize, scratch: &mut [u8]) -> ValuePlace
-    ensures { λ r. ⌜ Placed (now (list .entry)) (now (scratch .entry)) (now (scratch .exit)) (answer (now (list .entry)) position (length (now (scratch .entry)))) r ⌝ }
-    ensures { λ _. ⌜ ((n p : ℕ) → answer (now (list .entry)) position (length (now (scratch .entry))) ≡ refused n p → OneRefusal readNumber (now (list .entry)) n p) ⌝ }
+    ensures { λ r. ⌜ Placed (now (list .entry)) (now (scratch .entry)) (now (scratch .exit))
+        (answer (now (list .entry)) position (length (now (scratch .entry)))) r ⌝ }
+    ensures { λ _. ⌜ ((n p : ℕ) → answer (now (list .entry)) position (length (now (scratch .entry))) ≡ refused n p →
+        OneRefusal readNumber (now (list .entry)) n p) ⌝ }
 {
     match check(list) {
         Checked::Refused(r) => ValuePlace::Refused(r),

@@ -1,5 +1,5 @@
--- Answers as one number: below 2^32 nothing was refused, else the number is 2^32 times the refusal's number, plus its place (a
--- row, or the end mark 65,535).
+-- Answers as one number: below 2^32 nothing was refused, else the number is 2^32 times the refusal's number, plus its
+-- place (a row, or the end mark 65,535).
 use mathlib.Core.Path.{_≡_}
 use mathlib.Core.Bool.{Bool, cond}
 use mathlib.Core.List.{List}
@@ -32,8 +32,8 @@ code (refusal n p) = n * REFUSED + p
 unfoldable pub decoded : ℕ → Case
 decoded c = cond (ltb c REFUSED) (accepted c) (refusal (c / REFUSED) (c % REFUSED))
 
--- the number r stands for this case of a list s, and gives it back; a refusal has one of these numbers, with a row or the
--- end mark
+-- the number r stands for this case of a list s, and gives it back; a refusal has one of these numbers, with a row or
+-- the end mark
 pub record Coded (numbers : ℕ → Bool) (s : List ℕ) (c : Case) (r : ℕ) : Type 0 where
   pub code : r ≡ code c
   pub back : decoded r ≡ c

@@ -84,12 +84,14 @@ pub data Said : Type 0 where
   no : ℕ → ℕ → Said
 
 -- the answer is what the reading says; `shown` is what the answer tells of the value
-pub data Meets {A : Type 0} (s : List ℕ) (c : Cursor) (before after : List ℕ) (shown : A → Type 0) : Said → Took A → Type 0 where
+pub data Meets {A : Type 0} (s : List ℕ) (c : Cursor) (before after : List ℕ) (shown : A → Type 0)
+    : Said → Took A → Type 0 where
   stands : {d : Cursor} {a : A} {rs : List ℕ} {us : Trees}
       → Moved s c d rs us before after → shown a → Meets s c before after shown (on d) (took a rs us)
-  -- Which rows from the cursor's on were marked before the refusal is free, since `new` then fills every byte. The bytes before
-  -- the cursor's row, and past the rows that were marked, are as they were.
-  refuses : {n p : ℕ} (marked : List ℕ) → after ≡ sets before (c .row) marked → Meets s c before after shown (no n p) (refuse n p)
+  -- Which rows from the cursor's on were marked before the refusal is free, since `new` then fills every byte. The
+  -- bytes before the cursor's row, and past the rows that were marked, are as they were.
+  refuses : {n p : ℕ} (marked : List ℕ) → after ≡ sets before (c .row) marked →
+      Meets s c before after shown (no n p) (refuse n p)
 
 -- nothing is told of the value
 abbrev pub any : {A : Type 0} → A → Type 0
@@ -189,18 +191,23 @@ pub record Belonged {A : Type 0} (s : List ℕ) (c d : Cursor) (before after : L
 -- one token of a run, by the answer
 abbrev pub Turned : List ℕ → Cursor → List ℕ → List ℕ → Stops → ℕ → ℕ → Bool → RunTurn → Type 0
 Turned s c before after st r depth minus (turns.On d e m) =
-    Belonged s c d before after (reading.runFrom (stopsOf st) r depth minus (c .row) (stream s c)) (reading.runFrom (stopsOf st) r e m (d .row) (stream s d)) × (e ≤ d .at)
+    Belonged s c d before after (reading.runFrom (stopsOf st) r depth minus (c .row) (stream s c))
+    (reading.runFrom (stopsOf st) r e m (d .row) (stream s d)) × (e ≤ d .at)
 Turned s c before after st r depth minus (turns.Ended e) =
-    (reading.runFrom (stopsOf st) r depth minus (c .row) (stream s c) ≡ took (endingOf e) [] (stream s c)) × (after ≡ before)
+    (reading.runFrom (stopsOf st) r depth minus (c .row) (stream s c) ≡ took (endingOf e) [] (stream s c)) ×
+    (after ≡ before)
 Turned s c before after st r depth minus (turns.Refused f) =
-    (reading.runFrom (stopsOf st) r depth minus (c .row) (stream s c) ≡ refuse (f .number) (f .place)) × (after ≡ before)
+    (reading.runFrom (stopsOf st) r depth minus (c .row) (stream s c) ≡ refuse (f .number) (f .place)) ×
+    (after ≡ before)
 
 -- ## The answers of attributes
 
 -- one `#` with its group, or an idle one, by the answer
 abbrev pub AttributeRead : List ℕ → Cursor → List ℕ → List ℕ → Marked → Type 0
-AttributeRead s c before after (marks.On d) = Belonged s c d before after (reading.attributes (c .row) (stream s c)) (reading.attributes (d .row) (stream s d))
-AttributeRead s c before after marks.Done = (reading.attributes (c .row) (stream s c) ≡ took tt [] (stream s c)) × (after ≡ before)
+AttributeRead s c before after (marks.On d) =
+    Belonged s c d before after (reading.attributes (c .row) (stream s c)) (reading.attributes (d .row) (stream s d))
+AttributeRead s c before after marks.Done =
+    (reading.attributes (c .row) (stream s c) ≡ took tt [] (stream s c)) × (after ≡ before)
 AttributeRead s c before after (marks.Refused r) =
     (reading.attributes (c .row) (stream s c) ≡ refuse (r .number) (r .place)) × (after ≡ before)
 
@@ -260,7 +267,8 @@ parameterSaid (parameters.Refused r) = refusal r
 -- a parameter whose name stands in this row
 abbrev pub parameterShown : List ℕ → ℕ → ParameterStep → reading.Maybe declaration.Parameter → Type 0
 parameterShown s row (parameters.One p) v =
-    (a : declaration.Parameter) × (v ≡ reading.one a) × ParameterOf s (p .lifetime) (p .name) a × TokenIn s row (p .name)
+    (a : declaration.Parameter) × (v ≡ reading.one a) × ParameterOf s (p .lifetime) (p .name) a ×
+    TokenIn s row (p .name)
 parameterShown s row (parameters.Done d) v = v ≡ reading.done
 parameterShown s row (parameters.Refused r) v = ⊥
 
@@ -318,7 +326,8 @@ fieldSaid (fieldSteps.Refused r) = refusal r
 
 abbrev pub fieldShown : List ℕ → Cursor → FieldStep → reading.Maybe declaration.Field → Type 0
 fieldShown s c (fieldSteps.One f) v =
-    (a : declaration.Field) × (v ≡ reading.one a) × TextOf s (f .name) (a .name) × TokenIn s (startAt (point s c) .row) (f .name)
+    (a : declaration.Field) × (v ≡ reading.one a) × TextOf s (f .name) (a .name) ×
+    TokenIn s (startAt (point s c) .row) (f .name)
 fieldShown s c (fieldSteps.Done d) v = v ≡ reading.done
 fieldShown s c (fieldSteps.Refused r) v = ⊥
 
@@ -345,8 +354,10 @@ pub record InsideAt {A : Type 0} (m : Reader A) (s : List ℕ) (c : Cursor) (xs 
 
 abbrev pub FieldsOf : List ℕ → FieldsAt → declaration.Fields → Type 0
 FieldsOf s fieldsAts.Unit v = v ≡ declaration.unit
-FieldsOf s (fieldsAts.Named c) v = (fs : List declaration.Field) × (v ≡ declaration.named fs) × InsideAt (reading.every reading.namedField) s c fs
-FieldsOf s (fieldsAts.Tuple c) v = (ts : List Trees) × (v ≡ declaration.tuple ts) × InsideAt (reading.every reading.tupleField) s c ts
+FieldsOf s (fieldsAts.Named c) v =
+    (fs : List declaration.Field) × (v ≡ declaration.named fs) × InsideAt (reading.every reading.namedField) s c fs
+FieldsOf s (fieldsAts.Tuple c) v =
+    (ts : List Trees) × (v ≡ declaration.tuple ts) × InsideAt (reading.every reading.tupleField) s c ts
 
 abbrev pub fieldsSaid : FieldsStep → Said
 fieldsSaid (fieldsSteps.At f d) = on d
@@ -365,7 +376,8 @@ fieldsShown s c (fieldsSteps.Refused r) v = ⊥
 abbrev pub ValueOf : List ℕ → ValueAt → declaration.Value → Type 0
 ValueOf s valueAts.Absent v = v ≡ declaration.absent
 ValueOf s (valueAts.Literal t) v = (x : List ℕ) × TextOf s t x × (v ≡ declaration.literal x)
-ValueOf s (valueAts.Negative t) v = (x : List ℕ) × TextOf s t x × (reading.negatable x ≡ true) × (v ≡ declaration.negative (reading.worth x))
+ValueOf s (valueAts.Negative t) v =
+    (x : List ℕ) × TextOf s t x × (reading.negatable x ≡ true) × (v ≡ declaration.negative (reading.worth x))
 
 abbrev pub valueSaid : ValueStep → Said
 valueSaid (valueSteps.At v d) = on d
@@ -468,10 +480,13 @@ accepted (parses.Struct i) = true
 accepted (parses.Enum i) = true
 accepted (parses.Refused r) = false
 
--- the answer, by its own enum: the declaration's kind, name and counts and where its parts stand, or the refusal's number and place
+-- the answer, by its own enum: the declaration's kind, name and counts and where its parts stand, or the refusal's
+-- number and place
 abbrev pub ParsedAs : List ℕ → Parse → answers.Answer → Type 0
-ParsedAs s (parses.Struct i) (answers.declared d rs) = (d .kind ≡ declaration.struct) × ItemOf s i d × ItemPlaces s (start s) i
-ParsedAs s (parses.Enum i) (answers.declared d rs) = (d .kind ≡ declaration.enum) × ItemOf s i d × ItemPlaces s (start s) i
+ParsedAs s (parses.Struct i) (answers.declared d rs) =
+    (d .kind ≡ declaration.struct) × ItemOf s i d × ItemPlaces s (start s) i
+ParsedAs s (parses.Enum i) (answers.declared d rs) =
+    (d .kind ≡ declaration.enum) × ItemOf s i d × ItemPlaces s (start s) i
 ParsedAs s (parses.Refused r) (answers.declared d rs) = ⊥
 ParsedAs s (parses.Struct i) (answers.refused n p) = ⊥
 ParsedAs s (parses.Enum i) (answers.refused n p) = ⊥

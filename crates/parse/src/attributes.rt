@@ -82,7 +82,8 @@ fn marked_attribute(s: &[u8], c: Cursor, roles: &mut [u8]) -> Marked
 // As many attributes as stand there (virtue's Attribute::try_take).
 pub fn try_take(s: &[u8], from: Cursor, roles: &mut [u8]) -> Step
     requires { ⌜ InList (now s) from ⌝ }
-    ensures { λ r. ⌜ Meets (now (s .entry)) from (now (roles .entry)) (now (roles .exit)) any (stepSaid r) (attributes (from .row) (stream (now (s .entry)) from)) ⌝ }
+    ensures { λ r. ⌜ Meets (now (s .entry)) from (now (roles .entry)) (now (roles .exit)) any (stepSaid r)
+        (attributes (from .row) (stream (now (s .entry)) from)) ⌝ }
 {
     let mut c = from;
     loop {

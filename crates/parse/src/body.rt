@@ -18,7 +18,8 @@ ghost use Rattle.parse.specs.Contract.{Meets, stream, countSaid, bodySho
 // virtue's StructBody::take
 pub fn take_struct(s: &[u8], c: Cursor, roles: &mut [u8]) -> Counted
     requires { ⌜ InList (now s) c ⌝ }
-    ensures { λ r. ⌜ Meets (now (s .entry)) c (now (roles .entry)) (now (roles .exit)) (bodyShown r) (countSaid r) (structBody (c .row) (stream (now (s .entry)) c)) ⌝ }
+    ensures { λ r. ⌜ Meets (now (s .entry)) c (now (roles .entry)) (now (roles .exit)) (bodyShown r) (countSaid r)
+        (structBody (c .row) (stream (now (s .entry)) c)) ⌝ }
 {
     let row = c.row;
     match peek(s, c) {
@@ -55,7 +56,8 @@ pub fn take_struct(s: &[u8], c: Cursor, roles: &mut [u8]) -> Counted
 // virtue's EnumBody::take
 pub fn take_enum(s: &[u8], c: Cursor, roles: &mut [u8]) -> Counted
     requires { ⌜ InList (now s) c ⌝ }
-    ensures { λ r. ⌜ Meets (now (s .entry)) c (now (roles .entry)) (now (roles .exit)) (bodyShown r) (countSaid r) (enumBody (c .row) (stream (now (s .entry)) c)) ⌝ }
+    ensures { λ r. ⌜ Meets (now (s .entry)) c (now (roles .entry)) (now (roles .exit)) (bodyShown r) (countSaid r)
+        (enumBody (c .row) (stream (now (s .entry)) c)) ⌝ }
 {
     let row = c.row;
     match peek(s, c) {

@@ -36,7 +36,8 @@ pub enum Worded {
 // `struct` or `enum`.
 fn item_word(s: &[u8], c: Cursor, roles: &mut [u8]) -> Worded
     requires { ⌜ InList (now s) c ⌝ }
-    ensures { λ r. ⌜ Meets (now (s .entry)) c (now (roles .entry)) (now (roles .exit)) (wordedShown r) (wordedSaid r) (itemWord (c .row) (stream (now (s .entry)) c)) ⌝ }
+    ensures { λ r. ⌜ Meets (now (s .entry)) c (now (roles .entry)) (now (roles .exit)) (wordedShown r) (wordedSaid r)
+        (itemWord (c .row) (stream (now (s .entry)) c)) ⌝ }
 {
     match consume_ident(s, c, roles, role::ITEM_WORD) {
         MaybeWord::Missing => Worded::Refused(wrong_token(s, c, 11)),
@@ -63,7 +64,8 @@ fn item_word(s: &[u8], c: Cursor, roles: &mut [u8]) -> Worded
 // virtue's DataType::take
 pub fn take(s: &[u8], c: Cursor, roles: &mut [u8]) -> Headed
     requires { ⌜ InList (now s) c ⌝ }
-    ensures { λ r. ⌜ Meets (now (s .entry)) c (now (roles .entry)) (now (roles .exit)) (headShown (now (s .entry)) c r) (headSaid r) (dataType (c .row) (stream (now (s .entry)) c)) ⌝ }
+    ensures { λ r. ⌜ Meets (now (s .entry)) c (now (roles .entry)) (now (roles .exit)) (headShown (now (s .entry)) c r)
+        (headSaid r) (dataType (c .row) (stream (now (s .entry)) c)) ⌝ }
 {
     match item_word(s, c, roles) {
         Worded::Refused(r) => Headed::Refused(r),

@@ -51,7 +51,8 @@ pub enum TypeStep {
 // Attributes and visibility, which stand before a field.
 fn field_start(s: &[u8], c: Cursor, roles: &mut [u8]) -> Step
     requires { ⌜ InList (now s) c ⌝ }
-    ensures { λ r. ⌜ Meets (now (s .entry)) c (now (roles .entry)) (now (roles .exit)) any (stepSaid r) (fieldPrefix (c .row) (stream (now (s .entry)) c)) ⌝ }
+    ensures { λ r. ⌜ Meets (now (s .entry)) c (now (roles .entry)) (now (roles .exit)) any (stepSaid r)
+        (fieldPrefix (c .row) (stream (now (s .entry)) c)) ⌝ }
 {
     match attributes::try_take(s, c, roles) {
         Step::Refused(r) => Step::Refused(r),
@@ -62,7 +63,8 @@ fn field_start(s: &[u8], c: Cursor, roles: &mut [u8]) -> Step
 // A type's run and the `,` that may follow.
 fn field_type(s: &[u8], c: Cursor, roles: &mut [u8]) -> Step
     requires { ⌜ InList (now s) c ⌝ }
-    ensures { λ r. ⌜ Meets (now (s .entry)) c (now (roles .entry)) (now (roles .exit)) any (stepSaid r) (fieldType (c .row) (stream (now (s .entry)) c)) ⌝ }
+    ensures { λ r. ⌜ Meets (now (s .entry)) c (now (roles .entry)) (now (roles .exit)) any (stepSaid r)
+        (fieldType (c .row) (stream (now (s .entry)) c)) ⌝ }
 {
     match read_tokens_until_punct(
         s,
@@ -87,7 +89,8 @@ fn field_type(s: &[u8], c: Cursor, roles: &mut [u8]) -> Step
 // `:` and a type.
 fn field_after(s: &[u8], c: Cursor, roles: &mut [u8]) -> Step
     requires { ⌜ InList (now s) c ⌝ }
-    ensures { λ r. ⌜ ((n : List ℕ) → Meets (now (s .entry)) c (now (roles .entry)) (now (roles .exit)) (FieldNamed n) (stepSaid r) (fieldAfter n (c .row) (stream (now (s .entry)) c))) ⌝ }
+    ensures { λ r. ⌜ ((n : List ℕ) → Meets (now (s .entry)) c (now (roles .entry)) (now (roles .exit)) (FieldNamed n)
+        (stepSaid r) (fieldAfter n (c .row) (stream (now (s .entry)) c))) ⌝ }
 {
     let p = consume_punct_if(s, c, roles, b':', role::SEPARATOR);
     let next = p.next;
@@ -100,7 +103,8 @@ fn field_after(s: &[u8], c: Cursor, roles: &mut [u8]) -> Step
 // One named field, or the end.
 pub fn named_field(s: &[u8], c: Cursor, roles: &mut [u8]) -> FieldStep
     requires { ⌜ InList (now s) c ⌝ }
-    ensures { λ r. ⌜ Meets (now (s .entry)) c (now (roles .entry)) (now (roles .exit)) (fieldShown (now (s .entry)) c r) (fieldSaid r) (namedField (c .row) (stream (now (s .entry)) c)) ⌝ }
+    ensures { λ r. ⌜ Meets (now (s .entry)) c (now (roles .entry)) (now (roles .exit)) (fieldShown (now (s .entry)) c r)
+        (fieldSaid r) (namedField (c .row) (stream (now (s .entry)) c)) ⌝ }
 {
     match field_start(s, c, roles) {
         Step::Refused(r) => FieldStep::Refused(r),
@@ -133,7 +137,8 @@ pub fn named_field(s: &[u8], c: Cursor, roles: &mut [u8]) -> FieldStep
 // One field without a name, or the end.
 pub fn tuple_field(s: &[u8], c: Cursor, roles: &mut [u8]) -> TypeStep
     requires { ⌜ InList (now s) c ⌝ }
-    ensures { λ r. ⌜ Meets (now (s .entry)) c (now (roles .entry)) (now (roles .exit)) (typeShown r) (typeSaid r) (tupleField (c .row) (stream (now (s .entry)) c)) ⌝ }
+    ensures { λ r. ⌜ Meets (now (s .entry)) c (now (roles .entry)) (now (roles .exit)) (typeShown r) (typeSaid r)
+        (tupleField (c .row) (stream (now (s .entry)) c)) ⌝ }
 {
     let l = look(s, c);
     if l.kind == 0 {
@@ -144,7 +149,8 @@ pub fn tuple_field(s: &[u8], c: Cursor, roles: &mut [u8]) -> TypeStep
 
 fn tuple_type(s: &[u8], c: Cursor, roles: &mut [u8]) -> TypeStep
     requires { ⌜ InList (now s) c ⌝ }
-    ensures { λ r. ⌜ Meets (now (s .entry)) c (now (roles .entry)) (now (roles .exit)) (typeShown r) (typeSaid r) (tupleType (c .row) (stream (now (s .entry)) c)) ⌝ }
+    ensures { λ r. ⌜ Meets (now (s .entry)) c (now (roles .entry)) (now (roles .exit)) (typeShown r) (typeSaid r)
+        (tupleType (c .row) (stream (now (s .entry)) c)) ⌝ }
 {
     match field_start(s, c, roles) {
         Step::Refused(r) => TypeStep::Refused(r),
@@ -158,7 +164,8 @@ fn tuple_type(s: &[u8], c: Cursor, roles: &mut [u8]) -> TypeStep
 // virtue's UnnamedField::parse_with_name
 fn parse_with_name(s: &[u8], from: Cursor, roles: &mut [u8]) -> Counted
     requires { ⌜ InList (now s) from ⌝ }
-    ensures { λ r. ⌜ Meets (now (s .entry)) from (now (roles .entry)) (now (roles .exit)) (countShown r) (countSaid r) (every namedField (from .row) (stream (now (s .entry)) from)) ⌝ }
+    ensures { λ r. ⌜ Meets (now (s .entry)) from (now (roles .entry)) (now (roles .exit)) (countShown r) (countSaid r)
+        (every namedField (from .row) (stream (now (s .entry)) from)) ⌝ }
 {
     let mut c = from;
     let mut count = 0;
@@ -181,7 +188,8 @@ fn parse_with_name(s: &[u8], from: Cursor, roles: &mut [u8]) -> Counted
 // virtue's UnnamedField::parse
 fn parse(s: &[u8], from: Cursor, roles: &mut [u8]) -> Counted
     requires { ⌜ InList (now s) from ⌝ }
-    ensures { λ r. ⌜ Meets (now (s .entry)) from (now (roles .entry)) (now (roles .exit)) (countShown r) (countSaid r) (every tupleField (from .row) (stream (now (s .entry)) from)) ⌝ }
+    ensures { λ r. ⌜ Meets (now (s .entry)) from (now (roles .entry)) (now (roles .exit)) (countShown r) (countSaid r)
+        (every tupleField (from .row) (stream (now (s .entry)) from)) ⌝ }
 {
     let mut c = from;
     let mut count = 0;
@@ -217,7 +225,8 @@ pub fn close_group(s: &[u8], c: Cursor, roles: &mut [u8]) -> Cursor
 pub fn named_group(s: &[u8], c: Cursor, t: Token, roles: &mut [u8]) -> Counted
     requires { ⌜ InList (now s) c ⌝ }
     requires { ⌜ GroupAt (now s) (c .at) t ⌝ }
-    ensures { λ r. ⌜ Meets (now (s .entry)) c (now (roles .entry)) (now (roles .exit)) (countShown r) (countSaid r) (Inside (every namedField) (now (s .entry)) c t) ⌝ }
+    ensures { λ r. ⌜ Meets (now (s .entry)) c (now (roles .entry)) (now (roles .exit)) (countShown r) (countSaid r)
+        (Inside (every namedField) (now (s .entry)) c t) ⌝ }
 {
     let inside = take_token(s, c, t, roles, role::DELIMITER);
     match parse_with_name(s, inside, roles) {
@@ -233,7 +242,8 @@ pub fn named_group(s: &[u8], c: Cursor, t: Token, roles: &mut [u8]) -> Counted
 pub fn tuple_group(s: &[u8], c: Cursor, t: Token, roles: &mut [u8]) -> Counted
     requires { ⌜ InList (now s) c ⌝ }
     requires { ⌜ GroupAt (now s) (c .at) t ⌝ }
-    ensures { λ r. ⌜ Meets (now (s .entry)) c (now (roles .entry)) (now (roles .exit)) (countShown r) (countSaid r) (Inside (every tupleField) (now (s .entry)) c t) ⌝ }
+    ensures { λ r. ⌜ Meets (now (s .entry)) c (now (roles .entry)) (now (roles .exit)) (countShown r) (countSaid r)
+        (Inside (every tupleField) (now (s .entry)) c t) ⌝ }
 {
     let inside = take_token(s, c, t, roles, role::DELIMITER);
     match parse(s, inside, roles) {

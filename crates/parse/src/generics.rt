@@ -47,7 +47,9 @@ pub enum Counted {
 // The ident that must stand at c: else `number` there, or at `or` where nothing stands.
 fn parameter_name(s: &[u8], c: Cursor, roles: &mut [u8], number: u8, or: usize) -> NameStep
     requires { ⌜ InList (now s) c ⌝ }
-    ensures { λ r. ⌜ Meets (now (s .entry)) c (now (roles .entry)) (now (roles .exit)) (nameShown (now (s .entry)) (c .row) r) (nameSaid r) (parameterName number or (c .row) (stream (now (s .entry)) c)) ⌝ }
+    ensures { λ r. ⌜ Meets (now (s .entry)) c (now (roles .entry)) (now (roles .exit))
+        (nameShown (now (s .entry)) (c .row) r) (nameSaid r)
+        (parameterName number or (c .row) (stream (now (s .entry)) c)) ⌝ }
 {
     let row = c.row;
     match peek(s, c) {
@@ -66,7 +68,8 @@ fn parameter_name(s: &[u8], c: Cursor, roles: &mut [u8], number: u8, or: usize) 
 // A bound's, a default's or a const type's run.
 fn parameter_run(s: &[u8], c: Cursor, roles: &mut [u8]) -> Step
     requires { ⌜ InList (now s) c ⌝ }
-    ensures { λ r. ⌜ Meets (now (s .entry)) c (now (roles .entry)) (now (roles .exit)) any (stepSaid r) (run parameterStops bound (c .row) (stream (now (s .entry)) c)) ⌝ }
+    ensures { λ r. ⌜ Meets (now (s .entry)) c (now (roles .entry)) (now (roles .exit)) any (stepSaid r)
+        (run parameterStops bound (c .row) (stream (now (s .entry)) c)) ⌝ }
 {
     match read_tokens_until_punct(
         s,
@@ -87,7 +90,8 @@ fn parameter_run(s: &[u8], c: Cursor, roles: &mut [u8]) -> Step
 // `punct` and its run, where it stands.
 fn marked_run(s: &[u8], c: Cursor, roles: &mut [u8], punct: u8) -> Step
     requires { ⌜ InList (now s) c ⌝ }
-    ensures { λ r. ⌜ Meets (now (s .entry)) c (now (roles .entry)) (now (roles .exit)) any (stepSaid r) (marked-run punct (c .row) (stream (now (s .entry)) c)) ⌝ }
+    ensures { λ r. ⌜ Meets (now (s .entry)) c (now (roles .entry)) (now (roles .exit)) any (stepSaid r)
+        (marked-run punct (c .row) (stream (now (s .entry)) c)) ⌝ }
 {
     let p = consume_punct_if(s, c, roles, punct, role::SEPARATOR);
     let next = p.next;
@@ -100,7 +104,9 @@ fn marked_run(s: &[u8], c: Cursor, roles: &mut [u8], punct: u8) -> Step
 // A parameter is finished by the `,` that may follow.
 fn finished(s: &[u8], c: Cursor, roles: &mut [u8], lifetime: bool, name: Token) -> ParameterStep
     requires { ⌜ InList (now s) c ⌝ }
-    ensures { λ r. ⌜ ((a : Parameter) (row : ℕ) → ParameterOf (now (s .entry)) lifetime name a → TokenIn (now (s .entry)) row name → Meets (now (s .entry)) c (now (roles .entry)) (now (roles .exit)) (parameterShown (now (s .entry)) row r) (parameterSaid r) (comma a (c .row) (stream (now (s .entry)) c))) ⌝ }
+    ensures { λ r. ⌜ ((a : Parameter) (row : ℕ) → ParameterOf (now (s .entry)) lifetime name a →
+        TokenIn (now (s .entry)) row name → Meets (now (s .entry)) c (now (roles .entry)) (now (roles .exit))
+        (parameterShown (now (s .entry)) row r) (parameterSaid r) (comma a (c .row) (stream (now (s .entry)) c))) ⌝ }
 {
     let p = consume_punct_if(s, c, roles, b',', role::SEPARATOR);
     let next = p.next;
@@ -121,7 +127,9 @@ fn named_parameter(
     lifetime: bool,
 ) -> ParameterStep
     requires { ⌜ InList (now s) c ⌝ }
-    ensures { λ r. ⌜ Meets (now (s .entry)) c (now (roles .entry)) (now (roles .exit)) (parameterShown (now (s .entry)) (c .row) r) (parameterSaid r) (namedParameter number or lifetime (c .row) (stream (now (s .entry)) c)) ⌝ }
+    ensures { λ r. ⌜ Meets (now (s .entry)) c (now (roles .entry)) (now (roles .exit))
+        (parameterShown (now (s .entry)) (c .row) r) (parameterSaid r)
+        (namedParameter number or lifetime (c .row) (stream (now (s .entry)) c)) ⌝ }
 {
     match parameter_name(s, c, roles, number, or) {
         NameStep::Refused(r) => ParameterStep::Refused(r),
@@ -135,7 +143,9 @@ fn named_parameter(
 // virtue's Lifetime::take, after the `'` in the row `quote`.
 fn lifetime(s: &[u8], c: Cursor, roles: &mut [u8], quote: usize) -> ParameterStep
     requires { ⌜ InList (now s) c ⌝ }
-    ensures { λ r. ⌜ Meets (now (s .entry)) c (now (roles .entry)) (now (roles .exit)) (parameterShown (now (s .entry)) (c .row) r) (parameterSaid r) (afterQuote quote (c .row) (stream (now (s .entry)) c)) ⌝ }
+    ensures { λ r. ⌜ Meets (now (s .entry)) c (now (roles .entry)) (now (roles .exit))
+        (parameterShown (now (s .entry)) (c .row) r) (parameterSaid r)
+        (afterQuote quote (c .row) (stream (now (s .entry)) c)) ⌝ }
 {
     named_parameter(s, c, roles, 24, quote, true)
 }
@@ -143,7 +153,9 @@ fn lifetime(s: &[u8], c: Cursor, roles: &mut [u8], quote: usize) -> ParameterSte
 // virtue's ConstGeneric::take, after `const`.
 fn const_generic(s: &[u8], c: Cursor, roles: &mut [u8]) -> ParameterStep
     requires { ⌜ InList (now s) c ⌝ }
-    ensures { λ r. ⌜ Meets (now (s .entry)) c (now (roles .entry)) (now (roles .exit)) (parameterShown (now (s .entry)) (c .row) r) (parameterSaid r) (afterConst (c .row) (stream (now (s .entry)) c)) ⌝ }
+    ensures { λ r. ⌜ Meets (now (s .entry)) c (now (roles .entry)) (now (roles .exit))
+        (parameterShown (now (s .entry)) (c .row) r) (parameterSaid r)
+        (afterConst (c .row) (stream (now (s .entry)) c)) ⌝ }
 {
     named_parameter(s, c, roles, 27, END, false)
 }
@@ -151,7 +163,8 @@ fn const_generic(s: &[u8], c: Cursor, roles: &mut [u8]) -> ParameterStep
 // `:` and bounds, or `=` and a default.
 fn type_runs(s: &[u8], c: Cursor, roles: &mut [u8]) -> Step
     requires { ⌜ InList (now s) c ⌝ }
-    ensures { λ r. ⌜ ((n : List ℕ) → Meets (now (s .entry)) c (now (roles .entry)) (now (roles .exit)) (TypeNamed n) (stepSaid r) (typeAfter n (c .row) (stream (now (s .entry)) c))) ⌝ }
+    ensures { λ r. ⌜ ((n : List ℕ) → Meets (now (s .entry)) c (now (roles .entry)) (now (roles .exit)) (TypeNamed n)
+        (stepSaid r) (typeAfter n (c .row) (stream (now (s .entry)) c))) ⌝ }
 {
     let p = consume_punct_if(s, c, roles, b':', role::SEPARATOR);
     let next = p.next;
@@ -164,7 +177,9 @@ fn type_runs(s: &[u8], c: Cursor, roles: &mut [u8]) -> Step
 // virtue's SimpleGeneric::take, after its name.
 fn simple_generic(s: &[u8], c: Cursor, roles: &mut [u8], name: Token) -> ParameterStep
     requires { ⌜ InList (now s) c ⌝ }
-    ensures { λ r. ⌜ ((n : List ℕ) (row : ℕ) → TextOf (now (s .entry)) name n → TokenIn (now (s .entry)) row name → Meets (now (s .entry)) c (now (roles .entry)) (now (roles .exit)) (parameterShown (now (s .entry)) row r) (parameterSaid r) (afterName n (c .row) (stream (now (s .entry)) c))) ⌝ }
+    ensures { λ r. ⌜ ((n : List ℕ) (row : ℕ) → TextOf (now (s .entry)) name n → TokenIn (now (s .entry)) row name →
+        Meets (now (s .entry)) c (now (roles .entry)) (now (roles .exit)) (parameterShown (now (s .entry)) row r)
+        (parameterSaid r) (afterName n (c .row) (stream (now (s .entry)) c))) ⌝ }
 {
     match type_runs(s, c, roles) {
         Step::Refused(r) => ParameterStep::Refused(r),
@@ -175,7 +190,9 @@ fn simple_generic(s: &[u8], c: Cursor, roles: &mut [u8], name: Token) -> Paramet
 // One parameter, or the closing `>`; `angle` is the row of the `<`.
 pub fn parameter(s: &[u8], c: Cursor, roles: &mut [u8], angle: usize) -> ParameterStep
     requires { ⌜ InList (now s) c ⌝ }
-    ensures { λ r. ⌜ Meets (now (s .entry)) c (now (roles .entry)) (now (roles .exit)) (parameterShown (now (s .entry)) (parameterNameRow (point (now (s .entry)) c)) r) (parameterSaid r) (parameter angle (c .row) (stream (now (s .entry)) c)) ⌝ }
+    ensures { λ r. ⌜ Meets (now (s .entry)) c (now (roles .entry)) (now (roles .exit))
+        (parameterShown (now (s .entry)) (parameterNameRow (point (now (s .entry)) c)) r) (parameterSaid r)
+        (parameter angle (c .row) (stream (now (s .entry)) c)) ⌝ }
 {
     let row = c.row;
     match peek(s, c) {
@@ -214,7 +231,8 @@ pub fn parameter(s: &[u8], c: Cursor, roles: &mut [u8], angle: usize) -> Paramet
 // The parameters after the `<` in the row `angle`, with the closing `>`.
 fn parameters(s: &[u8], from: Cursor, roles: &mut [u8], angle: usize) -> Counted
     requires { ⌜ InList (now s) from ⌝ }
-    ensures { λ r. ⌜ Meets (now (s .entry)) from (now (roles .entry)) (now (roles .exit)) (countShown r) (countSaid r) (every (parameter angle) (from .row) (stream (now (s .entry)) from)) ⌝ }
+    ensures { λ r. ⌜ Meets (now (s .entry)) from (now (roles .entry)) (now (roles .exit)) (countShown r) (countSaid r)
+        (every (parameter angle) (from .row) (stream (now (s .entry)) from)) ⌝ }
 {
     let mut c = from;
     let mut count = 0;
@@ -237,7 +255,8 @@ fn parameters(s: &[u8], from: Cursor, roles: &mut [u8], angle: usize) -> Counted
 // virtue's Generics::try_take
 pub fn try_take(s: &[u8], c: Cursor, roles: &mut [u8]) -> Counted
     requires { ⌜ InList (now s) c ⌝ }
-    ensures { λ r. ⌜ Meets (now (s .entry)) c (now (roles .entry)) (now (roles .exit)) (genericsShown r) (countSaid r) (generics (c .row) (stream (now (s .entry)) c)) ⌝ }
+    ensures { λ r. ⌜ Meets (now (s .entry)) c (now (roles .entry)) (now (roles .exit)) (genericsShown r) (countSaid r)
+        (generics (c .row) (stream (now (s .entry)) c)) ⌝ }
 {
     let row = c.row;
     match peek(s, c) {
@@ -256,7 +275,8 @@ pub fn try_take(s: &[u8], c: Cursor, roles: &mut [u8]) -> Counted
 // virtue's GenericConstraints::try_take
 pub fn try_take_constraints(s: &[u8], c: Cursor, roles: &mut [u8]) -> Step
     requires { ⌜ InList (now s) c ⌝ }
-    ensures { λ r. ⌜ Meets (now (s .entry)) c (now (roles .entry)) (now (roles .exit)) any (stepSaid r) (clause (c .row) (stream (now (s .entry)) c)) ⌝ }
+    ensures { λ r. ⌜ Meets (now (s .entry)) c (now (roles .entry)) (now (roles .exit)) any (stepSaid r)
+        (clause (c .row) (stream (now (s .entry)) c)) ⌝ }
 {
     match peek(s, c) {
         Peeked::Nothing => Step::At(c),

@@ -56,7 +56,8 @@ pub enum Parse {
 
 fn body(s: &[u8], c: Cursor, roles: &mut [u8], kind: DataType) -> Counted
     requires { ⌜ InList (now s) c ⌝ }
-    ensures { λ r. ⌜ Meets (now (s .entry)) c (now (roles .entry)) (now (roles .exit)) (bodyShown r) (countSaid r) (bodyOf (kindOf kind) (c .row) (stream (now (s .entry)) c)) ⌝ }
+    ensures { λ r. ⌜ Meets (now (s .entry)) c (now (roles .entry)) (now (roles .exit)) (bodyShown r) (countSaid r)
+        (bodyOf (kindOf kind) (c .row) (stream (now (s .entry)) c)) ⌝ }
 {
     match kind {
         DataType::Struct => take_struct(s, c, roles),
@@ -67,7 +68,9 @@ fn body(s: &[u8], c: Cursor, roles: &mut [u8], kind: DataType) -> Counted
 // The parts after the name.
 fn parts(s: &[u8], c: Cursor, roles: &mut [u8], kind: DataType, name: Token) -> ItemStep
     requires { ⌜ InList (now s) c ⌝ }
-    ensures { λ r. ⌜ ((n : List ℕ) → TextOf (now (s .entry)) name n → Meets (now (s .entry)) c (now (roles .entry)) (now (roles .exit)) (partsShown (now (s .entry)) c name r) (itemSaid r) (partsAfter (kindOf kind) n (c .row) (stream (now (s .entry)) c))) ⌝ }
+    ensures { λ r. ⌜ ((n : List ℕ) → TextOf (now (s .entry)) name n →
+        Meets (now (s .entry)) c (now (roles .entry)) (now (roles .exit)) (partsShown (now (s .entry)) c name r)
+        (itemSaid r) (partsAfter (kindOf kind) n (c .row) (stream (now (s .entry)) c))) ⌝ }
 {
     match generics::try_take(s, c, roles) {
         Counted::Refused(r) => ItemStep::Refused(r),
@@ -92,7 +95,8 @@ fn parts(s: &[u8], c: Cursor, roles: &mut [u8], kind: DataType, name: Token) -> 
 // One item from c on; it says where its parts stand and where it ended.
 pub fn item(s: &[u8], c: Cursor, roles: &mut [u8]) -> ItemStep
     requires { ⌜ InList (now s) c ⌝ }
-    ensures { λ r. ⌜ Meets (now (s .entry)) c (now (roles .entry)) (now (roles .exit)) (itemShown (now (s .entry)) c r) (itemSaid r) (item (c .row) (stream (now (s .entry)) c)) ⌝ }
+    ensures { λ r. ⌜ Meets (now (s .entry)) c (now (roles .entry)) (now (roles .exit)) (itemShown (now (s .entry)) c r)
+        (itemSaid r) (item (c .row) (stream (now (s .entry)) c)) ⌝ }
 {
     match attributes::try_take(s, c, roles) {
         Step::Refused(r) => ItemStep::Refused(r),
@@ -134,7 +138,8 @@ fn refuse(roles: &mut [u8], r: Refusal) -> Parse
 
 // After an item that ended before the row `end`: 0 for the rows left over, then no role.
 fn leave(roles: &mut [u8], end: usize, rows: usize)
-    ensures { λ _. ⌜ now (roles .exit) ≡ sets (sets (now (roles .entry)) end (replicate (rows - end) role.left-over)) rows (replicate (length (now (roles .entry)) - rows) role.none) ⌝ }
+    ensures { λ _. ⌜ now (roles .exit) ≡ sets (sets (now (roles .entry)) end (replicate (rows - end) role.left-over))
+        rows (replicate (length (now (roles .entry)) - rows) role.none) ⌝ }
 {
     fill(roles, end, rows, role::LEFT_OVER);
     let len = roles.len();
@@ -165,7 +170,8 @@ fn read(s: &[u8], roles: &mut [u8], rows: usize) -> Parse
 // virtue's Parse::new: a declaration and its role bytes, or a refusal and 255 throughout.
 pub fn new(s: &[u8], roles: &mut [u8]) -> Parse
     ensures answered { λ r. ⌜ Answered (now (s .entry)) r (now (roles .entry)) (now (roles .exit)) ⌝ }
-    ensures assigned { λ r. ⌜ SingleAssignment (now (s .entry)) (length (now (roles .entry))) (accepted r) (now (roles .exit)) ⌝ }
+    ensures assigned { λ r. ⌜ SingleAssignment (now (s .entry)) (length (now (roles .entry))) (accepted r)
+        (now (roles .exit)) ⌝ }
 {
     match check(s) {
         Checked::Refused(r) => refuse(roles, r),

@@ -122,7 +122,8 @@ fn judge_group(stops: Stops, depth: usize, d: u8) -> Verdict
 // What a token that is no group is to a run.
 fn judge(stops: Stops, depth: usize, minus: bool, t: Token) -> Verdict
     requires { ⌜ depth + 1 < 2 ^ 64 ⌝ }
-    ensures { λ r. ⌜ verdictOf r ≡ cond (eqb (t .kind) PUNCT) (judgePunct (stopsOf stops) depth minus (t .mark)) (belongs depth false) ⌝ }
+    ensures { λ r. ⌜ verdictOf r ≡ cond (eqb (t .kind) PUNCT) (judgePunct (stopsOf stops) depth minus (t .mark))
+        (belongs depth false) ⌝ }
 {
     if t.kind == b'p' {
         let b = t.mark;
@@ -190,7 +191,8 @@ pub fn read_tokens_until_punct(
     role: u8,
 ) -> Ran
     requires { ⌜ InList (now s) from ⌝ }
-    ensures { λ r. ⌜ Meets (now (s .entry)) from (now (roles .entry)) (now (roles .exit)) (ranShown r) (ranSaid r) (runFrom (stopsOf stops) role 0 false (from .row) (stream (now (s .entry)) from)) ⌝ }
+    ensures { λ r. ⌜ Meets (now (s .entry)) from (now (roles .entry)) (now (roles .exit)) (ranShown r) (ranSaid r)
+        (runFrom (stopsOf stops) role 0 false (from .row) (stream (now (s .entry)) from)) ⌝ }
 {
     let mut c = from;
     let mut depth = 0;

@@ -116,7 +116,8 @@ pub fn take_token(s: &[u8], c: Cursor, t: Token, roles: &mut [u8], role: u8) -> 
 pub fn take_group(s: &[u8], c: Cursor, t: Token, roles: &mut [u8], role: u8) -> Cursor
     requires { ⌜ InList (now s) c ⌝ }
     requires { ⌜ GroupAt (now s) (c .at) t ⌝ }
-    ensures { λ r. ⌜ Moved (now (s .entry)) c r (copied role (at (now (s .entry)) (t .next) .here)) (head (at (now (s .entry)) (t .next) .outer)) (now (roles .entry)) (now (roles .exit)) ⌝ }
+    ensures { λ r. ⌜ Moved (now (s .entry)) c r (copied role (at (now (s .entry)) (t .next) .here))
+        (head (at (now (s .entry)) (t .next) .outer)) (now (roles .entry)) (now (roles .exit)) ⌝ }
 {
     let row = c.row;
     let inside = past(s, c, t);
@@ -202,7 +203,8 @@ pub fn lone_ident(s: &[u8], inside: Cursor) -> MaybeWord
 
 pub fn consume_ident(s: &[u8], c: Cursor, roles: &mut [u8], role: u8) -> MaybeWord
     requires { ⌜ InList (now s) c ⌝ }
-    ensures { λ r. ⌜ Meets (now (s .entry)) c (now (roles .entry)) (now (roles .exit)) (wordShown (now (s .entry)) c r) (wordSaid c r) (word role (c .row) (stream (now (s .entry)) c)) ⌝ }
+    ensures { λ r. ⌜ Meets (now (s .entry)) c (now (roles .entry)) (now (roles .exit)) (wordShown (now (s .entry)) c r)
+        (wordSaid c r) (word role (c .row) (stream (now (s .entry)) c)) ⌝ }
 {
     let row = c.row;
     match peek(s, c) {
@@ -247,7 +249,8 @@ pub fn stands_punct(s: &[u8], c: Cursor, b: u8) -> bool
 
 pub fn consume_punct_if(s: &[u8], c: Cursor, roles: &mut [u8], punct: u8, role: u8) -> MaybePunct
     requires { ⌜ InList (now s) c ⌝ }
-    ensures { λ r. ⌜ Meets (now (s .entry)) c (now (roles .entry)) (now (roles .exit)) (λ (v : Bool). r .taken ≡ v) (on (r .next)) (punctIf punct role (c .row) (stream (now (s .entry)) c)) ⌝ }
+    ensures { λ r. ⌜ Meets (now (s .entry)) c (now (roles .entry)) (now (roles .exit)) (λ (v : Bool). r .taken ≡ v)
+        (on (r .next)) (punctIf punct role (c .row) (stream (now (s .entry)) c)) ⌝ }
 {
     if !stands_punct(s, c, punct) {
         return MaybePunct {
@@ -261,7 +264,8 @@ pub fn consume_punct_if(s: &[u8], c: Cursor, roles: &mut [u8], punct: u8, role: 
 // The same by the token itself, where a look has found it.
 fn take_punct(s: &[u8], c: Cursor, roles: &mut [u8], punct: u8, role: u8) -> MaybePunct
     requires { ⌜ InList (now s) c ⌝ }
-    ensures { λ r. ⌜ Meets (now (s .entry)) c (now (roles .entry)) (now (roles .exit)) (λ (v : Bool). r .taken ≡ v) (on (r .next)) (punctIf punct role (c .row) (stream (now (s .entry)) c)) ⌝ }
+    ensures { λ r. ⌜ Meets (now (s .entry)) c (now (roles .entry)) (now (roles .exit)) (λ (v : Bool). r .taken ≡ v)
+        (on (r .next)) (punctIf punct role (c .row) (stream (now (s .entry)) c)) ⌝ }
 {
     match peek(s, c) {
         Peeked::Nothing => MaybePunct {

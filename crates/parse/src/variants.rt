@@ -78,7 +78,8 @@ pub enum VariantStep {
 pub fn variants_group(s: &[u8], c: Cursor, t: Token, roles: &mut [u8]) -> Counted
     requires { ⌜ InList (now s) c ⌝ }
     requires { ⌜ GroupAt (now s) (c .at) t ⌝ }
-    ensures { λ r. ⌜ Meets (now (s .entry)) c (now (roles .entry)) (now (roles .exit)) (countShown r) (countSaid r) (Inside (every variant) (now (s .entry)) c t) ⌝ }
+    ensures { λ r. ⌜ Meets (now (s .entry)) c (now (roles .entry)) (now (roles .exit)) (countShown r) (countSaid r)
+        (Inside (every variant) (now (s .entry)) c t) ⌝ }
 {
     let inside = take_token(s, c, t, roles, role::DELIMITER);
     match variants(s, inside, roles) {
@@ -93,7 +94,8 @@ pub fn variants_group(s: &[u8], c: Cursor, t: Token, roles: &mut [u8]) -> Counte
 // A variant's group, where one stands.
 fn variant_fields(s: &[u8], c: Cursor, roles: &mut [u8]) -> FieldsStep
     requires { ⌜ InList (now s) c ⌝ }
-    ensures { λ r. ⌜ Meets (now (s .entry)) c (now (roles .entry)) (now (roles .exit)) (fieldsShown (now (s .entry)) c r) (fieldsSaid r) (variantFields (c .row) (stream (now (s .entry)) c)) ⌝ }
+    ensures { λ r. ⌜ Meets (now (s .entry)) c (now (roles .entry)) (now (roles .exit))
+        (fieldsShown (now (s .entry)) c r) (fieldsSaid r) (variantFields (c .row) (stream (now (s .entry)) c)) ⌝ }
 {
     let row = c.row;
     match peek(s, c) {
@@ -150,7 +152,9 @@ fn is_negatable(s: &[u8], start: usize, end: usize) -> bool
 // The literal after a `-`.
 fn negative_value(s: &[u8], c: Cursor, roles: &mut [u8]) -> ValueStep
     requires { ⌜ InList (now s) c ⌝ }
-    ensures { λ r. ⌜ Meets (now (s .entry)) c (now (roles .entry)) (now (roles .exit)) (valueShown (now (s .entry)) (λ v. c .row) r) (valueSaid r) (negativeValue (c .row) (stream (now (s .entry)) c)) ⌝ }
+    ensures { λ r. ⌜ Meets (now (s .entry)) c (now (roles .entry)) (now (roles .exit))
+        (valueShown (now (s .entry)) (λ v. c .row) r) (valueSaid r)
+        (negativeValue (c .row) (stream (now (s .entry)) c)) ⌝ }
 {
     let row = c.row;
     match peek(s, c) {
@@ -186,7 +190,9 @@ fn negative_value(s: &[u8], c: Cursor, roles: &mut [u8]) -> ValueStep
 // What follows a variant's `=`.
 fn discriminant(s: &[u8], c: Cursor, roles: &mut [u8]) -> ValueStep
     requires { ⌜ InList (now s) c ⌝ }
-    ensures { λ r. ⌜ Meets (now (s .entry)) c (now (roles .entry)) (now (roles .exit)) (valueShown (now (s .entry)) (literalRow (c .row)) r) (valueSaid r) (discriminant (c .row) (stream (now (s .entry)) c)) ⌝ }
+    ensures { λ r. ⌜ Meets (now (s .entry)) c (now (roles .entry)) (now (roles .exit))
+        (valueShown (now (s .entry)) (literalRow (c .row)) r) (valueSaid r)
+        (discriminant (c .row) (stream (now (s .entry)) c)) ⌝ }
 {
     let row = c.row;
     match peek(s, c) {
@@ -218,7 +224,9 @@ fn discriminant(s: &[u8], c: Cursor, roles: &mut [u8]) -> ValueStep
 // A variant's value, where one stands; else a `,` or the end must follow.
 fn value_if(s: &[u8], c: Cursor, roles: &mut [u8]) -> ValueStep
     requires { ⌜ InList (now s) c ⌝ }
-    ensures { λ r. ⌜ Meets (now (s .entry)) c (now (roles .entry)) (now (roles .exit)) (valueShown (now (s .entry)) (literalRow (c .row + 1)) r) (valueSaid r) (valueIf (c .row) (stream (now (s .entry)) c)) ⌝ }
+    ensures { λ r. ⌜ Meets (now (s .entry)) c (now (roles .entry)) (now (roles .exit))
+        (valueShown (now (s .entry)) (literalRow (c .row + 1)) r) (valueSaid r)
+        (valueIf (c .row) (stream (now (s .entry)) c)) ⌝ }
 {
     let row = c.row;
     match peek(s, c) {
@@ -246,7 +254,9 @@ fn value_if(s: &[u8], c: Cursor, roles: &mut [u8]) -> ValueStep
 // A variant's attributes and name.
 fn variant_name(s: &[u8], c: Cursor, roles: &mut [u8]) -> NameStep
     requires { ⌜ InList (now s) c ⌝ }
-    ensures { λ r. ⌜ Meets (now (s .entry)) c (now (roles .entry)) (now (roles .exit)) (nameShown (now (s .entry)) (variantNameRow (point (now (s .entry)) c)) r) (nameSaid r) (variantName (c .row) (stream (now (s .entry)) c)) ⌝ }
+    ensures { λ r. ⌜ Meets (now (s .entry)) c (now (roles .entry)) (now (roles .exit))
+        (nameShown (now (s .entry)) (variantNameRow (point (now (s .entry)) c)) r) (nameSaid r)
+        (variantName (c .row) (stream (now (s .entry)) c)) ⌝ }
 {
     match attributes::try_take(s, c, roles) {
         Step::Refused(r) => NameStep::Refused(r),
@@ -264,7 +274,9 @@ fn variant_name(s: &[u8], c: Cursor, roles: &mut [u8]) -> NameStep
 // A variant's value and the `,` that may follow.
 fn variant_value(s: &[u8], c: Cursor, roles: &mut [u8]) -> ValueStep
     requires { ⌜ InList (now s) c ⌝ }
-    ensures { λ r. ⌜ Meets (now (s .entry)) c (now (roles .entry)) (now (roles .exit)) (valueShown (now (s .entry)) (literalRow (c .row + 1)) r) (valueSaid r) (variantValue (c .row) (stream (now (s .entry)) c)) ⌝ }
+    ensures { λ r. ⌜ Meets (now (s .entry)) c (now (roles .entry)) (now (roles .exit))
+        (valueShown (now (s .entry)) (literalRow (c .row + 1)) r) (valueSaid r)
+        (variantValue (c .row) (stream (now (s .entry)) c)) ⌝ }
 {
     match value_if(s, c, roles) {
         ValueStep::Refused(r) => ValueStep::Refused(r),
@@ -278,7 +290,8 @@ fn variant_value(s: &[u8], c: Cursor, roles: &mut [u8]) -> ValueStep
 
 fn variant_here(s: &[u8], c: Cursor, roles: &mut [u8]) -> VariantStep
     requires { ⌜ InList (now s) c ⌝ }
-    ensures { λ r. ⌜ Meets (now (s .entry)) c (now (roles .entry)) (now (roles .exit)) (variantShown (now (s .entry)) c r) (variantSaid r) (variantHere (c .row) (stream (now (s .entry)) c)) ⌝ }
+    ensures { λ r. ⌜ Meets (now (s .entry)) c (now (roles .entry)) (now (roles .exit))
+        (variantShown (now (s .entry)) c r) (variantSaid r) (variantHere (c .row) (stream (now (s .entry)) c)) ⌝ }
 {
     match variant_name(s, c, roles) {
         NameStep::Refused(r) => VariantStep::Refused(r),
@@ -300,7 +313,8 @@ fn variant_here(s: &[u8], c: Cursor, roles: &mut [u8]) -> VariantStep
 // One variant, or the end.
 pub fn variant(s: &[u8], c: Cursor, roles: &mut [u8]) -> VariantStep
     requires { ⌜ InList (now s) c ⌝ }
-    ensures { λ r. ⌜ Meets (now (s .entry)) c (now (roles .entry)) (now (roles .exit)) (variantShown (now (s .entry)) c r) (variantSaid r) (variant (c .row) (stream (now (s .entry)) c)) ⌝ }
+    ensures { λ r. ⌜ Meets (now (s .entry)) c (now (roles .entry)) (now (roles .exit))
+        (variantShown (now (s .entry)) c r) (variantSaid r) (variant (c .row) (stream (now (s .entry)) c)) ⌝ }
 {
     let l = look(s, c);
     if l.kind == 0 {
@@ -311,7 +325,8 @@ pub fn variant(s: &[u8], c: Cursor, roles: &mut [u8]) -> VariantStep
 
 fn variants(s: &[u8], from: Cursor, roles: &mut [u8]) -> Counted
     requires { ⌜ InList (now s) from ⌝ }
-    ensures { λ r. ⌜ Meets (now (s .entry)) from (now (roles .entry)) (now (roles .exit)) (countShown r) (countSaid r) (every variant (from .row) (stream (now (s .entry)) from)) ⌝ }
+    ensures { λ r. ⌜ Meets (now (s .entry)) from (now (roles .entry)) (now (roles .exit)) (countShown r) (countSaid r)
+        (every variant (from .row) (stream (now (s .entry)) from)) ⌝ }
 {
     let mut c = from;
     let mut count = 0;

@@ -50,7 +50,8 @@ fn is_scoped(s: &[u8], c: Cursor) -> bool
 // The scope that may follow a plain `pub`.
 fn scope_after(s: &[u8], c: Cursor, roles: &mut [u8]) -> Cursor
     requires { ⌜ InList (now s) c ⌝ }
-    ensures { λ r. ⌜ Meets (now (s .entry)) c (now (roles .entry)) (now (roles .exit)) any (on r) (scopeAfter (c .row) (stream (now (s .entry)) c)) ⌝ }
+    ensures { λ r. ⌜ Meets (now (s .entry)) c (now (roles .entry)) (now (roles .exit)) any (on r)
+        (scopeAfter (c .row) (stream (now (s .entry)) c)) ⌝ }
 {
     match peek(s, c) {
         Peeked::Nothing => c,
@@ -71,7 +72,8 @@ fn scope_after(s: &[u8], c: Cursor, roles: &mut [u8]) -> Cursor
 // The group that may follow a wrapped `pub`.
 fn any_scope(s: &[u8], c: Cursor, roles: &mut [u8]) -> Cursor
     requires { ⌜ InList (now s) c ⌝ }
-    ensures { λ r. ⌜ Meets (now (s .entry)) c (now (roles .entry)) (now (roles .exit)) any (on r) (anyScope (c .row) (stream (now (s .entry)) c)) ⌝ }
+    ensures { λ r. ⌜ Meets (now (s .entry)) c (now (roles .entry)) (now (roles .exit)) any (on r)
+        (anyScope (c .row) (stream (now (s .entry)) c)) ⌝ }
 {
     match peek(s, c) {
         Peeked::Nothing => c,
@@ -83,7 +85,8 @@ fn any_scope(s: &[u8], c: Cursor, roles: &mut [u8]) -> Cursor
 // Takes a visibility where one stands (virtue's Visibility::try_take).
 pub fn try_take(s: &[u8], c: Cursor, roles: &mut [u8]) -> Cursor
     requires { ⌜ InList (now s) c ⌝ }
-    ensures { λ r. ⌜ Meets (now (s .entry)) c (now (roles .entry)) (now (roles .exit)) any (on r) (visibility (c .row) (stream (now (s .entry)) c)) ⌝ }
+    ensures { λ r. ⌜ Meets (now (s .entry)) c (now (roles .entry)) (now (roles .exit)) any (on r)
+        (visibility (c .row) (stream (now (s .entry)) c)) ⌝ }
 {
     // Two calls keep `take` out of line, and the short way short.
     let l = look(s, c);
@@ -99,7 +102,8 @@ pub fn try_take(s: &[u8], c: Cursor, roles: &mut [u8]) -> Cursor
 // The same by the tokens themselves, where a look has found a group or a text that starts with `p`.
 fn take(s: &[u8], c: Cursor, roles: &mut [u8]) -> Cursor
     requires { ⌜ InList (now s) c ⌝ }
-    ensures { λ r. ⌜ Meets (now (s .entry)) c (now (roles .entry)) (now (roles .exit)) any (on r) (visibility (c .row) (stream (now (s .entry)) c)) ⌝ }
+    ensures { λ r. ⌜ Meets (now (s .entry)) c (now (roles .entry)) (now (roles .exit)) any (on r)
+        (visibility (c .row) (stream (now (s .entry)) c)) ⌝ }
 {
     match peek(s, c) {
         Peeked::Nothing => c,

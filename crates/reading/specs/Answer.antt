@@ -1,4 +1,5 @@
--- The whole answer of the reader of declarations, and the whole role buffer (document 01, "What the reader hands back").
+-- The whole answer of the reader of declarations, and the whole role buffer (document 01, "What the reader hands
+-- back").
 use mathlib.Core.Bool.{Bool, true, false, cond, _||_}
 use mathlib.Core.List.{List, [], _∷_, _++_}
 use Prim.Native.Nat.{ℕ, _-_}
@@ -13,8 +14,8 @@ use Rattle.reading.specs.Declaration.{Declaration}
 use Rattle.reading.specs.Took.{Took, took, refuse}
 use Rattle.reading.specs.Reading.{item}
 
--- The order of every answer about a declaration: the list check's refusal; 8 where a role buffer or scratch is too short for a
--- list of so many rows; then what is made of the item.
+-- The order of every answer about a declaration: the list check's refusal; 8 where a role buffer or scratch is too
+-- short for a list of so many rows; then what is made of the item.
 abbrev pub framed : {A : Type 0} → (ℕ → ℕ → A) → (ℕ → Bool) → (Took Declaration → A) → List ℕ → list.Answer → A
 framed refused short made s (list.Answer.refused n p) = refused n p
 framed refused short made s (list.Answer.passed rows) =

@@ -1,7 +1,7 @@
--- The role grammar (document 01, "Runs" and "Role grammar") as relations, one for each production, written without the reading.
--- `N ts us rs` says: an N stands first in the stream ts, us is what is left after it, and rs are the roles of the rows between.
--- What is optional and can stand is taken: each `none` and `absent` says of the rows that it cannot stand there.
--- Productions are those of the Rust Reference 1.63.
+-- The role grammar (document 01, "Runs" and "Role grammar") as relations, one for each production, written without the
+-- reading. `N ts us rs` says: an N stands first in the stream ts, us is what is left after it, and rs are the roles of
+-- the rows between. What is optional and can stand is taken: each `none` and `absent` says of the rows that it cannot
+-- stand there. Productions are those of the Rust Reference 1.63.
 use mathlib.Core.Path.{_≡_}
 use mathlib.Core.Bool.{Bool, true, false, cond, not, _&&_, _||_}
 use mathlib.Core.List.{List, [], _∷_, _++_}
@@ -265,7 +265,8 @@ module _ (allowed : Difference → Bool) where
         → eqb d PARENTHESIS ≡ true → TupleFields ts rs
         → VariantFields (group d ts us) us (role.delimiter ∷ rs ++ role.delimiter ∷ [])
 
-  -- `=` with a literal, or with `-` and a literal of digits alone worth at most 9,223,372,036,854,775,807. EnumItemDiscriminant
+  -- `=` with a literal, or with `-` and a literal of digits alone worth at most 9,223,372,036,854,775,807.
+  -- EnumItemDiscriminant
   pub data Value : Trees → Trees → List ℕ → Type 0 where
     literal : {e q : Row} {us : Trees}
         → isPunct EQUALS e ≡ true → isLiteral q ≡ true
@@ -280,8 +281,8 @@ module _ (allowed : Difference → Bool) where
         → Attributes ts us ks → Word isName role.variant-name us vs bs → VariantFields vs ws fs
         → Mark COMMA comma ws xs cs → (comma || isEnd xs) ≡ true
         → Variant ts xs (ks ++ (bs ++ (fs ++ cs)))
-    -- the same with a value; then `,`, which may be absent at the end of the group or after a value. The Reference has a group
-    -- or a value
+    -- the same with a value; then `,`, which may be absent at the end of the group or after a value. The Reference has
+    -- a group or a value
     valued : {comma : Bool} {ts us vs ws xs ys : Trees} {ks bs fs es cs : List ℕ}
         → Attributes ts us ks → Word isName role.variant-name us vs bs → VariantFields vs ws fs → Value ws xs es
         → Mark COMMA comma xs ys cs → Unless comma-after-value (comma || isEnd ys)
@@ -291,11 +292,13 @@ module _ (allowed : Difference → Bool) where
   -- EnumItems, to the end of their group
   pub data Variants : Trees → List ℕ → Type 0 where
     last : Variants end []
-    next : {ts us : Trees} {rs qs : List ℕ} → isEnd ts ≡ false → Variant ts us rs → Variants us qs → Variants ts (rs ++ qs)
+    next : {ts us : Trees} {rs qs : List ℕ}
+        → isEnd ts ≡ false → Variant ts us rs → Variants us qs → Variants ts (rs ++ qs)
 
   -- ## Bodies
 
-  -- `;`, a brace group of named fields, or a parenthesis group of types. StructStruct or TupleStruct: whether it is the second
+  -- `;`, a brace group of named fields, or a parenthesis group of types. StructStruct or TupleStruct: whether it is the
+  -- second
   pub data StructBody : Bool → Trees → Trees → List ℕ → Type 0 where
     unit : {q : Row} {us : Trees} → isPunct SEMICOLON q ≡ true → StructBody false (leaf q us) us (role.delimiter ∷ [])
     named : {d : ℕ} {ts us : Trees} {rs : List ℕ}
@@ -312,8 +315,8 @@ module _ (allowed : Difference → Bool) where
     variants : {d : ℕ} {ts us : Trees} {rs : List ℕ} → Unless enum-delimiter (eqb d BRACE) → Variants ts rs
         → EnumBody (group d ts us) us (role.delimiter ∷ rs ++ role.delimiter ∷ [])
 
-  -- ## Item: attributes, visibility, a word `struct` or `enum`, a word as name, optional generics, optional `where`, body.
-  -- Struct or Enumeration: whether it is a TupleStruct
+  -- ## Item: attributes, visibility, a word `struct` or `enum`, a word as name, optional generics, optional `where`,
+  -- body. Struct or Enumeration: whether it is a TupleStruct
 
   -- a word that passes the test, and a word as name
   pub data Head (is : Row → Bool) : Trees → Trees → List ℕ → Type 0 where
@@ -322,10 +325,12 @@ module _ (allowed : Difference → Bool) where
 
   pub data Item : Bool → Trees → Trees → List ℕ → Type 0 where
     struct : {tuple : Bool} {ts₀ ts₁ ts₂ ts₃ ts₄ ts₅ ts₆ : Trees} {ks bs cs ds es fs : List ℕ}
-        → Attributes ts₀ ts₁ ks → Visibility ts₁ ts₂ bs → Head (isWord STRUCT) ts₂ ts₃ cs → Generics ts₃ ts₄ ds → Clause ts₄ ts₅ es
+        → Attributes ts₀ ts₁ ks → Visibility ts₁ ts₂ bs → Head (isWord STRUCT) ts₂ ts₃ cs → Generics ts₃ ts₄ ds
+        → Clause ts₄ ts₅ es
         → StructBody tuple ts₅ ts₆ fs → Item tuple ts₀ ts₆ (ks ++ (bs ++ (cs ++ (ds ++ (es ++ fs)))))
     enum : {ts₀ ts₁ ts₂ ts₃ ts₄ ts₅ ts₆ : Trees} {ks bs cs ds es fs : List ℕ}
-        → Attributes ts₀ ts₁ ks → Visibility ts₁ ts₂ bs → Head (isWord ENUM) ts₂ ts₃ cs → Generics ts₃ ts₄ ds → Clause ts₄ ts₅ es
+        → Attributes ts₀ ts₁ ks → Visibility ts₁ ts₂ bs → Head (isWord ENUM) ts₂ ts₃ cs → Generics ts₃ ts₄ ds
+        → Clause ts₄ ts₅ es
         → EnumBody ts₅ ts₆ fs → Item false ts₀ ts₆ (ks ++ (bs ++ (cs ++ (ds ++ (es ++ fs)))))
 
   -- the rows after the body of an item that is a TupleStruct or not
@@ -342,7 +347,8 @@ module _ (allowed : Difference → Bool) where
         → LeftOver true (leaf q us)
     rows : {tuple : Bool} {ts : Trees} → allowed left-over-rows ≡ true → LeftOver tuple ts
 
-  -- An assignment of roles to the rows of a stream obeys when they can be divided into an item; all rows after the body: 0.
+  -- An assignment of roles to the rows of a stream obeys when they can be divided into an item; all rows after the
+  -- body: 0.
   pub data Obeys : Trees → List ℕ → Type 0 where
     obeys : {tuple : Bool} {ts us : Trees} {rs : List ℕ}
         → Item tuple ts us rs → LeftOver tuple us → Obeys ts (rs ++ replicate (size us) role.left-over)

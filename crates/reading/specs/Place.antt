@@ -1,4 +1,5 @@
--- Where the parts of a declaration stand: each is told by the readers of what stands before it (document 01, "Role grammar").
+-- Where the parts of a declaration stand: each is told by the readers of what stands before it (document 01, "Role
+-- grammar").
 use mathlib.Core.Bool.{Bool, cond, _||_}
 use mathlib.Core.List.{List}
 use Prim.Native.Nat.{ℕ, zero, suc, _+_}

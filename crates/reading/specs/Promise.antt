@@ -1,4 +1,5 @@
--- One role for every row (document 01, "Role grammar" and "Four questions about the promises"), stated with the role grammar alone.
+-- One role for every row (document 01, "Role grammar" and "Four questions about the promises"), stated with the role
+-- grammar alone.
 use mathlib.Core.Path.{_≡_}
 use mathlib.Core.Logic.{_↔_}
 use mathlib.Core.Bool.{Bool, true, false}
@@ -29,7 +30,8 @@ pub record OneEach (rows : ℕ) (roles : List ℕ) : Type 0 where
 -- Of a list s and a role buffer of `room` bytes: whether the list was accepted, and the buffer's final bytes.
 pub record SingleAssignment (s : List ℕ) (room : ℕ) (accepted : Bool) (buffer : List ℕ) : Type 0 where
   -- a list that passes refusals 1 to 7, with a byte a row: accepted exactly when there is an assignment that obeys
-  pub exactly : (rows : ℕ) → check s ≡ passed rows → rows ≤ room → (accepted ≡ true) ↔ ((roles : List ℕ) × Assignment s roles)
+  pub exactly : (rows : ℕ) → check s ≡ passed rows → rows ≤ room →
+      (accepted ≡ true) ↔ ((roles : List ℕ) × Assignment s roles)
   -- any two assignments that obey are equal
   pub unique : (roles others : List ℕ) → Assignment s roles → Assignment s others → roles ≡ others
   -- in a list that passes refusals 1 to 7 each row that was counted has its role

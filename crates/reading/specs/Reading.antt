@@ -1,5 +1,5 @@
--- What the reader of declarations answers (document 01, "Runs", "Role grammar" and the table of refusals), one definition for
--- each reader of the Rust. Productions are those of the Rust Reference 1.63.
+-- What the reader of declarations answers (document 01, "Runs", "Role grammar" and the table of refusals), one
+-- definition for each reader of the Rust. Productions are those of the Rust Reference 1.63.
 use mathlib.Core.Bool.{Bool, true, false, cond, not, _&&_, _||_}
 use mathlib.Core.List.{List, [], _∷_, _++_}
 use Prim.Native.Nat.{ℕ, zero, suc, _+_, _-_, _*_}
@@ -33,7 +33,8 @@ textOf (leaf r ts) = r .text
 abbrev pub word : ℕ → Reader Word
 word r row end = took missing [] end
 word r row (leaf q us) = cond (isIdent q) (took (found (q .text) row) (r ∷ []) us) (took missing [] (leaf q us))
-word r row (group d ts us) = cond (lone isIdent ts) (took (found (textOf ts) (row + 1)) (copied r ts) us) (took missing [] (group d ts us))
+word r row (group d ts us) =
+    cond (lone isIdent ts) (took (found (textOf ts) (row + 1)) (copied r ts) us) (took missing [] (group d ts us))
 
 abbrev pub punctIf : ℕ → ℕ → Reader Bool
 punctIf b r row end = took false [] end
@@ -45,8 +46,8 @@ punctIf b r row (group d ts us) = took false [] (group d ts us)
 pub data Ending : Type 0 where
   atComma atAngle atGroup atEnd : Ending
 
--- what a token is to a run: it belongs, with the depth and whether a `-` was last from then on; it ends the run; or it is a
--- `>` with nothing open
+-- what a token is to a run: it belongs, with the depth and whether a `-` was last from then on; it ends the run; or it
+-- is a `>` with nothing open
 pub data Verdict : Type 0 where
   belongs : ℕ → Bool → Verdict
   ends : Ending → Verdict
@@ -79,7 +80,9 @@ runFrom st r depth minus row end = took atEnd [] end
 runFrom st r depth minus row (leaf q us) =
     judged (judge st depth minus q) (λ e m. onward (r ∷ []) (runFrom st r e m (row + 1) us)) (leaf q us) row
 runFrom st r depth minus row (group d ts us) =
-    judged (judgeGroup st depth d) (λ e m. onward (copied r ts) (runFrom st r e m (row + whole ts) us)) (group d ts us) row
+    judged (judgeGroup st depth d)
+    (λ e m. onward (copied r ts) (runFrom st r e m (row + whole ts) us))
+    (group d ts us) row
 
 -- the first tokens of a stream, n rows in all
 abbrev pub front : Trees → ℕ → Trees
@@ -135,9 +138,12 @@ anyScope row (group d ts us) = took tt (copied role.scope ts) us
 
 abbrev pub visibility : Reader (Unit {0})
 visibility row end = took tt [] end
-visibility row (leaf r us) = cond (isWord PUB r) (onward (role.visibility ∷ []) (scopeAfter (row + 1) us)) (took tt [] (leaf r us))
+visibility row (leaf r us) =
+    cond (isWord PUB r) (onward (role.visibility ∷ []) (scopeAfter (row + 1) us)) (took tt [] (leaf r us))
 visibility row (group d ts us) =
-    cond (lone (isWord PUB) ts) (onward (copied role.visibility ts) (anyScope (row + whole ts) us)) (took tt [] (group d ts us))
+    cond (lone (isWord PUB) ts)
+    (onward (copied role.visibility ts) (anyScope (row + whole ts) us))
+    (took tt [] (group d ts us))
 
 -- ## The item's word and name (parse/data_type.rs)
 
@@ -251,7 +257,8 @@ generics row (leaf r us) =
 abbrev pub clause : Reader Trees
 clause row end = took end [] end
 clause row (group d ts us) = took end [] (group d ts us)
-clause row (leaf r us) = cond (isWord WHERE r) (from role.where-word row us (run clauseStops role.where-run)) (took end [] (leaf r us))
+clause row (leaf r us) =
+    cond (isWord WHERE r) (from role.where-word row us (run clauseStops role.where-run)) (took end [] (leaf r us))
 
 -- ## Bodies (parse/body.rs; StructFields, TupleFields, EnumItems)
 
@@ -318,7 +325,9 @@ abbrev pub negativeValue : Reader Value
 negativeValue row end = refuse 21 END
 negativeValue row (group d ts us) = refuse 21 row
 negativeValue row (leaf r us) =
-    cond (isLiteral r) (cond (negatable (r .text)) (took (negative (worth (r .text))) (role.value ∷ []) us) (refuse 26 row)) (refuse 21 row)
+    cond (isLiteral r)
+    (cond (negatable (r .text)) (took (negative (worth (r .text))) (role.value ∷ []) us) (refuse 26 row))
+    (refuse 21 row)
 
 -- EnumItemDiscriminant, after `=`
 abbrev pub discriminant : Reader Value

@@ -31,7 +31,8 @@ fn put_answer(out: &mut [u8], answer: Checked) -> usize
 pub fn report_check(list: &[u8], out: &mut [u8]) -> usize
     ensures { λ r. ⌜ Put (now (out .entry)) (now (out .exit)) 0 r (answerText (check (now (list .entry)))) ⌝ }
     ensures { λ r. ⌜ r ≤ 64 ⌝ }
-    ensures { λ _. ⌜ ((n p : ℕ) → check (now (list .entry)) ≡ refused n p → OneRefusal checkNumber (now (list .entry)) n p) ⌝ }
+    ensures { λ _. ⌜ ((n p : ℕ) → check (now (list .entry)) ≡ refused n p →
+        OneRefusal checkNumber (now (list .entry)) n p) ⌝ }
 {
     put_answer(out, check(list))
 }

@@ -39,8 +39,10 @@ fn count_assigned(roles: &[u8]) -> usize
 // Reads the list, with a byte of `roles` for each row.
 pub fn read_roles(list: &[u8], roles: &mut [u8]) -> Roles
     ensures { λ r. ⌜ readAs r (now (roles .exit)) (answer (now (list .entry)) (length (now (roles .entry)))) ⌝ }
-    ensures { λ _. ⌜ now (roles .exit) ≡ buffer (length (now (roles .entry))) (answer (now (list .entry)) (length (now (roles .entry)))) ⌝ }
-    ensures { λ _. ⌜ ((n p : ℕ) → answer (now (list .entry)) (length (now (roles .entry))) ≡ refused n p → OneRefusal readNumber (now (list .entry)) n p) ⌝ }
+    ensures { λ _. ⌜ now (roles .exit) ≡ buffer (length (now (roles .entry)))
+        (answer (now (list .entry)) (length (now (roles .entry)))) ⌝ }
+    ensures { λ _. ⌜ ((n p : ℕ) → answer (now (list .entry)) (length (now (roles .entry))) ≡ refused n p →
+        OneRefusal readNumber (now (list .entry)) n p) ⌝ }
 {
     match new(list, roles) {
         Parse::Refused(r) => Roles::Refused(r),
@@ -76,10 +78,13 @@ fn put_lines(out: &mut [u8], at: usize, roles: &[u8]) -> usize
 
 // Reads the list and writes the report at the start of out; answers its length.
 pub fn report_roles(list: &[u8], roles: &mut [u8], out: &mut [u8]) -> usize
-    ensures { λ r. ⌜ Put (now (out .entry)) (now (out .exit)) 0 r (rolesText (answer (now (list .entry)) (length (now (roles .entry))))) ⌝ }
-    ensures { λ _. ⌜ now (roles .exit) ≡ buffer (length (now (roles .entry))) (answer (now (list .entry)) (length (now (roles .entry)))) ⌝ }
+    ensures { λ r. ⌜ Put (now (out .entry)) (now (out .exit)) 0 r
+        (rolesText (answer (now (list .entry)) (length (now (roles .entry))))) ⌝ }
+    ensures { λ _. ⌜ now (roles .exit) ≡ buffer (length (now (roles .entry)))
+        (answer (now (list .entry)) (length (now (roles .entry)))) ⌝ }
     ensures { λ r. ⌜ r ≤ 65536 ⌝ }
-    ensures { λ _. ⌜ ((n p : ℕ) → answer (now (list .entry)) (length (now (roles .entry))) ≡ refused n p → OneRefusal readNumber (now (list .entry)) n p) ⌝ }
+    ensures { λ _. ⌜ ((n p : ℕ) → answer (now (list .entry)) (length (now (roles .entry))) ≡ refused n p →
+        OneRefusal readNumber (now (list .entry)) n p) ⌝ }
 {
     match read_roles(list, roles) {
         Roles::Refused(r) => put_refusal(out, 0, r),

@@ -1,4 +1,5 @@
--- The answer of the list check (document 01, "What the reader hands back": refusals 1 to 7 in the order "1, 2; row by row 4, 3, then 5 or 6; 7").
+-- The answer of the list check (document 01, "What the reader hands back": refusals 1 to 7 in the order "1, 2; row by
+-- row 4, 3, then 5 or 6; 7").
 use mathlib.Core.Bool.{Bool, true, false, cond, _&&_}
 use mathlib.Core.List.{List, [], _∷_}
 use Prim.Native.Nat.{ℕ, _+_}

@@ -31,8 +31,8 @@ abbrev pub inText : Bool → ℕ → Bool
 inText true b = namePart b
 inText false b = printable b
 
--- from `from` on each byte before r may stand in a name, or else in a literal, and the byte at r may not; a line ends there
--- where it is an LF
+-- from `from` on each byte before r may stand in a name, or else in a literal, and the byte at r may not; a line ends
+-- there where it is an LF
 pub record TextEnd (s : List ℕ) (names : Bool) (from r : ℕ) : Type 0 where
   pub start : from ≤ r
   pub fits : all (inText names) (slice from r s) ≡ true
@@ -91,7 +91,8 @@ pub record Whole (s : List ℕ) (i : ℕ) : Type 0 where
   pub right : allRight (rowsAt s i) ≡ true
   pub closed : allClosed (rowsAt s i) ≡ true
 
--- a cursor of the list: its offset is where its row starts, the rows before it have a byte each, and rows stand from it on
+-- a cursor of the list: its offset is where its row starts, the rows before it have a byte each, and rows stand from it
+-- on
 pub record InList (s : List ℕ) (c : Cursor) : Type 0 where
   pub starts : c .at ≡ rowStart s (c .row)
   pub counted : c .row ≤ c .at
@@ -201,8 +202,8 @@ pub record Walked (s : List ℕ) (c : Cursor) (levels : ℕ) (r : LevelEnd) : Ty
       → walk (c .row) gs (lines (drop (c .at) s)) ≡ resumed s gs r
   pub past : closedIn s (c .at) r
 
--- A list that passes the check with n rows: its line of names, then the lines of its rows, which nest; no group is open at
--- its first row, and each that opens is closed.
+-- A list that passes the check with n rows: its line of names, then the lines of its rows, which nest; no group is open
+-- at its first row, and each that opens is closed.
 pub record PassedList (s : List ℕ) (n : ℕ) : Type 0 where
   pub names : take FIRST-ROW s ≡ NAMES
   pub written : drop FIRST-ROW s ≡ written (rowsAt s FIRST-ROW)

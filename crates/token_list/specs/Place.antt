@@ -10,8 +10,8 @@ use Rattle.token_list.specs.Text.{between}
 use Rattle.token_list.specs.Row.{lines, begun}
 use Rattle.token_list.specs.Check.{END}
 
--- A row of the list s, or one that begins in it: the malformed row that 3 names, the row after 4,096 that 4 names. In a list that
--- passes the check just its rows begin.
+-- A row of the list s, or one that begins in it: the malformed row that 3 names, the row after 4,096 that 4 names. In a
+-- list that passes the check just its rows begin.
 pub record RowOf (s : List ℕ) (p : ℕ) : Type 0 where
   pub begins : p < begun (lines (drop FIRST-ROW s))
   pub low : p ≤ MAX-ROWS

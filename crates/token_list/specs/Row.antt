@@ -55,7 +55,8 @@ pub record Row : Type 0 where
   pub kind : ℕ
   pub text : List ℕ
 
--- the rows that lines hold; of lines that are no rows nothing is said, but that reading ends at one too short for kind and space
+-- the rows that lines hold; of lines that are no rows nothing is said, but that reading ends at one too short for kind
+-- and space
 abbrev pub rowOf : List ℕ → List Row → List Row
 rowOf [] rs = []
 rowOf (k ∷ []) rs = []

@@ -1,5 +1,6 @@
 -- The streams of rows (document 01, "The token list": a group inside a group is followed down one level at a time).
--- Every list of rows has its streams: one that is never closed ends with the list, and a closing row too many ends its stream.
+-- Every list of rows has its streams: one that is never closed ends with the list, and a closing row too many ends its
+-- stream.
 use mathlib.Core.Bool.{Bool, true, false, cond, _&&_}
 use mathlib.Core.List.{List, [], _∷_}
 use Prim.Native.Nat.{ℕ, _+_}
@@ -8,13 +9,15 @@ use lib.ListN.{drop}
 use Rattle.token_list.specs.Layout.{OPEN, CLOSE, FIRST-ROW}
 use Rattle.token_list.specs.Row.{Row, rows, lines, first, bytesBefore}
 
--- What is left of a stream: nothing; a token and the rest; a group with its delimiter, its inside and the rest after its close.
+-- What is left of a stream: nothing; a token and the rest; a group with its delimiter, its inside and the rest after
+-- its close.
 pub data Trees : Type 0 where
   end : Trees
   leaf : Row → Trees → Trees
   group : ℕ → Trees → Trees → Trees
 
--- The stream that a row stands in, from that row on, and the streams around it, each from past the group's close, innermost first.
+-- The stream that a row stands in, from that row on, and the streams around it, each from past the group's close,
+-- innermost first.
 pub record Streams : Type 0 where
   pub here : Trees
   pub outer : List Trees
