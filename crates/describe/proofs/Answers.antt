@@ -41,11 +41,13 @@ use Rattle.describe.proofs.Worths.{part-front, negative-length}
 
 -- ## What a reader's answer tells
 
-pub meets-tells : {A : Type 0} {s : List ℕ} {c d : Cursor} {b0 b1 : List ℕ} {sh : A → Type 0} {t : Took A} → Meets s c b0 b1 sh (on d) t
+pub meets-tells : {A : Type 0} {s : List ℕ} {c d : Cursor} {b0 b1 : List ℕ} {sh : A → Type 0} {t : Took A} →
+    Meets s c b0 b1 sh (on d) t
     → (a : A) × (rs : List ℕ) × (us : Trees) × (t ≡ took a rs us) × sh a
 meets-tells (stands {a = a} {rs = rs} {us = us} m h) = (a, rs, us, refl, h)
 
-pub meets-refusal : {A : Type 0} {s : List ℕ} {c : Cursor} {b0 b1 : List ℕ} {sh : A → Type 0} {n p : ℕ} {t : Took A} → Meets s c b0 b1 sh (no n p) t → t ≡ refuse n p
+pub meets-refusal : {A : Type 0} {s : List ℕ} {c : Cursor} {b0 b1 : List ℕ} {sh : A → Type 0} {n p : ℕ} {t : Took A} →
+    Meets s c b0 b1 sh (no n p) t → t ≡ refuse n p
 meets-refusal (refuses qs q) = refl
 
 -- ## A value
@@ -76,24 +78,32 @@ module _ {s : List ℕ} {v : ValueAt} (x : Point) (w : declaration.Value) (k : V
       let end : t .end ≡ textEnd s row = omega (arith, next) in
       let here : places.InList (t .start) (t .end) ≡ places.InList (textStart s row) (textEnd s row) =
       λ i. places.InList (token .start i) (end i) in
-      let inside : part (t .start) (t .end) s ≡ b .0 = chosen _ _ _ (le-leb (t .end) (length s) (b .1 .within)) ∙ sym (b .1 .bytes) in
+      let inside : part (t .start) (t .end) s ≡ b .0 = chosen _ _ _ (le-leb (t .end) (length s) (b .1 .within)) ∙
+      sym (b .1 .bytes) in
       record {
         place = here ∙ ap (λ (n : ℕ). places.InList (textStart s n) (textEnd s n)) same ∙ sym (ap (placeOf s) a);
         text = inside ∙ sym (ap textOf a);
-        range = (omega (arith, token .start), omega (arith, token .start, token .end .text), omega (arith, token .end .within, short));
+        range = (
+          omega (arith, token .start),
+          omega (arith, token .start, token .end .text),
+          omega (arith, token .end .within, short),
+        );
         scratch = sym (ap (scratch y) a);
       }
 
-  pub placed-negative : {y z : List ℕ} {n r : ℕ} (t : Token) → v ≡ valueAts.Negative t → n ≡ worth (slice (t .start) (t .end) s) → Put y z 0 r (negativeText n) → r ≤ 20 → 20 ≤ length y
+  pub placed-negative : {y z : List ℕ} {n r : ℕ} (t : Token) → v ≡ valueAts.Negative t →
+      n ≡ worth (slice (t .start) (t .end) s) → Put y z 0 r (negativeText n) → r ≤ 20 → 20 ≤ length y
       → Placed s y z (valueAnswer (valueRow x w) w) (places.InScratch r)
   placed-negative {y} {z} {n} {r} t e q p h room =
       let b = known e .value in
       let m : n ≡ worth (b .0) = q ∙ ap worth (sym (b .1 .bytes)) in
       let a = answered (declaration.negative (worth (b .0))) (b .3) refl in
-      let long : r ≡ length (negativeText (worth (b .0))) = omega (arith, p .next, ap (λ (k : ℕ). length (negativeText k)) m) in
+      let long : r ≡ length (negativeText (worth (b .0))) =
+      omega (arith, p .next, ap (λ (k : ℕ). length (negativeText k)) m) in
       record {
         place = ap places.InScratch long ∙ sym (ap (placeOf s) a);
-        text = part-front r z (omega (arith, kept p, h, room)) ∙ shown p (omega (arith, h, room)) ∙ ap negativeText m ∙ sym (ap textOf a);
+        text = part-front r z (omega (arith, kept p, h, room)) ∙ shown p (omega (arith, h, room)) ∙ ap negativeText m ∙
+            sym (ap textOf a);
         range = (omega (arith, p .next, negative-length n), h);
         scratch = p .bytes ∙ ap (λ (k : ℕ). sets y 0 (negativeText k)) m ∙ sym (ap (scratch y) a);
       }
@@ -102,8 +112,10 @@ module _ {s x y : List ℕ} {r : ValuePlace} where
   pub placed-as : {a b : Answer} → b ≡ a → Placed s x y a r → Placed s x y b r
   placed-as e p = subst⁻¹ (λ (z : Answer). Placed s x y z r) e p
 
-pub placed-refused : {s x : List ℕ} {a : Answer} (r : Refusal) → a ≡ refused (r .number) (r .place) → Placed s x x a (places.Refused r)
-placed-refused {s} {x} r e = record { place = sym (ap (placeOf s) e); text = sym (ap textOf e); range = tt; scratch = sym (ap (scratch x) e) }
+pub placed-refused : {s x : List ℕ} {a : Answer} (r : Refusal) → a ≡ refused (r .number) (r .place) →
+    Placed s x x a (places.Refused r)
+placed-refused {s} {x} r e =
+    record { place = sym (ap (placeOf s) e); text = sym (ap textOf e); range = tt; scratch = sym (ap (scratch x) e) }
 
 module _ (s : List ℕ) (k n : ℕ) where
   abbrev framedBy : list.Answer → Answer
@@ -117,13 +129,15 @@ module _ (s : List ℕ) (k n : ℕ) where
   unfolding answer
   value-short e h = ap framedBy e ∙ chosen _ _ _ (lt-ltb n 20 h)
 
-  pub value-read : {r : ℕ} → list.check s ≡ list.Answer.passed r → 20 ≤ n → answer s k n ≡ itemAnswer (start s) k (item 0 (at s 10 .here))
+  pub value-read : {r : ℕ} → list.check s ≡ list.Answer.passed r → 20 ≤ n →
+      answer s k n ≡ itemAnswer (start s) k (item 0 (at s 10 .here))
   unfolding answer
   value-read e h = ap framedBy e ∙ passed-over _ _ _ (le-ltb n 20 h)
 
   pub value-refusal : (m p : ℕ) → answer s k n ≡ refused m p → OneRefusal readNumber s m p
   unfolding answer
-  value-refusal = refusals s refused (λ rows. ltb n SCRATCH-BYTES) (itemAnswer (start s) k) (λ n p m o q. ((cc), (cc))) plain
+  value-refusal =
+      refusals s refused (λ rows. ltb n SCRATCH-BYTES) (itemAnswer (start s) k) (λ n p m o q. ((cc), (cc))) plain
     where
       no-refusal : {B : Type 0} {m p : ℕ} (v : declaration.Value) → variantAnswer (start s) k v ≡ refused m p → B
       no-refusal declaration.absent q = let z : _≡_ {A = ℕ} 0 1 = cc in absurd (omega arith)
@@ -136,26 +150,38 @@ module _ (s : List ℕ) (k n : ℕ) where
 
 -- ## A listing
 
-pub put-listing : {k l m o : List ℕ} {i j r : ℕ} (x : declaration.Declaration) → Put k l 0 i (listing.itemLines x) → Put l m i j (listing.numbered listing.parameterLine 0 (declaration.parametersOf (x .generics)))
+pub put-listing : {k l m o : List ℕ} {i j r : ℕ} (x : declaration.Declaration) → Put k l 0 i (listing.itemLines x) →
+    Put l m i j (listing.numbered listing.parameterLine 0 (declaration.parametersOf (x .generics)))
     → Put m o j r (listing.bodyLines (x .body)) → Put k o 0 r (listing.listing x)
 unfolding listing.listing
 put-listing x p q t = joined p (joined q t)
 
 module _ {x : List ℕ} (text : List ℕ) where
-  pub fits-not : (n : ℕ) → n ≡ length text → length x < n → ListedAs x x (listing.fitted (length x) (listing.listed text)) (listeds.Refused (record { number = 8; place = 65535 }))
+  pub fits-not : (n : ℕ) → n ≡ length text → length x < n →
+      ListedAs x x (listing.fitted (length x) (listing.listed text))
+      (listeds.Refused (record { number = 8; place = 65535 }))
   fits-not n e h =
-      let q = chosen _ (listing.refused 8 list.END) (listing.listed text) (lt-ltb (length x) (length text) (omega (arith, e, h))) in
+      let q = chosen _ (listing.refused 8 list.END) (listing.listed text)
+      (lt-ltb (length x) (length text) (omega (arith, e, h))) in
       record { room = tt; answer = sym q; output = sym (ap (listing.output x) q) }
 
-  pub fits : {y : List ℕ} (n : ℕ) → n ≡ length text → n ≤ length x → {r : ℕ} → Put x y 0 r text → ListedAs x y (listing.fitted (length x) (listing.listed text)) (listeds.Written r)
+  pub fits : {y : List ℕ} (n : ℕ) → n ≡ length text → n ≤ length x → {r : ℕ} → Put x y 0 r text →
+      ListedAs x y (listing.fitted (length x) (listing.listed text)) (listeds.Written r)
   fits {y} n e h {r} p =
-      let q = passed-over _ (listing.refused 8 list.END) (listing.listed text) (le-ltb (length x) (length text) (omega (arith, e, h))) in
-      record { room = omega (arith, p .next, e, h, kept p); answer = ap listing.listed (shown p (omega (arith, p .next, e, h))) ∙ sym q; output = p .bytes ∙ sym (ap (listing.output x) q) }
+      let q = passed-over _ (listing.refused 8 list.END) (listing.listed text)
+      (le-ltb (length x) (length text) (omega (arith, e, h))) in
+      record {
+        room = omega (arith, p .next, e, h, kept p);
+        answer = ap listing.listed (shown p
+            (omega (arith, p .next, e, h))) ∙ sym q;
+        output = p .bytes ∙ sym (ap (listing.output x) q);
+      }
 
 pub listed-as : {x y : List ℕ} {r : Listed} {a b : listing.Answer} → b ≡ a → ListedAs x y a r → ListedAs x y b r
 listed-as {x} {y} {r} e p = subst⁻¹ (λ (z : listing.Answer). ListedAs x y z r) e p
 
-pub listed-refused : {x : List ℕ} {r : Refusal} {a : listing.Answer} → listedAs x (listeds.Refused r) ≡ a → x ≡ listing.output x a → ListedAs x x a (listeds.Refused r)
+pub listed-refused : {x : List ℕ} {r : Refusal} {a : listing.Answer} → listedAs x (listeds.Refused r) ≡ a →
+    x ≡ listing.output x a → ListedAs x x a (listeds.Refused r)
 listed-refused e f = record { room = tt; answer = e; output = f }
 
 module _ (s : List ℕ) (n : ℕ) where
@@ -166,7 +192,8 @@ module _ (s : List ℕ) (n : ℕ) where
   unfolding listing.answer listing.whole
   listing-checked e = ap fittedBy e
 
-  pub listing-read : {r : ℕ} → list.check s ≡ list.Answer.passed r → listing.answer s n ≡ listing.fitted n (listing.itemAnswer (item 0 (at s 10 .here)))
+  pub listing-read : {r : ℕ} → list.check s ≡ list.Answer.passed r →
+      listing.answer s n ≡ listing.fitted n (listing.itemAnswer (item 0 (at s 10 .here)))
   unfolding listing.answer listing.whole
   listing-read e = ap fittedBy e
 
@@ -180,14 +207,16 @@ module _ (s : List ℕ) (n : ℕ) where
       plain m p (took d rs us) q = let z : _≡_ {A = ℕ} 0 1 = cc in absurd (omega arith)
       plain m p (refuse i o) q = cc
 
-      room : (text : List ℕ) (b : Bool) → cond b (listing.refused 8 list.END) (listing.listed text) ≡ listing.refused m p → OneRefusal readNumber s m p
+      room : (text : List ℕ) (b : Bool) → cond b (listing.refused 8 list.END) (listing.listed text) ≡
+          listing.refused m p → OneRefusal readNumber s m p
       room text true q =
           let number : 8 ≡ m = cc in
           let place : list.END ≡ p = cc in
           subst (λ (i : ℕ). OneRefusal readNumber s i p) number (subst (OneRefusal readNumber s 8) place (short-read s))
       room text false q = let z : _≡_ {A = ℕ} 0 1 = cc in absurd (omega arith)
 
-      fits : (a : listing.Answer) → listing.fitted n a ≡ listing.refused m p → (a ≡ listing.refused m p → OneRefusal readNumber s m p) → OneRefusal readNumber s m p
+      fits : (a : listing.Answer) → listing.fitted n a ≡ listing.refused m p →
+          (a ≡ listing.refused m p → OneRefusal readNumber s m p) → OneRefusal readNumber s m p
       fits (listing.listed text) q k = room text (ltb n (length text)) q
       fits (listing.refused i o) q k = k q
 
@@ -198,7 +227,8 @@ module _ {x y : List ℕ} {a : listing.Answer} where
       let q : a ≡ listing.listed (take n y) = sym (l .answer) in
       rw q (record { next = omega (arith, length-take-le n y (l .room)); bytes = l .output ∙ ap (listing.output x) q })
 
-  pub refused-put : {z : List ℕ} {n : ℕ} {r : Refusal} → ListedAs x y a (listeds.Refused r) → Put y z 0 n (refusalText (r .number) (r .place)) → Put x z 0 n (listing.answerText a)
+  pub refused-put : {z : List ℕ} {n : ℕ} {r : Refusal} → ListedAs x y a (listeds.Refused r) →
+      Put y z 0 n (refusalText (r .number) (r .place)) → Put x z 0 n (listing.answerText a)
   refused-put {z} {n} {r} l p =
       let q : a ≡ listing.refused (r .number) (r .place) = sym (l .answer) in
       let same : y ≡ x = l .output ∙ ap (listing.output x) q in

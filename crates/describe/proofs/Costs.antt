@@ -1,5 +1,5 @@
--- What a declaration costs in a listing: no more than the weight of the rows that it is read from, 20 bytes a row and the
--- row's text.
+-- What a declaration costs in a listing: no more than the weight of the rows that it is read from, 20 bytes a row and
+-- the row's text.
 use mathlib.Core.Path.{_≡_, refl}
 use mathlib.Core.Bool.{Bool, true, false, cond}
 use mathlib.Core.List.{List, [], _∷_, _++_}
@@ -75,30 +75,35 @@ abbrev Covering : {A : Type 0} → (A → ℕ) → ℕ → Reader A → Type 0
 Covering cost c m = (row : ℕ) (ts : Trees) → Covered cost c ts (m row ts)
 
 -- rows taken before, whose weight is the credit
-onward-covered : {A : Type 0} {cost : A → ℕ} {c d : ℕ} {ts us : Trees} {t : Took A} (rs : List ℕ) → c + weight us ≤ d + weight ts → Covered cost c us t
+onward-covered : {A : Type 0} {cost : A → ℕ} {c d : ℕ} {ts us : Trees} {t : Took A} (rs : List ℕ) →
+    c + weight us ≤ d + weight ts → Covered cost c us t
     → Covered cost d ts (onward rs t)
 onward-covered rs h (covers a qs vs e) = covers a (rs ++ qs) vs (omega arith)
 onward-covered rs h refuses = refuses
 
-after-covered : {A B : Type 0} {cost : A → ℕ} {of : B → ℕ} {c : ℕ} {ts : Trees} {t : Took A} (row : ℕ) (f : A → Reader B) → Covered cost c ts t
+after-covered : {A B : Type 0} {cost : A → ℕ} {of : B → ℕ} {c : ℕ} {ts : Trees} {t : Took A} (row : ℕ)
+    (f : A → Reader B) → Covered cost c ts t
     → ((a : A) → Covering of (cost a) (f a)) → Covered of c ts (after row t f)
 after-covered row f (covers a rs us e) k = onward-covered rs e (k a _ us)
 after-covered row f refuses k = refuses
 
-bind : {A B : Type 0} {cost : A → ℕ} {of : B → ℕ} {c : ℕ} {m : Reader A} {f : A → Reader B} → Covering cost c m → ((a : A) → Covering of (cost a) (f a)) → Covering of c (m >>= f)
+bind : {A B : Type 0} {cost : A → ℕ} {of : B → ℕ} {c : ℕ} {m : Reader A} {f : A → Reader B} → Covering cost c m →
+    ((a : A) → Covering of (cost a) (f a)) → Covering of c (m >>= f)
 bind {f = f} w k row ts = after-covered row f (w row ts) k
 
 returned : {A : Type 0} {cost : A → ℕ} (a : A) → Covering cost (cost a) (pure a)
 returned a row ts = covers a [] ts (omega arith)
 
-choice : {A : Type 0} {cost : A → ℕ} {c : ℕ} {ts : Trees} (b : Bool) {t u : Took A} → Covered cost c ts t → Covered cost c ts u → Covered cost c ts (cond b t u)
+choice : {A : Type 0} {cost : A → ℕ} {c : ℕ} {ts : Trees} (b : Bool) {t u : Took A} → Covered cost c ts t →
+    Covered cost c ts u → Covered cost c ts (cond b t u)
 choice true v w = v
 choice false v w = w
 
 nothing-taken : {A : Type 0} {cost : A → ℕ} {a : A} {ts : Trees} → cost a ≤ 0 → Covered cost 0 ts (took a [] ts)
 nothing-taken {a = a} {ts = ts} h = covers a [] ts (omega arith)
 
-one-row : {A : Type 0} {cost : A → ℕ} {a : A} (n : ℕ) (q : Row) (us : Trees) → cost a ≤ nameCost (q .text) → Covered cost 0 (leaf q us) (took a (n ∷ []) us)
+one-row : {A : Type 0} {cost : A → ℕ} {a : A} (n : ℕ) (q : Row) (us : Trees) → cost a ≤ nameCost (q .text) →
+    Covered cost 0 (leaf q us) (took a (n ∷ []) us)
 one-row {a = a} n q us h = covers a (n ∷ []) us (omega arith)
 
 -- a reader that needs no credit, besides a cost of d that has its own
@@ -117,11 +122,13 @@ keeps {A} {m} d k row ts = go (k row ts)
     go (taken {a = a} rs us e) = covers a rs us (omega arith)
     go (refused n) = refuses
 
-from-covered : {A : Type 0} {cost : A → ℕ} {c : ℕ} {m : Reader A} (n row : ℕ) (q : Row) (us : Trees) → c ≤ nameCost (q .text) → Covering cost c m
+from-covered : {A : Type 0} {cost : A → ℕ} {c : ℕ} {m : Reader A} (n row : ℕ) (q : Row) (us : Trees) →
+    c ≤ nameCost (q .text) → Covering cost c m
     → Covered cost 0 (leaf q us) (r.from n row us m)
 from-covered n row q us h w = onward-covered {us = us} (n ∷ []) (omega arith) (w _ us)
 
-enclosed-covered : {A : Type 0} {cost : A → ℕ} {m : Reader A} (row d : ℕ) (ts us : Trees) → Covering cost 0 m → Covered cost 0 (group d ts us) (r.enclosed m row ts us)
+enclosed-covered : {A : Type 0} {cost : A → ℕ} {m : Reader A} (row d : ℕ) (ts us : Trees) → Covering cost 0 m →
+    Covered cost 0 (group d ts us) (r.enclosed m row ts us)
 enclosed-covered {A} {cost} {m} row d ts us w = go (w (row + 1) ts)
   where
     go : {t : Took A} → Covered cost 0 ts t → Covered cost 0 (group d ts us) (r.closing us t)
@@ -132,10 +139,12 @@ abbrev maybe : {A : Type 0} → (A → ℕ) → Maybe A → ℕ
 maybe cost done = 0
 maybe cost (one a) = cost a
 
-every-covering : {A : Type 0} {cost : A → ℕ} {m : Reader (Maybe A)} → Covering (maybe cost) 0 m → Covering (total cost) 0 (every m)
+every-covering : {A : Type 0} {cost : A → ℕ} {m : Reader (Maybe A)} → Covering (maybe cost) 0 m →
+    Covering (total cost) 0 (every m)
 every-covering {A} {cost} {m} w row ts = again (suc (size ts)) row ts
   where
-    goes-on : {k : Reader (List A)} → Covering (total cost) 0 k → (v : Maybe A) → Covering (total cost) (maybe cost v) (more k v)
+    goes-on : {k : Reader (List A)} → Covering (total cost) 0 k → (v : Maybe A) →
+        Covering (total cost) (maybe cost v) (more k v)
     goes-on k done = returned []
     goes-on k (one a) = bind (besides (cost a) k) (λ xs. returned (a ∷ xs))
 
@@ -144,7 +153,8 @@ every-covering {A} {cost} {m} w row ts = again (suc (size ts)) row ts
     again (suc n) row ts = after-covered row (more (rounds n m)) (w row ts) (goes-on (again n))
 
 comma-covering : {A : Type 0} {cost : A → ℕ} (a : A) → Covering (maybe cost) (cost a) (r.comma a)
-comma-covering {cost = cost} a = bind (keeps (cost a) (conserved.punctIf-conserving 44 role.separator)) (λ t. returned (one a))
+comma-covering {cost = cost} a = bind (keeps (cost a) (conserved.punctIf-conserving 44 role.separator))
+    (λ t. returned (one a))
 
 -- ## Words and the item's name
 
@@ -210,8 +220,10 @@ parameter-covering angle row (leaf q us) =
     choice (r.isPunct 39 q)
     (from-covered role.parameter-name row q us (omega arith) (bind (lifetimeAfter-covering row) comma-covering))
     (choice (r.isPunct 62 q) (one-row role.angle q us (omega arith))
-    (choice (r.isWord r.CONST q) (from-covered role.parameter-name row q us (omega arith) (bind constantAfter-covering comma-covering))
-    (choice (r.isIdent q) (from-covered role.parameter-name row q us (omega arith) (bind (typeAfter-covering (q .text)) comma-covering)) refuses)))
+    (choice (r.isWord r.CONST q) (from-covered role.parameter-name row q us (omega arith)
+    (bind constantAfter-covering comma-covering))
+    (choice (r.isIdent q) (from-covered role.parameter-name row q us (omega arith)
+    (bind (typeAfter-covering (q .text)) comma-covering)) refuses)))
 
 generics-covering : Covering (λ g. total parameterCost (parametersOf g)) 0 r.generics
 generics-covering row end = nothing-taken (omega arith)
@@ -271,7 +283,8 @@ negativeValue-covering row end = refuses
 negativeValue-covering row (group d ts us) = refuses
 negativeValue-covering row (leaf q us) = choice (r.isLiteral q) (go (r.negatable (q .text)) refl) refuses
   where
-    go : (b : Bool) → r.negatable (q .text) ≡ b → Covered valueCost 0 (leaf q us) (cond b (took (negative (r.worth (q .text))) (role.value ∷ []) us) (refuse 26 row))
+    go : (b : Bool) → r.negatable (q .text) ≡ b → Covered valueCost 0 (leaf q us)
+        (cond b (took (negative (r.worth (q .text))) (role.value ∷ []) us) (refuse 26 row))
     go true e = one-row role.value q us (omega (arith, negative-within (r.worth (q .text)) (counting (q .text) e .few)))
     go false e = refuses
 
@@ -334,7 +347,8 @@ item-covering =
     (λ c. bind (besides _ (bodyOf-covering (h .kind)))
     (λ b. returned _))))))
 
-pub item-cost : {d : Declaration} {rs : List ℕ} {us : Trees} (row : ℕ) (ts : Trees) → r.item row ts ≡ took d rs us → itemCost d ≤ weight ts
+pub item-cost : {d : Declaration} {rs : List ℕ} {us : Trees} (row : ℕ) (ts : Trees) → r.item row ts ≡ took d rs us →
+    itemCost d ≤ weight ts
 item-cost {d} {rs} {us} row ts e = go (rw e at (item-covering row ts))
   where
     go : Covered itemCost 0 ts (took d rs us) → itemCost d ≤ weight ts

@@ -29,7 +29,8 @@ pub took-value : {A : Type 0} {a b : A} {rs qs : List ℕ} {us vs : Trees} → t
 took-value {a = a} e = ap (value a) e
 
 -- a second reading refuses nothing
-pub inside-stands : {A B : Type 0} (m : Reader A) {s : List ℕ} {c : Cursor} {a : A} {b0 b1 : List ℕ} {sh : A → Type 0} {n p : ℕ} → InsideAt m s c a
+pub inside-stands : {A B : Type 0} (m : Reader A) {s : List ℕ} {c : Cursor} {a : A} {b0 b1 : List ℕ} {sh : A → Type 0}
+    {n p : ℕ} → InsideAt m s c a
     → Meets s c b0 b1 sh (no n p) (m (c .row) (stream s c)) → B
 inside-stands {A} {B} m {s} {c} {a} {b0} {b1} {sh} {n} {p} k w = go refl w
   where
@@ -39,7 +40,8 @@ inside-stands {A} {B} m {s} {c} {a} {b0} {b1} {sh} {n} {p} k w = go refl w
 -- ## A reader that goes round
 
 -- one thing was read at c, and the others are read at d
-pub record OneAt {A : Type 0} (m : Reader (Maybe A)) (s : List ℕ) (d : Cursor) (told : A → Type 0) (xs : List A) : Type 0 where
+pub record OneAt {A : Type 0} (m : Reader (Maybe A)) (s : List ℕ) (d : Cursor) (told : A → Type 0)
+    (xs : List A) : Type 0 where
   pub first : A
   pub others : List A
   pub shown : told first
@@ -47,17 +49,33 @@ pub record OneAt {A : Type 0} (m : Reader (Maybe A)) (s : List ℕ) (d : Cursor)
   pub inside : InsideAt (every m) s d others
 
 module _ {A : Type 0} (m : Reader (Maybe A)) (rd : Rounding m) {s : List ℕ} {c : Cursor} where
-  again : {xs : List A} {t : Took (Maybe A)} (k : InsideAt (every m) s c xs) → m (c .row) (stream s c) ≡ t → after (c .row) t (more (every m)) ≡ took xs (k .roles) (k .rest)
-  again k e = ap (λ (u : Took (Maybe A)). after (c .row) u (more (every m))) (sym e) ∙ sym (every-step m rd (c .row) (stream s c)) ∙ k .gives
+  again : {xs : List A} {t : Took (Maybe A)} (k : InsideAt (every m) s c xs) → m (c .row) (stream s c) ≡ t →
+      after (c .row) t (more (every m)) ≡ took xs (k .roles) (k .rest)
+  again k e = ap (λ (u : Took (Maybe A)). after (c .row) u (more (every m))) (sym e) ∙
+      sym (every-step m rd (c .row) (stream s c)) ∙ k .gives
 
-  pub inside-more : {xs : List A} {b0 b1 : List ℕ} {sh : Maybe A → Type 0} {told : A → Type 0} {d : Cursor} → InsideAt (every m) s c xs
-      → Meets s c b0 b1 sh (on d) (m (c .row) (stream s c)) → ((v : Maybe A) → sh v → (a : A) × (v ≡ one a) × told a) → OneAt m s d told xs
+  pub inside-more : {xs : List A} {b0 b1 : List ℕ} {sh : Maybe A → Type 0} {told : A → Type 0} {d : Cursor} →
+      InsideAt (every m) s c xs
+      → Meets s c b0 b1 sh (on d) (m (c .row) (stream s c)) → ((v : Maybe A) → sh v → (a : A) × (v ≡ one a) × told a) →
+      OneAt m s d told xs
   inside-more {xs} {b0} {b1} {sh} {told} {d} k w f = go refl w
     where
-      rest : (a : A) (rs : List ℕ) (us : Trees) → told a → Moved s c d rs us b0 b1 → (t : Took (List A)) → every m (d .row) (stream s d) ≡ t
+      rest : (a : A) (rs : List ℕ) (us : Trees) → told a → Moved s c d rs us b0 b1 → (t : Took (List A)) →
+          every m (d .row) (stream s d) ≡ t
           → onward rs (after (d .row) t (λ xs. pure (a ∷ xs))) ≡ took xs (k .roles) (k .rest) → OneAt m s d told xs
       rest a rs us h mv (took ys qs vs) g e =
-          record { first = a; others = ys; shown = h; split = sym (took-value e); inside = record { inList = mv .inList; roles = qs; rest = vs; gives = g } }
+          record {
+            first = a;
+            others = ys;
+            shown = h;
+            split = sym (took-value e);
+            inside = record {
+              inList = mv .inList;
+              roles = qs;
+              rest = vs;
+              gives = g;
+            };
+          }
       rest a rs us h mv (refuse n p) g e = took-not-refuse e
 
       go : {t : Took (Maybe A)} → m (c .row) (stream s c) ≡ t → Meets s c b0 b1 sh (on d) t → OneAt m s d told xs
@@ -65,16 +83,20 @@ module _ {A : Type 0} (m : Reader (Maybe A)) (rd : Rounding m) {s : List ℕ} {c
           let o = f v h in
           let a = o .0 in
           rest a rs us (o .2) mv (every m (d .row) (stream s d)) refl
-          ((λ i. onward rs (after (mv .row i) (every m (mv .row i) (mv .here i)) (λ xs. pure (a ∷ xs)))) ∙ again k (e ∙ ap (λ (w : Maybe A). took w rs us) (o .1)))
+          ((λ i. onward rs (after (mv .row i) (every m (mv .row i) (mv .here i)) (λ xs. pure (a ∷ xs)))) ∙
+          again k (e ∙ ap (λ (w : Maybe A). took w rs us) (o .1)))
 
-  pub inside-done : {xs : List A} {b0 b1 : List ℕ} {sh : Maybe A → Type 0} {d : Cursor} → InsideAt (every m) s c xs → Meets s c b0 b1 sh (on d) (m (c .row) (stream s c))
+  pub inside-done : {xs : List A} {b0 b1 : List ℕ} {sh : Maybe A → Type 0} {d : Cursor} → InsideAt (every m) s c xs →
+      Meets s c b0 b1 sh (on d) (m (c .row) (stream s c))
       → ((v : Maybe A) → sh v → v ≡ done) → xs ≡ []
   inside-done {xs} {b0} {b1} {sh} {d} k w f = go refl w
     where
       go : {t : Took (Maybe A)} → m (c .row) (stream s c) ≡ t → Meets s c b0 b1 sh (on d) t → xs ≡ []
-      go e (stands {a = v} {rs = rs} {us = us} mv h) = sym (took-value (again k (e ∙ ap (λ (w : Maybe A). took w rs us) (f v h))))
+      go e (stands {a = v} {rs = rs} {us = us} mv h) =
+          sym (took-value (again k (e ∙ ap (λ (w : Maybe A). took w rs us) (f v h))))
 
-  pub inside-refused : {B : Type 0} {xs : List A} {b0 b1 : List ℕ} {sh : Maybe A → Type 0} {n p : ℕ} → InsideAt (every m) s c xs
+  pub inside-refused : {B : Type 0} {xs : List A} {b0 b1 : List ℕ} {sh : Maybe A → Type 0} {n p : ℕ} →
+      InsideAt (every m) s c xs
       → Meets s c b0 b1 sh (no n p) (m (c .row) (stream s c)) → B
   inside-refused {B} {xs} {b0} {b1} {sh} {n} {p} k w = go refl w
     where
@@ -85,12 +107,15 @@ module _ {A : Type 0} (m : Reader (Maybe A)) (rd : Rounding m) {s : List ℕ} {c
 progress : {A : Type 0} {ts us : Trees} {a : A} {rs : List ℕ} → Round ts (took (one a) rs us) → 0 < length rs
 progress (another rs us e l) = omega arith
 
-pub forward : {A : Type 0} (m : Reader (Maybe A)) (rd : Rounding m) {s : List ℕ} {c d : Cursor} {b0 b1 : List ℕ} {sh : Maybe A → Type 0} {told : A → Type 0}
-    → Meets s c b0 b1 sh (on d) (m (c .row) (stream s c)) → ((v : Maybe A) → sh v → (a : A) × (v ≡ one a) × told a) → (c .at < d .at) × InList s d
+pub forward : {A : Type 0} (m : Reader (Maybe A)) (rd : Rounding m) {s : List ℕ} {c d : Cursor} {b0 b1 : List ℕ}
+    {sh : Maybe A → Type 0} {told : A → Type 0}
+    → Meets s c b0 b1 sh (on d) (m (c .row) (stream s c)) → ((v : Maybe A) → sh v → (a : A) × (v ≡ one a) × told a) →
+    (c .at < d .at) × InList s d
 forward {A} m rd {s} {c} {d} {b0} {b1} {sh} w f = go refl w
   where
     go : {t : Took (Maybe A)} → m (c .row) (stream s c) ≡ t → Meets s c b0 b1 sh (on d) t → (c .at < d .at) × InList s d
     go e (stands {a = v} {rs = rs} {us = us} mv h) =
         let o = f v h in
-        let p = progress (subst (Round (stream s c)) (e ∙ ap (λ (w : Maybe A). took w rs us) (o .1)) (rd (c .row) (stream s c))) in
+        let p = progress (subst (Round (stream s c)) (e ∙ ap (λ (w : Maybe A). took w rs us) (o .1))
+        (rd (c .row) (stream s c))) in
         (omega (arith, mv .forth, p), mv .inList)

@@ -30,7 +30,8 @@ use Rattle.describe.proofs.Costs.{total, parameterCost, fieldCost, type
 
 -- ## Lines
 
-line-length : (part name number : List ℕ) → length (line part name number) ≡ length part + length name + length number + 2
+line-length : (part name number : List ℕ) → length (line part name number) ≡
+    length part + length name + length number + 2
 unfolding line
 line-length part name number = simp length-append (omega arith)
 
@@ -47,7 +48,12 @@ module _ {A : Type 0} {f : ℕ → A → List ℕ} {cost : A → ℕ} (p : Cover
   numbered-length k [] h = omega arith
   numbered-length k (x ∷ xs) h =
       let least = p .least x in
-      omega (arith, length-append (f k x) (numbered f (k + 1) xs), p .enough k x (omega arith) (omega arith), numbered-length (k + 1) xs (omega arith))
+      omega (
+        arith,
+        length-append (f k x) (numbered f (k + 1) xs),
+        p .enough k x (omega arith) (omega arith),
+        numbered-length (k + 1) xs (omega arith),
+      )
 
   count-least : (xs : List A) → 20 * length xs ≤ total cost xs
   count-least [] = omega arith
@@ -96,7 +102,13 @@ unfolding listing
 listing-length d h =
     let b = body-length (d .body) (omega arith) in
     simp (length-append, line-length)
-    (omega (arith, kind-length (d .kind), four-digits (bodyCount (d .body)) (b .1), numbered-length parameters-cover 0 (parametersOf (d .generics)) (omega arith), b .0))
+    (omega (
+      arith,
+      kind-length (d .kind),
+      four-digits (bodyCount (d .body)) (b .1),
+      numbered-length parameters-cover 0 (parametersOf (d .generics)) (omega arith),
+      b .0,
+    ))
 
 -- ## The law
 
@@ -117,7 +129,8 @@ fitted-same n h (listed text) l = passed-over _ _ _ (le-ltb n (length text) (ome
 fitted-same n h (refused m p) l = refl
 
 module _ (s : List ℕ) where
-  by-item : {n : ℕ} → list.check s ≡ list.Answer.passed n → (t : Took Declaration) → item 0 (at s 10 .here) ≡ t → Right (itemAnswer t)
+  by-item : {n : ℕ} → list.check s ≡ list.Answer.passed n → (t : Took Declaration) → item 0 (at s 10 .here) ≡ t →
+      Right (itemAnswer t)
   by-item {n} e (took d rs us) f =
       let b = bounds.bounds s e in
       let c : itemCost d ≤ 147456 = omega (arith, item-cost 0 (at s 10 .here) f, passed-list s n e .size) in
@@ -145,7 +158,8 @@ module _ (s : List ℕ) where
   module _ {x y : List ℕ} {n : ℕ} where
     pub reported : Put x y 0 n (answerText (answer s (length x))) → n ≤ MOST
         → ((m p : ℕ) → answer s (length x) ≡ refused m p → OneRefusal readNumber s m p) → Reported s x y n
-    reported p short refusal = record { text = p; roomy = λ h. rw (fits (length x) .room h) at p; short = short; refusal = refusal }
+    reported p short refusal =
+        record { text = p; roomy = λ h. rw (fits (length x) .room h) at p; short = short; refusal = refusal }
 
     pub reported-length : ListedAs x y (answer s (length x)) (listeds.Written n) → n ≤ MOST
     reported-length l = omega

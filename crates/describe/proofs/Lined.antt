@@ -20,11 +20,13 @@ use Rattle.describe.proofs.Inside.{inside-more, inside-done, inside-ref
 use Rattle.describe.proofs.Worths.{put-as}
 
 -- a part and a name, and the rest of the line
-pub put-line : {k l m : List ℕ} {h i j : ℕ} (part name number : List ℕ) → Put k l h i (part ++ name) → Put l m i j (32 ∷ (number ++ 10 ∷ [])) → Put k m h j (line part name number)
+pub put-line : {k l m : List ℕ} {h i j : ℕ} (part name number : List ℕ) → Put k l h i (part ++ name) →
+    Put l m i j (32 ∷ (number ++ 10 ∷ [])) → Put k m h j (line part name number)
 unfolding line
 put-line part name number p q = put-as (sym (append-assoc part name (32 ∷ (number ++ 10 ∷ [])))) (joined p q)
 
-numbered-more : {A : Type 0} (f : ℕ → A → List ℕ) (k : ℕ) (ys : List A) (a : A) → numbered f k (ys ++ a ∷ []) ≡ numbered f k ys ++ f (k + length ys) a
+numbered-more : {A : Type 0} (f : ℕ → A → List ℕ) (k : ℕ) (ys : List A) (a : A) →
+    numbered f k (ys ++ a ∷ []) ≡ numbered f k ys ++ f (k + length ys) a
 numbered-more f k [] a = let e : k ≡ k + 0 = omega arith in append-nil (f k a) ∙ ap (λ (n : ℕ). f n a) e
 numbered-more f k (y ∷ ys) a =
     let e : k + 1 + length ys ≡ k + suc (length ys) = omega arith in
@@ -32,7 +34,8 @@ numbered-more f k (y ∷ ys) a =
     ∙ sym (append-assoc (f k y) (numbered f (k + 1) ys) (f (k + suc (length ys)) a))
 
 -- the first things of xs have their lines, and the others are read at c
-pub record Written {A : Type 0} (f : ℕ → A → List ℕ) (m : Reader (Maybe A)) (s : List ℕ) (c : Cursor) (before now : List ℕ) (start at count : ℕ) (xs : List A) : Type 0 where
+pub record Written {A : Type 0} (f : ℕ → A → List ℕ) (m : Reader (Maybe A)) (s : List ℕ) (c : Cursor)
+    (before now : List ℕ) (start at count : ℕ) (xs : List A) : Type 0 where
   pub first : List A
   pub others : List A
   pub split : xs ≡ first ++ others
@@ -40,19 +43,34 @@ pub record Written {A : Type 0} (f : ℕ → A → List ℕ) (m : Reader (Maybe 
   pub inside : InsideAt (every m) s c others
   pub text : Put before now start at (numbered f 0 first)
 
-pub record Lined {A : Type 0} (f : ℕ → A → List ℕ) (m : Reader (Maybe A)) (s : List ℕ) (from c : Cursor) (before now : List ℕ) (start at count : ℕ) : Type 0 where
+pub record Lined {A : Type 0} (f : ℕ → A → List ℕ) (m : Reader (Maybe A)) (s : List ℕ) (from c : Cursor)
+    (before now : List ℕ) (start at count : ℕ) : Type 0 where
   pub inList : InList s c
   pub few : count ≤ c .at
   pub written : (xs : List A) → InsideAt (every m) s from xs → Written f m s c before now start at count xs
 
-module _ {A : Type 0} (f : ℕ → A → List ℕ) (m : Reader (Maybe A)) (rd : Rounding m) {s : List ℕ} {from : Cursor} {b0 : List ℕ} {start : ℕ} where
+module _ {A : Type 0} (f : ℕ → A → List ℕ) (m : Reader (Maybe A)) (rd : Rounding m) {s : List ℕ} {from : Cursor}
+    {b0 : List ℕ} {start : ℕ} where
   pub lined-start : InList s from → Lined f m s from from b0 b0 start start 0
   lined-start i =
-      record { inList = i; few = omega arith; written = λ xs k. record { first = []; others = xs; split = refl; counted = refl; inside = k; text = nothing b0 start } }
+      record {
+        inList = i;
+        few = omega arith;
+        written = λ xs k. record {
+          first = [];
+          others = xs;
+          split = refl;
+          counted = refl;
+          inside = k;
+          text = nothing b0 start;
+        };
+      }
 
   module _ {c : Cursor} {b1 : List ℕ} {at count : ℕ} (l : Lined f m s from c b0 b1 start at count) where
-    pub lined-more : {r0 r1 b2 : List ℕ} {at2 : ℕ} {d : Cursor} {sh : Maybe A → Type 0} {told : A → Type 0} → Meets s c r0 r1 sh (on d) (m (c .row) (stream s c))
-        → ((v : Maybe A) → sh v → (a : A) × (v ≡ one a) × told a) → ((a : A) → told a → Put b1 b2 at at2 (f count a)) → Lined f m s from d b0 b2 start at2 (count + 1)
+    pub lined-more : {r0 r1 b2 : List ℕ} {at2 : ℕ} {d : Cursor} {sh : Maybe A → Type 0} {told : A → Type 0} →
+        Meets s c r0 r1 sh (on d) (m (c .row) (stream s c))
+        → ((v : Maybe A) → sh v → (a : A) × (v ≡ one a) × told a) → ((a : A) → told a → Put b1 b2 at at2 (f count a)) →
+        Lined f m s from d b0 b2 start at2 (count + 1)
     lined-more w g p =
         let n = forward m rd w g in
         record {
@@ -64,11 +82,13 @@ module _ {A : Type 0} (f : ℕ → A → List ℕ) (m : Reader (Maybe A)) (rd : 
               record {
                 first = t .first ++ o .first ∷ [];
                 others = o .others;
-                split = t .split ∙ ap (λ (ys : List A). t .first ++ ys) (o .split) ∙ sym (append-assoc (t .first) (o .first ∷ []) (o .others));
+                split = t .split ∙ ap (λ (ys : List A). t .first ++ ys) (o .split) ∙
+                    sym (append-assoc (t .first) (o .first ∷ []) (o .others));
                 counted = omega (arith, t .counted, length-append (t .first) (o .first ∷ []));
                 inside = o .inside;
                 text =
-                    put-as (numbered-more f 0 (t .first) (o .first) ∙ ap (λ (n : ℕ). numbered f 0 (t .first) ++ f n (o .first)) (place (t .counted)))
+                    put-as (numbered-more f 0 (t .first) (o .first) ∙
+                    ap (λ (n : ℕ). numbered f 0 (t .first) ++ f n (o .first)) (place (t .counted)))
                     (joined (t .text) (p (o .first) (o .shown)));
               };
         }
@@ -76,13 +96,16 @@ module _ {A : Type 0} (f : ℕ → A → List ℕ) (m : Reader (Maybe A)) (rd : 
         place : {n : ℕ} → n ≡ count → 0 + n ≡ count
         place e = omega (arith, e)
 
-    pub lined-done : {r0 r1 : List ℕ} {d : Cursor} {sh : Maybe A → Type 0} → Meets s c r0 r1 sh (on d) (m (c .row) (stream s c)) → ((v : Maybe A) → sh v → v ≡ done)
+    pub lined-done : {r0 r1 : List ℕ} {d : Cursor} {sh : Maybe A → Type 0} →
+        Meets s c r0 r1 sh (on d) (m (c .row) (stream s c)) → ((v : Maybe A) → sh v → v ≡ done)
         → (xs : List A) → InsideAt (every m) s from xs → Put b0 b1 start at (numbered f 0 xs)
     lined-done w g xs k =
         let t = l .written xs k in
-        put-as (ap (numbered f 0) (t .split ∙ ap (λ (ys : List A). t .first ++ ys) (inside-done m rd (t .inside) w g) ∙ append-nil (t .first))) (t .text)
+        put-as (ap (numbered f 0) (t .split ∙ ap (λ (ys : List A). t .first ++ ys) (inside-done m rd (t .inside) w g) ∙
+        append-nil (t .first))) (t .text)
 
-    pub lined-refused : {B : Type 0} {r0 r1 : List ℕ} {sh : Maybe A → Type 0} {n p : ℕ} → Meets s c r0 r1 sh (no n p) (m (c .row) (stream s c))
+    pub lined-refused : {B : Type 0} {r0 r1 : List ℕ} {sh : Maybe A → Type 0} {n p : ℕ} →
+        Meets s c r0 r1 sh (no n p) (m (c .row) (stream s c))
         → (xs : List A) → InsideAt (every m) s from xs → B
     lined-refused w xs k = inside-refused m rd (l .written xs k .inside) w
 

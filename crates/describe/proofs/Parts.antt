@@ -27,7 +27,8 @@ either false f g e = g e
 
 -- what is made of a group's inside was read in it
 module _ {A B : Type 0} (m : Reader A) (f : A → B) where
-  pub within : (row : ℕ) (ts us : Trees) {b : B} {rs : List ℕ} {vs : Trees} → reading.enclosed (λ r ts. after r (m r ts) (λ a. pure (f a))) row ts us ≡ took b rs vs
+  pub within : (row : ℕ) (ts us : Trees) {b : B} {rs : List ℕ} {vs : Trees} →
+      reading.enclosed (λ r ts. after r (m r ts) (λ a. pure (f a))) row ts us ≡ took b rs vs
       → (a : A) × (b ≡ f a) × (qs : List ℕ) × (ws : Trees) × (m (row + 1) ts ≡ took a qs ws)
   within row ts us {b} {rs} {vs} e = go (m (row + 1) ts) refl e
     where
@@ -39,26 +40,32 @@ module _ {A B : Type 0} (m : Reader A) (f : A → B) where
 -- ## Bodies
 
 -- a struct's body is fields
-struct-fields : (row : ℕ) (ts : Trees) {b : declaration.Body} {rs : List ℕ} {us : Trees} → reading.structBody row ts ≡ took b rs us → (f : declaration.Fields) × (b ≡ declaration.fields f)
+struct-fields : (row : ℕ) (ts : Trees) {b : declaration.Body} {rs : List ℕ} {us : Trees} →
+    reading.structBody row ts ≡ took b rs us → (f : declaration.Fields) × (b ≡ declaration.fields f)
 struct-fields row end e = took-not-refuse e
 struct-fields row (leaf r us) e =
     either (reading.isPunct 59 r) (λ h. (declaration.unit, sym (took-value h))) took-not-refuse e
 struct-fields row (group d ts us) e =
     either (eqb d 123) (λ h. let w = within reading.namedFields declaration.fields row ts us h in (w .0, w .1))
-    (either (eqb d 40) (λ h. let w = within reading.tupleFields declaration.fields row ts us h in (w .0, w .1)) took-not-refuse) e
+    (either (eqb d 40) (λ h. let w = within reading.tupleFields declaration.fields row ts us h in (w .0, w .1))
+    took-not-refuse) e
 
-pub struct-value : {s : List ℕ} {c : Cursor} {b : declaration.Body} (k : ℕ) → InsideAt reading.structBody s c b → bodyValue k b ≡ declaration.absent
+pub struct-value : {s : List ℕ} {c : Cursor} {b : declaration.Body} (k : ℕ) → InsideAt reading.structBody s c b →
+    bodyValue k b ≡ declaration.absent
 struct-value {s} {c} {b} k i = ap (bodyValue k) (struct-fields (c .row) (stream s c) (i .gives) .1)
 
 -- the cursor inside a group
-pub inside-point : (s : List ℕ) (c d : Cursor) (t : Token) → GroupAt s (c .at) t → d ≡ pastOf c t → point s d ≡ inside (point s c)
+pub inside-point : (s : List ℕ) (c d : Cursor) (t : Token) → GroupAt s (c .at) t → d ≡ pastOf c t →
+    point s d ≡ inside (point s c)
 inside-point s c d t g e = ap (point s) e ∙ sym (ap (insideOf (c .row)) (g .here))
 
 module _ {s : List ℕ} {c : Cursor} {b : declaration.Body} (i : InsideAt reading.enumBody s c b) where
   -- an enum's body is a group of variants
-  pub enum-group : (t : Token) (d : Cursor) → GroupAt s (c .at) t → d ≡ pastOf c t → (vs : List declaration.Variant) × (b ≡ declaration.variants vs) × InsideAt (reading.every reading.variant) s d vs
+  pub enum-group : (t : Token) (d : Cursor) → GroupAt s (c .at) t → d ≡ pastOf c t → (vs : List declaration.Variant) ×
+      (b ≡ declaration.variants vs) × InsideAt (reading.every reading.variant) s d vs
   enum-group t d g e =
-      let w = within (reading.every reading.variant) declaration.variants (c .row) (at s (t .next) .here) (g .after) (ap (reading.enumBody (c .row)) (sym (g .here)) ∙ i .gives) in (
+      let w = within (reading.every reading.variant) declaration.variants (c .row) (at s (t .next) .here) (g .after)
+      (ap (reading.enumBody (c .row)) (sym (g .here)) ∙ i .gives) in (
         w .0,
         w .1,
         subst⁻¹ (λ (x : Cursor). InsideAt (reading.every reading.variant) s x (w .0)) e
@@ -83,12 +90,15 @@ module _ {A B : Type 0} (f : A → B) where
 
 module _ {s : List ℕ} {c : Cursor} {b : declaration.Body} (i : InsideAt reading.structBody s c b) where
   -- a struct's body is a group of fields
-  pub struct-group : (t : Token) (d : Cursor) → GroupAt s (c .at) t → d ≡ pastOf c t → (f : declaration.Fields) × (b ≡ declaration.fields f) × StructAt s (t .mark) d f
+  pub struct-group : (t : Token) (d : Cursor) → GroupAt s (c .at) t → d ≡ pastOf c t → (f : declaration.Fields) ×
+      (b ≡ declaration.fields f) × StructAt s (t .mark) d f
   struct-group t d g e = go (eqb (t .mark) 123) (ap (reading.structBody (c .row)) (sym (g .here)) ∙ i .gives)
     where
-      here : {A : Type 0} (m : Reader A) {a : A} {qs : List ℕ} {ws : Trees} → m (c .row + 1) (at s (t .next) .here) ≡ took a qs ws → InsideAt m s d a
+      here : {A : Type 0} (m : Reader A) {a : A} {qs : List ℕ} {ws : Trees} →
+          m (c .row + 1) (at s (t .next) .here) ≡ took a qs ws → InsideAt m s d a
       here m {a} {qs} {ws} h =
-          subst⁻¹ (λ (x : Cursor). InsideAt m s x a) e (record { inList = past-in s c t (i .inList) (g .token); roles = qs; rest = ws; gives = h })
+          subst⁻¹ (λ (x : Cursor). InsideAt m s x a) e
+          (record { inList = past-in s c t (i .inList) (g .token); roles = qs; rest = ws; gives = h })
 
       go : (z : Bool)
           → cond z
@@ -100,13 +110,15 @@ module _ {s : List ℕ} {c : Cursor} {b : declaration.Body} (i : InsideAt readin
           → (f : declaration.Fields) × (b ≡ declaration.fields f) × fieldsIn z s d f
       go true h =
           let w = within reading.namedFields declaration.fields (c .row) (at s (t .next) .here) (g .after) h in
-          let v = made declaration.named (c .row + 1) (reading.every reading.namedField (c .row + 1) (at s (t .next) .here)) (w .4) in
+          let v = made declaration.named (c .row + 1) (reading.every reading.namedField (c .row + 1)
+          (at s (t .next) .here)) (w .4) in
           (w .0, w .1, (v .0, v .1, here (reading.every reading.namedField) (v .4)))
       go false h =
           either (eqb (t .mark) 40)
           (λ h.
           let w = within reading.tupleFields declaration.fields (c .row) (at s (t .next) .here) (g .after) h in
-          let v = made declaration.tuple (c .row + 1) (reading.every reading.tupleField (c .row + 1) (at s (t .next) .here)) (w .4) in
+          let v = made declaration.tuple (c .row + 1) (reading.every reading.tupleField (c .row + 1)
+          (at s (t .next) .here)) (w .4) in
           (w .0, w .1, (v .0, v .1, here (reading.every reading.tupleField) (v .4))))
           took-not-refuse h
 
@@ -119,37 +131,44 @@ module _ {s : List ℕ} {c : Cursor} {b : declaration.Body} (i : InsideAt readin
   struct-end e = took-not-refuse (ap (reading.structBody (c .row)) (sym e) ∙ i .gives)
 
 -- a body without a group has no lines
-pub body-leaf : (k : declaration.Kind) {s : List ℕ} {c : Cursor} {b : declaration.Body} {t : Token} → InsideAt (reading.bodyOf k) s c b → LeafAt s (c .at) t → bodyLines b ≡ []
+pub body-leaf : (k : declaration.Kind) {s : List ℕ} {c : Cursor} {b : declaration.Body} {t : Token} →
+    InsideAt (reading.bodyOf k) s c b → LeafAt s (c .at) t → bodyLines b ≡ []
 body-leaf declaration.struct {t = t} i l = ap bodyLines (struct-leaf i t l)
 body-leaf declaration.enum {t = t} i l = ap bodyLines (enum-leaf i t l)
 
-pub body-end : {B : Type 0} (k : declaration.Kind) {s : List ℕ} {c : Cursor} {b : declaration.Body} → InsideAt (reading.bodyOf k) s c b → stream s c ≡ end → B
+pub body-end : {B : Type 0} (k : declaration.Kind) {s : List ℕ} {c : Cursor} {b : declaration.Body} →
+    InsideAt (reading.bodyOf k) s c b → stream s c ≡ end → B
 body-end declaration.struct i e = struct-end i e
 body-end declaration.enum i e = enum-end i e
 
 -- ## Generics
 
 module _ {s : List ℕ} {c : Cursor} {v : declaration.Generics} (i : InsideAt reading.generics s c v) where
-  pub generics-angle : (t : Token) (d : Cursor) → LeafAt s (c .at) t → d ≡ pastOf c t → reading.isPunct 60 (rowOf s t) ≡ true
+  pub generics-angle : (t : Token) (d : Cursor) → LeafAt s (c .at) t → d ≡ pastOf c t →
+      reading.isPunct 60 (rowOf s t) ≡ true
       → InsideAt (reading.every (reading.parameter (c .row))) s d (declaration.parametersOf v)
   generics-angle t d l e p =
       go (reading.every (reading.parameter (c .row)) (c .row + 1) (at s (t .next) .here)) refl
       (sym (chosen _ _ _ p) ∙ ap (reading.generics (c .row)) (sym (l .here)) ∙ i .gives)
     where
-      go : (x : Took (List declaration.Parameter)) → reading.every (reading.parameter (c .row)) (c .row + 1) (at s (t .next) .here) ≡ x
+      go : (x : Took (List declaration.Parameter)) → reading.every (reading.parameter (c .row)) (c .row + 1)
+          (at s (t .next) .here) ≡ x
           → onward (8 ∷ []) (after (c .row + 1) x (λ ps. pure (declaration.angled ps))) ≡ took v (i .roles) (i .rest)
           → InsideAt (reading.every (reading.parameter (c .row))) s d (declaration.parametersOf v)
       go (took ys qs ws) g h =
-          subst⁻¹ (λ (x : Cursor). InsideAt (reading.every (reading.parameter (c .row))) s x (declaration.parametersOf v)) e
+          subst⁻¹ (λ (x : Cursor). InsideAt (reading.every (reading.parameter (c .row))) s x
+          (declaration.parametersOf v)) e
           (record {
             inList = past-in s c t (i .inList) (l .token);
             roles = qs;
             rest = ws;
-            gives = g ∙ ap (λ (zs : List declaration.Parameter). took zs qs ws) (ap declaration.parametersOf (took-value h));
+            gives = g ∙ ap (λ (zs : List declaration.Parameter). took zs qs ws)
+                (ap declaration.parametersOf (took-value h));
           })
       go (refuse n p) g h = took-not-refuse h
 
-  pub generics-other : (t : Token) → LeafAt s (c .at) t → reading.isPunct 60 (rowOf s t) ≡ false → v ≡ declaration.without
+  pub generics-other : (t : Token) → LeafAt s (c .at) t → reading.isPunct 60 (rowOf s t) ≡ false →
+      v ≡ declaration.without
   generics-other t l p = sym
       (took-value (sym (passed-over _ _ _ p) ∙ ap (reading.generics (c .row)) (sym (l .here)) ∙ i .gives))
 

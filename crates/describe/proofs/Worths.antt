@@ -37,7 +37,8 @@ pub counting : (t : List ℕ) → negatable t ≡ true → Counting (worth t) 0 
 unfolding negatable
 counting t e = let b = and-parts _ _ e in record { digits = b .0; same = refl; few = leb-true _ _ (b .1) }
 
-pub counting-first : {w n b : ℕ} {bs : List ℕ} → Counting w n (b ∷ bs) → (48 ≤ b) × (b ≤ 57) × (n * 10 + (b - 48) ≤ 9223372036854775807) × Counting w (n * 10 + (b - 48)) bs
+pub counting-first : {w n b : ℕ} {bs : List ℕ} → Counting w n (b ∷ bs) → (48 ≤ b) × (b ≤ 57) ×
+    (n * 10 + (b - 48) ≤ 9223372036854775807) × Counting w (n * 10 + (b - 48)) bs
 counting-first {w} {n} {b} {bs} k =
     let d = and-parts _ _ (k .digits) in (
       leb-true _ _ (and-parts (leb 48 b) (leb b 57) (d .0) .0),
@@ -103,7 +104,8 @@ pub drop-of-take : (a e : ℕ) (s : List ℕ) → drop a (take e s) ≡ take (e 
 drop-of-take zero e s = let n : e ≡ e - 0 = omega arith in ap (λ (n : ℕ). take n s) n
 drop-of-take (suc a) zero s = let n : 0 ≡ 0 - suc a = omega arith in ap (λ (n : ℕ). take n (drop (suc a) s)) n
 drop-of-take (suc a) (suc e) [] = take-none (suc e - suc a)
-drop-of-take (suc a) (suc e) (b ∷ s) = let n : e - a ≡ suc e - suc a = omega arith in drop-of-take a e s ∙ ap (λ (n : ℕ). take n (drop a s)) n
+drop-of-take (suc a) (suc e) (b ∷ s) =
+    let n : e - a ≡ suc e - suc a = omega arith in drop-of-take a e s ∙ ap (λ (n : ℕ). take n (drop a s)) n
 
 pub part-some : (a e : ℕ) (s : List ℕ) → e ≤ length s → part a e s ≡ take (e - a) (drop a s)
 part-some a e s h = chosen _ _ _ (le-leb e (length s) h) ∙ drop-of-take a e s
@@ -113,10 +115,12 @@ part-front n s h = chosen _ _ _ (le-leb n (length s) h)
 
 -- ## Positions
 
-pub value-first : {k : ℕ} {vs ws : List declaration.Variant} {v : declaration.Variant} → k ≡ 0 → vs ≡ v ∷ ws → valueAt k vs ≡ v .value
+pub value-first : {k : ℕ} {vs ws : List declaration.Variant} {v : declaration.Variant} → k ≡ 0 → vs ≡ v ∷ ws →
+    valueAt k vs ≡ v .value
 value-first {ws = ws} {v = v} e f = λ i. valueAt (e i) (f i)
 
-pub value-later : {k : ℕ} {vs ws : List declaration.Variant} {v : declaration.Variant} → (k ≡ 0 → ⊥) → vs ≡ v ∷ ws → valueAt k vs ≡ valueAt (k - 1) ws
+pub value-later : {k : ℕ} {vs ws : List declaration.Variant} {v : declaration.Variant} → (k ≡ 0 → ⊥) → vs ≡ v ∷ ws →
+    valueAt k vs ≡ valueAt (k - 1) ws
 value-later {k} {vs} {ws} {v} e f = ap (valueAt k) f ∙ go k e
   where
     go : (k : ℕ) → (k ≡ 0 → ⊥) → valueAt k (v ∷ ws) ≡ valueAt (k - 1) ws

@@ -128,16 +128,19 @@ listed-told s room = go (listing.answer s room) refl
     go (listing.listed text) e = small {v = length text} (omega (arith, fits s room .longest text e))
     go (listing.refused n p) e = let o = listing-refusal s room n p e in one (read-small o .0) o
 
-placed-told : (s : List ℕ) (a : value.Answer) → InRange (placeOf s a) → ((n p : ℕ) → a ≡ value.refused n p → OneRefusal readNumber s n p)
+placed-told : (s : List ℕ) (a : value.Answer) → InRange (placeOf s a) →
+    ((n p : ℕ) → a ≡ value.refused n p → OneRefusal readNumber s n p)
     → Told readNumber s (placeCase (placeOf s a))
 placed-told s value.none h k = small {v = 0} (omega arith)
-placed-told s (value.inList row t) h k = small {v = textStart s row * IN-LIST + textEnd s row} (omega (arith, h .1, h .2))
+placed-told s (value.inList row t) h k =
+    small {v = textStart s row * IN-LIST + textEnd s row} (omega (arith, h .1, h .2))
 placed-told s (value.inScratch t) h k = small {v = length t} (omega (arith, h .1))
 placed-told s (value.refused n p) h k = let o = k n p refl in one (read-small o .0) o
 
 -- ## The number of an answer, by the case of the reader's enum
 
-pub struct-code : (s : List ℕ) (i : ItemAt) (a : answers.Answer) → ParsedAs s (parses.Struct i) a → 0 ≡ code (readCase a)
+pub struct-code : (s : List ℕ) (i : ItemAt) (a : answers.Answer) → ParsedAs s (parses.Struct i) a →
+    0 ≡ code (readCase a)
 struct-code s i (answers.declared d rs) h = sym (ap kindCode (h .0))
 struct-code s i (answers.refused n p) h = absurd h
 
@@ -145,11 +148,13 @@ pub enum-code : (s : List ℕ) (i : ItemAt) (a : answers.Answer) → ParsedAs s 
 enum-code s i (answers.declared d rs) h = sym (ap kindCode (h .0))
 enum-code s i (answers.refused n p) h = absurd h
 
-pub refused-case : (s : List ℕ) (r : Refusal) (a : answers.Answer) → ParsedAs s (parses.Refused r) a → a ≡ answers.refused (r .number) (r .place)
+pub refused-case : (s : List ℕ) (r : Refusal) (a : answers.Answer) → ParsedAs s (parses.Refused r) a →
+    a ≡ answers.refused (r .number) (r .place)
 refused-case s r (answers.declared d rs) h = absurd h
 refused-case s r (answers.refused n p) h = λ i. answers.refused (sym (h .0) i) (sym (h .1) i)
 
-place-refused : (s : List ℕ) (a : value.Answer) (r : Refusal) → placeOf s a ≡ places.Refused r → a ≡ value.refused (r .number) (r .place)
+place-refused : (s : List ℕ) (a : value.Answer) (r : Refusal) → placeOf s a ≡ places.Refused r →
+    a ≡ value.refused (r .number) (r .place)
 place-refused s value.none r e = let z : _≡_ {A = ℕ} 0 1 = cc in absurd (omega arith)
 place-refused s (value.inList row t) r e = let z : _≡_ {A = ℕ} 0 1 = cc in absurd (omega arith)
 place-refused s (value.inScratch t) r e = let z : _≡_ {A = ℕ} 0 1 = cc in absurd (omega arith)
@@ -159,7 +164,8 @@ place-refused s (value.refused n p) r e =
 
 -- ## A value's place
 
-module _ (s : List ℕ) (position : ℕ) (x y : List ℕ) {r : ValuePlace} (h : Placed s x y (value.answer s position (length x)) r)
+module _ (s : List ℕ) (position : ℕ) (x y : List ℕ) {r : ValuePlace}
+    (h : Placed s x y (value.answer s position (length x)) r)
     (k : (n p : ℕ) → value.answer s position (length x) ≡ value.refused n p → OneRefusal readNumber s n p) where
   abbrev a : value.Answer
   a = value.answer s position (length x)
@@ -170,5 +176,11 @@ module _ (s : List ℕ) (position : ℕ) (x y : List ℕ) {r : ValuePlace} (h : 
   pub value-into : {p : ValuePlace} {c : ℕ} → r ≡ p → c ≡ code (placeCase p) → ValueInto s position x y c
   value-into {p} {c} e q =
       let range = subst InRange (h .place) (h .range) in
-      let coded = coded-as (placed-told s a range k) (q ∙ ap (λ (z : ValuePlace). code (placeCase z)) (sym e ∙ h .place)) in
-      record { coded = coded; back = ap decodedPlace (coded .back) ∙ place-back (placeOf s a) range; scratch = h .scratch }
+      let coded =
+      coded-as (placed-told s a range k) (q ∙ ap (λ (z : ValuePlace). code (placeCase z)) (sym e ∙ h .place)) in
+      record {
+        coded = coded;
+        back = ap decodedPlace (coded .back) ∙ place-back (placeOf s
+            a) range;
+        scratch = h .scratch;
+      }

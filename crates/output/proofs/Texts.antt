@@ -22,7 +22,8 @@ pub joined : {k l m s t : List ℕ} {h i j : ℕ} → Put k l h i s → Put l m 
 joined {k} {l} {m} {s} {t} {h} {i} {j} p q =
     record {
       next = omega (arith, p .next, q .next, length-append s t);
-      bytes = q .bytes ∙ ap (λ (x : List ℕ). sets x i t) (p .bytes) ∙ ap (λ (n : ℕ). sets (sets k h s) n t) (p .next) ∙ sym (sets-append k h s t);
+      bytes = q .bytes ∙ ap (λ (x : List ℕ). sets x i t) (p .bytes) ∙ ap (λ (n : ℕ). sets (sets k h s) n t) (p .next) ∙
+          sym (sets-append k h s t);
     }
 
 pub kept : {k l s : List ℕ} {h i : ℕ} → Put k l h i s → length l ≡ length k
@@ -42,7 +43,8 @@ enough zero zero n p q = refl
 enough zero (suc g) n p q = let h : n < 10 = omega arith in simp (lt-ltb n 10 h)
 enough (suc f) zero n p q = let h : n < 10 = omega arith in simp (lt-ltb n 10 h)
 enough (suc f) (suc g) n p q =
-    ap (λ (ds : List ℕ). cond (ltb n 10) ((48 + n) ∷ []) (ds ++ (48 + n % 10) ∷ [])) (enough f g (n / 10) (omega arith) (omega arith))
+    ap (λ (ds : List ℕ). cond (ltb n 10) ((48 + n) ∷ []) (ds ++ (48 + n % 10) ∷ []))
+    (enough f g (n / 10) (omega arith) (omega arith))
 
 pub decimal-one : (n : ℕ) → n < 10 → decimal n ≡ (48 + n) ∷ []
 unfolding decimal
@@ -63,7 +65,8 @@ few : (k f n : ℕ) → n < 10 ^ suc k → length (digits f n) ≤ suc k
 few k zero n h = omega arith
 few zero (suc f) n h = let small : n < 10 = omega arith in simp (lt-ltb n 10 small) (omega arith)
 few (suc k) (suc f) n h =
-    let less : n / 10 < 10 ^ suc k = div-lt-iff-lt-mul {k = 10} {x = n} {y = 10 ^ suc k} (omega arith) .1 (rw pow-suc at h) in
+    let less : n / 10 < 10 ^ suc k =
+    div-lt-iff-lt-mul {k = 10} {x = n} {y = 10 ^ suc k} (omega arith) .1 (rw pow-suc at h) in
     either (ltb n 10) _ _ (suc (suc k)) (omega arith)
     (omega (arith, length-append (digits f (n / 10)) ((48 + n % 10) ∷ []), few k f (n / 10) less))
 

@@ -30,38 +30,48 @@ use Rattle.reading.proofs.Conserved.{Ended, ended-at}
 abbrev pub commaAfter : {A : Type 0} → A → Reader A
 commaAfter a = punctIf 44 10 >>= λ u. pure a
 
-pub comma-as : {A B : Type 0} (row : ℕ) (t : Took A) (g : A → B) → after row t (λ a. comma (g a)) ≡ after row (after row t commaAfter) (λ a. pure (one (g a)))
+pub comma-as : {A B : Type 0} (row : ℕ) (t : Took A) (g : A → B) →
+    after row t (λ a. comma (g a)) ≡ after row (after row t commaAfter) (λ a. pure (one (g a)))
 comma-as row (took a rs us) g = go (punctIf 44 10 (row + length rs) us)
   where
-    go : (p : Took Bool) → onward rs (after (row + length rs) p (λ u. pure (one (g a)))) ≡ after row (onward rs (after (row + length rs) p (λ u. pure a))) (λ a. pure (one (g a)))
+    go : (p : Took Bool) → onward rs (after (row + length rs) p (λ u. pure (one (g a)))) ≡
+        after row (onward rs (after (row + length rs) p (λ u. pure a))) (λ a. pure (one (g a)))
     go (took u qs vs) = ap (λ (ps : List ℕ). took (one (g a)) ps vs) (sym (append-nil (rs ++ (qs ++ []))))
     go (refuse n p) = refl
 comma-as row (refuse n p) g = refl
 
 -- ## The inside of a group
 
-pub closing-map : {A B : Type 0} {s : List ℕ} {c : Cursor} {b0 b1 : List ℕ} {sh : A → Type 0} {sh2 : B → Type 0} {x : Said} (us : Trees) (row : ℕ) (t : Took A) (f : A → B)
-    → ((a : A) (rs : List ℕ) (rest : Trees) → t ≡ took a rs rest → sh a → sh2 (f a)) → Meets s c b0 b1 sh x (closing us t) → Meets s c b0 b1 sh2 x (closing us (after row t (λ a. pure (f a))))
+pub closing-map : {A B : Type 0} {s : List ℕ} {c : Cursor} {b0 b1 : List ℕ} {sh : A → Type 0} {sh2 : B → Type 0}
+    {x : Said} (us : Trees) (row : ℕ) (t : Took A) (f : A → B)
+    → ((a : A) (rs : List ℕ) (rest : Trees) → t ≡ took a rs rest → sh a → sh2 (f a)) →
+    Meets s c b0 b1 sh x (closing us t) → Meets s c b0 b1 sh2 x (closing us (after row t (λ a. pure (f a))))
 closing-map {s = s} {c} {b0} {b1} {sh2 = sh2} us row (took a rs rest) f g (stands {d = d} m h) =
-    subst⁻¹ (λ (qs : List ℕ). Meets s c b0 b1 sh2 (on d) (took (f a) (14 ∷ qs ++ 14 ∷ []) us)) (append-nil rs) (stands m (g a rs rest refl h))
+    subst⁻¹ (λ (qs : List ℕ). Meets s c b0 b1 sh2 (on d) (took (f a) (14 ∷ qs ++ 14 ∷ []) us)) (append-nil rs)
+    (stands m (g a rs rest refl h))
 closing-map us row (refuse n p) f g (refuses qs e) = refuses qs e
 
-module _ (s : List ℕ) (c inside : Cursor) (t : Token) (i : InList s c) (g : GroupAt s (c .at) t) (b0 b1 : List ℕ) (p : inside ≡ pastOf c t) (w : b1 ≡ set b0 (c .row) 14) where
+module _ (s : List ℕ) (c inside : Cursor) (t : Token) (i : InList s c) (g : GroupAt s (c .at) t) (b0 b1 : List ℕ)
+    (p : inside ≡ pastOf c t) (w : b1 ≡ set b0 (c .row) 14) where
   inside-outer : at s (inside .at) .outer ≡ g .after ∷ at s (c .at) .outer
   inside-outer = ap (λ (y : Cursor). at s (y .at) .outer) p ∙ g .outer
 
-  pub closing-follows : {A : Type 0} {d : Cursor} {b2 : List ℕ} {sh : A → Type 0} {x : Took A} → Meets s inside b1 b2 sh (on d) x → follows (at s (d .at) .outer) ≡ true
+  pub closing-follows : {A : Type 0} {d : Cursor} {b2 : List ℕ} {sh : A → Type 0} {x : Took A} →
+      Meets s inside b1 b2 sh (on d) x → follows (at s (d .at) .outer) ≡ true
   closing-follows (stands m h) = ap follows (m .outer ∙ inside-outer)
 
-  closing-refused : {A : Type 0} {b2 : List ℕ} {sh sh2 : A → Type 0} {n q : ℕ} {x : Took A} (us : Trees) → Meets s inside b1 b2 sh (no n q) x → Meets s c b0 b2 sh2 (no n q) (closing us x)
+  closing-refused : {A : Type 0} {b2 : List ℕ} {sh sh2 : A → Type 0} {n q : ℕ} {x : Took A} (us : Trees) →
+      Meets s inside b1 b2 sh (no n q) x → Meets s c b0 b2 sh2 (no n q) (closing us x)
   closing-refused us (refuses qs e) =
       let below : inside .row ≡ suc (c .row) = omega (arith, ap (λ (y : Cursor). y .row) p) in
       refuses (14 ∷ qs) (e ∙ (λ j. sets (w j) (below j) qs))
 
-  meets-closing : {A : Type 0} {b2 b3 : List ℕ} {sh : A → Type 0} {d e : Cursor} {x : Took A} → Meets s inside b1 b2 sh (on d) x → Ended x → b3 ≡ set b2 (d .row) 14 → Skipped s d e
+  meets-closing : {A : Type 0} {b2 b3 : List ℕ} {sh : A → Type 0} {d e : Cursor} {x : Took A} →
+      Meets s inside b1 b2 sh (on d) x → Ended x → b3 ≡ set b2 (d .row) 14 → Skipped s d e
       → Meets s c b0 b3 sh (on e) (closing (head (at s (t .next) .outer)) x)
   meets-closing {b2 = b2} {b3 = b3} {sh = sh} {d = d} {e = e} (stands {rs = rs} {us = us} m h) z q k =
-      let o : at s (e .at) .here ∷ at s (e .at) .outer ≡ g .after ∷ at s (c .at) .outer = sym (k .streams) ∙ m .outer ∙ inside-outer in
+      let o : at s (e .at) .here ∷ at s (e .at) .outer ≡ g .after ∷ at s (c .at) .outer = sym (k .streams) ∙ m .outer ∙
+      inside-outer in
       let n : size (stream s d) ≡ 0 = ap size (m .here ∙ ended-at z) in
       let r = ap (λ (y : Cursor). y .row) p in
       let y = ap (λ (y : Cursor). y .at) p in
@@ -85,14 +95,19 @@ module _ (s : List ℕ) (c inside : Cursor) (t : Token) (i : InList s c) (g : Gr
 
   -- a reader of the whole inside
   module _ {A : Type 0} (m : Reader A) where
-    read-inside : {b2 : List ℕ} {sh : A → Type 0} {x : Said} → Meets s inside b1 b2 sh x (m (inside .row) (stream s inside)) → Meets s inside b1 b2 sh x (m (c .row + 1) (at s (t .next) .here))
+    read-inside : {b2 : List ℕ} {sh : A → Type 0} {x : Said} →
+        Meets s inside b1 b2 sh x (m (inside .row) (stream s inside)) →
+        Meets s inside b1 b2 sh x (m (c .row + 1) (at s (t .next) .here))
     read-inside y = meets-as (ap (λ (z : Cursor). m (z .row) (stream s z)) (sym p)) y
 
-    pub group-closed : ((row : ℕ) (ts : Trees) → Ended (m row ts)) → {b2 b3 : List ℕ} {sh : A → Type 0} {d e : Cursor} → Meets s inside b1 b2 sh (on d) (m (inside .row) (stream s inside))
+    pub group-closed : ((row : ℕ) (ts : Trees) → Ended (m row ts)) → {b2 b3 : List ℕ} {sh : A → Type 0} {d e : Cursor} →
+        Meets s inside b1 b2 sh (on d) (m (inside .row) (stream s inside))
         → b3 ≡ set b2 (d .row) 14 → Skipped s d e → Meets s c b0 b3 sh (on e) (Inside m s c t)
     group-closed f y q k = meets-closing (read-inside y) (f (c .row + 1) (at s (t .next) .here)) q k
 
-    pub group-refused : {b2 : List ℕ} {sh sh2 : A → Type 0} {n q : ℕ} → Meets s inside b1 b2 sh (no n q) (m (inside .row) (stream s inside)) → Meets s c b0 b2 sh2 (no n q) (Inside m s c t)
+    pub group-refused : {b2 : List ℕ} {sh sh2 : A → Type 0} {n q : ℕ} →
+        Meets s inside b1 b2 sh (no n q) (m (inside .row) (stream s inside)) →
+        Meets s c b0 b2 sh2 (no n q) (Inside m s c t)
     group-refused y = closing-refused _ (read-inside y)
 
 -- ## Digits, worth at most the largest i64
@@ -112,7 +127,8 @@ unfolding negatable
 negatable-start t = refl
 
 module _ (s : List ℕ) (i e : ℕ) (fits : e ≤ length s) (h : i < e) (n : ℕ) where
-  parts : Negatable n (slice i e s) ≡ ((digit (getD s i 0) && all digit (slice (i + 1) e s)) && leb (worthFrom (n * 10 + (getD s i 0 - 48)) (slice (i + 1) e s)) LIMIT)
+  parts : Negatable n (slice i e s) ≡ ((digit (getD s i 0) && all digit (slice (i + 1) e s)) && leb
+      (worthFrom (n * 10 + (getD s i 0 - 48)) (slice (i + 1) e s)) LIMIT)
   parts = ap (Negatable n) (slice-next s i e h fits)
 
   pub digit-low : getD s i 0 < 48 → Negatable n (slice i e s) ≡ false
@@ -130,8 +146,10 @@ module _ (s : List ℕ) (i e : ℕ) (fits : e ≤ length s) (h : i < e) (n : ℕ
       go true e = e
       go false e = refl
 
-  pub digit-next : 48 ≤ getD s i 0 → getD s i 0 ≤ 57 → Negatable n (slice i e s) ≡ Negatable (n * 10 + (getD s i 0 - 48)) (slice (i + 1) e s)
-  digit-next p q = parts ∙ ap (λ (b : Bool). b && leb (worthFrom (n * 10 + (getD s i 0 - 48)) (slice (i + 1) e s)) LIMIT) (and-last _ _ (and-both _ _ (le-leb _ _ p) (le-leb _ _ q)))
+  pub digit-next : 48 ≤ getD s i 0 → getD s i 0 ≤ 57 →
+      Negatable n (slice i e s) ≡ Negatable (n * 10 + (getD s i 0 - 48)) (slice (i + 1) e s)
+  digit-next p q = parts ∙ ap (λ (b : Bool). b && leb (worthFrom (n * 10 + (getD s i 0 - 48)) (slice (i + 1) e s))
+      LIMIT) (and-last _ _ (and-both _ _ (le-leb _ _ p) (le-leb _ _ q)))
 
 pub digits-end : (s : List ℕ) (i e n : ℕ) → e ≤ i → Negatable n (slice i e s) ≡ leb n LIMIT
 digits-end s i e n h = ap (Negatable n) (slice-none s i e h)
@@ -151,7 +169,14 @@ count-variants (counts.At d n) vs h = h
 count-variants (counts.Refused r) vs h = h
 
 -- a group's inside, where the reader may read it again
-pub inside-at : {A : Type 0} (m : Reader A) (s : List ℕ) (c d : Cursor) (t : Token) → InList s c → TokenAt s (c .at) t → d ≡ pastOf c t → {a : A} {rs : List ℕ} {rest : Trees}
+pub inside-at : {A : Type 0} (m : Reader A) (s : List ℕ) (c d : Cursor) (t : Token) → InList s c → TokenAt s (c .at) t →
+    d ≡ pastOf c t → {a : A} {rs : List ℕ} {rest : Trees}
     → m (c .row + 1) (at s (t .next) .here) ≡ took a rs rest → InsideAt m s d a
 inside-at m s c d t i k p {a} {rs} {rest} e =
-    record { inList = past-in-of s c d t p i k; roles = rs; rest = rest; gives = ap (λ (z : Cursor). m (z .row) (stream s z)) p ∙ e }
+    record {
+      inList = past-in-of s c d t p i k;
+      roles = rs;
+      rest = rest;
+      gives = ap (λ (z : Cursor). m (z .row)
+          (stream s z)) p ∙ e;
+    }

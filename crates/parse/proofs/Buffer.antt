@@ -27,7 +27,8 @@ pub fill-step : (l : List ℕ) (from i v : ℕ) → from ≤ i
 fill-step l from i v h =
     let a : i + 1 - from ≡ suc (i - from) = omega arith in
     let b : from + (i - from) ≡ i = omega arith in
-    sym (ap (λ (n : ℕ). sets l from (replicate n v)) a ∙ fill-more l from (i - from) v ∙ ap (λ (k : ℕ). set (sets l from (replicate (i - from) v)) k v) b)
+    sym (ap (λ (n : ℕ). sets l from (replicate n v)) a ∙ fill-more l from (i - from) v ∙
+    ap (λ (k : ℕ). set (sets l from (replicate (i - from) v)) k v) b)
 
 -- stores past the end change nothing
 sets-out : (l : List ℕ) (i : ℕ) (xs : List ℕ) → length l ≤ i → sets l i xs ≡ l
@@ -36,14 +37,17 @@ sets-out l i (x ∷ xs) h = ap (λ (k : List ℕ). sets k (suc i) xs) (set-out l
 
 replicate-add : (n m v : ℕ) → replicate (n + m) v ≡ replicate n v ++ replicate m v
 replicate-add zero m v = ap (λ (k : ℕ). replicate k v) (zero-add m)
-replicate-add (suc n) m v = ap (λ (k : ℕ). replicate k v) (suc-add n m) ∙ ap (λ (xs : List ℕ). v ∷ xs) (replicate-add n m v)
+replicate-add (suc n) m v =
+    ap (λ (k : ℕ). replicate k v) (suc-add n m) ∙ ap (λ (xs : List ℕ). v ∷ xs) (replicate-add n m v)
 
-pub fill-clip : (l : List ℕ) (from to v : ℕ) → length l ≤ to → sets l from (replicate (length l - from) v) ≡ sets l from (replicate (to - from) v)
+pub fill-clip : (l : List ℕ) (from to v : ℕ) → length l ≤ to →
+    sets l from (replicate (length l - from) v) ≡ sets l from (replicate (to - from) v)
 fill-clip l from to v h =
     let n = length l - from in
     let m = to - from - n in
     let e : to - from ≡ n + m = omega arith in
-    let out : length (sets l from (replicate n v)) ≤ from + length (replicate n v) = omega (arith, length-sets l from (replicate n v), length-replicate n v) in
+    let out : length (sets l from (replicate n v)) ≤ from + length (replicate n v) =
+    omega (arith, length-sets l from (replicate n v), length-replicate n v) in
     sym
     (ap (λ (k : ℕ). sets l from (replicate k v)) e
     ∙ ap (sets l from) (replicate-add n m v)

@@ -48,21 +48,34 @@ fill-all l v =
     ap (λ (n : ℕ). sets l 0 (replicate n v)) z ∙ sets-all l (replicate (length l) v) (length-replicate (length l) v)
 
 -- the roles of an item, 0 for the rows left over, and 255
-filled : (b0 b1 rs : List ℕ) (end rows left : ℕ) → b1 ≡ sets b0 0 rs → end ≡ length rs → length rs + left ≡ rows → rows ≤ length b0
+filled : (b0 b1 rs : List ℕ) (end rows left : ℕ) → b1 ≡ sets b0 0 rs → end ≡ length rs → length rs + left ≡ rows →
+    rows ≤ length b0
     → sets (sets b1 end (replicate (rows - end) 0)) rows (replicate (length b1 - rows) 255)
     ≡ (rs ++ replicate left 0) ++ replicate (length b0 - length (rs ++ replicate left 0)) 255
 filled b0 b1 rs end rows left e f g h =
     let z : rows - end ≡ left = omega (arith, f, g) in
     let q : length b1 ≡ length b0 = ap length e ∙ length-sets b0 0 rs in
-    let n : length (rs ++ replicate left 0) ≡ rows = omega (arith, length-append rs (replicate left 0), length-replicate {A = ℕ} left 0, g) in
+    let n : length (rs ++ replicate left 0) ≡ rows = omega (
+      arith,
+      length-append rs (replicate left 0),
+      length-replicate {A = ℕ} left 0,
+      g,
+    ) in
     let y : length b1 - rows ≡ length b0 - length (rs ++ replicate left 0) = omega (arith, q, n) in
     let first : sets b1 end (replicate (rows - end) 0) ≡ sets b0 0 (rs ++ replicate left 0) =
-    (λ i. sets (e i) (f i) (replicate (z i) 0)) ∙ ap (λ (k : ℕ). sets (sets b0 0 rs) k (replicate left 0)) (omega-zero (length rs)) ∙ sym (sets-append b0 0 rs (replicate left 0)) in
+    (λ i. sets (e i) (f i) (replicate (z i) 0)) ∙ ap (λ (k : ℕ). sets (sets b0 0 rs) k (replicate left 0))
+    (omega-zero (length rs)) ∙ sym (sets-append b0 0 rs (replicate left 0)) in
     (λ i. sets (first i) (sym n i) (replicate (y i) 255))
-    ∙ ap (λ (k : ℕ). sets (sets b0 0 (rs ++ replicate left 0)) k (replicate (length b0 - length (rs ++ replicate left 0)) 255)) (omega-zero (length (rs ++ replicate left 0)))
+    ∙ ap (λ (k : ℕ). sets (sets b0 0 (rs ++ replicate left 0)) k
+    (replicate (length b0 - length (rs ++ replicate left 0)) 255)) (omega-zero (length (rs ++ replicate left 0)))
     ∙ sym (sets-append b0 0 (rs ++ replicate left 0) (replicate (length b0 - length (rs ++ replicate left 0)) 255))
     ∙ sets-all b0 ((rs ++ replicate left 0) ++ replicate (length b0 - length (rs ++ replicate left 0)) 255)
-    (omega (arith, length-append (rs ++ replicate left 0) (replicate (length b0 - length (rs ++ replicate left 0)) 255), length-replicate {A = ℕ} (length b0 - length (rs ++ replicate left 0)) 255, n))
+    (omega (
+      arith,
+      length-append (rs ++ replicate left 0) (replicate (length b0 - length (rs ++ replicate left 0)) 255),
+      length-replicate {A = ℕ} (length b0 - length (rs ++ replicate left 0)) 255,
+      n,
+    ))
   where
     omega-zero : (k : ℕ) → k ≡ 0 + k
     omega-zero k = omega arith
@@ -78,7 +91,8 @@ module _ (s : List ℕ) (k : ℕ) where
   unfolding answer
   answer-short rows e h = rw e (chosen _ _ _ (lt-ltb _ _ h))
 
-  pub answer-read : (rows : ℕ) → list.check s ≡ list.Answer.passed rows → rows ≤ k → answer s k ≡ itemAnswer (item 0 (at s 10 .here))
+  pub answer-read : (rows : ℕ) → list.check s ≡ list.Answer.passed rows → rows ≤ k →
+      answer s k ≡ itemAnswer (item 0 (at s 10 .here))
   unfolding answer
   answer-read rows e h = rw e (passed-over _ _ _ (le-ltb _ _ h))
 
@@ -105,7 +119,8 @@ Placed s c (itemSteps.At i) d =
     × CursorAt s (bodyAt (point s c)) (i .body)
 Placed s c (itemSteps.Refused r) d = ⊥
 
-pub parts-placed : (s : List ℕ) (c g : Cursor) (name : Token) → TokenIn s (itemNameRow (point s c)) name → CursorAt s (genericsAt (point s c)) g
+pub parts-placed : (s : List ℕ) (c g : Cursor) (name : Token) → TokenIn s (itemNameRow (point s c)) name →
+    CursorAt s (genericsAt (point s c)) g
     → (r : ItemStep) (d : Declaration) → partsShown s g name r d → Placed s c r d
 parts-placed s c g name n k (itemSteps.At i) d h =
     let p = h .1 in (
@@ -116,7 +131,8 @@ parts-placed s c g name n k (itemSteps.At i) d h =
     )
 parts-placed s c g name n k (itemSteps.Refused r) d h = h
 
-pub item-placed : {s : List ℕ} {c : Cursor} {b0 b1 : List ℕ} (r : ItemStep) → Meets s c b0 b1 (Placed s c r) (itemSaid r) (item (c .row) (stream s c))
+pub item-placed : {s : List ℕ} {c : Cursor} {b0 b1 : List ℕ} (r : ItemStep) →
+    Meets s c b0 b1 (Placed s c r) (itemSaid r) (item (c .row) (stream s c))
     → Meets s c b0 b1 (itemShown s c r) (itemSaid r) (item (c .row) (stream s c))
 item-placed (itemSteps.At i) m =
     meets-show (λ d h. (h .0, record { name = h .1; generics = h .2; body = h .3; next = meets-beyond item m })) m
@@ -124,30 +140,41 @@ item-placed (itemSteps.Refused r) m = meets-none m
 
 -- ## The code's answers
 
-pub answered-refused : (s b0 : List ℕ) {b1 : List ℕ} {p : Parse} (r : Refusal) → p ≡ parses.Refused r → answer s (length b0) ≡ refused (r .number) (r .place) → b1 ≡ replicate (length b0) 255
+pub answered-refused : (s b0 : List ℕ) {b1 : List ℕ} {p : Parse} (r : Refusal) → p ≡ parses.Refused r →
+    answer s (length b0) ≡ refused (r .number) (r .place) → b1 ≡ replicate (length b0) 255
     → Answered s p b0 b1
 answered-refused s b0 {b1} r w e q =
     subst⁻¹ (λ (p : Parse). Answered s p b0 b1) w
-    (record { answer = subst⁻¹ (ParsedAs s (parses.Refused r)) e (refl, refl); refusal = places.answer-read s (length b0); buffer = q ∙ sym (ap (buffer (length b0)) e) })
+    (record {
+      answer = subst⁻¹ (ParsedAs s (parses.Refused r)) e (refl, refl);
+      refusal = places.answer-read s (length
+          b0);
+      buffer = q ∙ sym (ap (buffer (length b0)) e);
+    })
 
-parsed-as : (s : List ℕ) (i : ItemAt) (k : DataType) (d : Declaration) (rs : List ℕ) → i .kind ≡ k → itemShown s first (itemSteps.At i) d → ParsedAs s (parsedBy k i) (declared d rs)
+parsed-as : (s : List ℕ) (i : ItemAt) (k : DataType) (d : Declaration) (rs : List ℕ) → i .kind ≡ k →
+    itemShown s first (itemSteps.At i) d → ParsedAs s (parsedBy k i) (declared d rs)
 parsed-as s i kinds.Struct d rs e o = (o .0 .kind ∙ ap kindOf e, o .0, o .1)
 parsed-as s i kinds.Enum d rs e o = (o .0 .kind ∙ ap kindOf e, o .0, o .1)
 
 module _ (s : List ℕ) (rows : ℕ) (e : list.check s ≡ list.passed rows) (b0 : List ℕ) (room : rows ≤ length b0) where
-  pub read-refused : {b1 b2 : List ℕ} {sh : Declaration → Type 0} {p : Parse} (r : Refusal) → Meets s first b0 b1 sh (no (r .number) (r .place)) (item 0 (at s 10 .here))
+  pub read-refused : {b1 b2 : List ℕ} {sh : Declaration → Type 0} {p : Parse} (r : Refusal) →
+      Meets s first b0 b1 sh (no (r .number) (r .place)) (item 0 (at s 10 .here))
       → p ≡ parses.Refused r → b2 ≡ replicate (length b0) 255 → Answered s p b0 b2
   read-refused {b1} {sh = sh} r m w q = answered-refused s b0 r w (answer-read s (length b0) rows e room ∙ go m) q
     where
-      go : {t : Took Declaration} → Meets s first b0 b1 sh (no (r .number) (r .place)) t → itemAnswer t ≡ refused (r .number) (r .place)
+      go : {t : Took Declaration} → Meets s first b0 b1 sh (no (r .number) (r .place)) t →
+          itemAnswer t ≡ refused (r .number) (r .place)
       go (refuses qs q) = refl
 
-  pub read-accepted : {b1 b2 : List ℕ} {p : Parse} (i : ItemAt) → Meets s first b0 b1 (itemShown s first (itemSteps.At i)) (on (i .next)) (item 0 (at s 10 .here))
+  pub read-accepted : {b1 b2 : List ℕ} {p : Parse} (i : ItemAt) →
+      Meets s first b0 b1 (itemShown s first (itemSteps.At i)) (on (i .next)) (item 0 (at s 10 .here))
       → b2 ≡ sets (sets b1 (i .next .row) (replicate (rows - i .next .row) 0)) rows
       (replicate (length b1 - rows) 255) → p ≡ parsedOf i → Answered s p b0 b2
   read-accepted {b1} {b2} i m q w = subst⁻¹ (λ (p : Parse). Answered s p b0 b2) w (go refl m)
     where
-      go : {t : Took Declaration} → item 0 (at s 10 .here) ≡ t → Meets s first b0 b1 (itemShown s first (itemSteps.At i)) (on (i .next)) t → Answered s (parsedOf i) b0 b2
+      go : {t : Took Declaration} → item 0 (at s 10 .here) ≡ t →
+          Meets s first b0 b1 (itemShown s first (itemSteps.At i)) (on (i .next)) t → Answered s (parsedOf i) b0 b2
       go f (stands {a = d} {rs = rs} {us = us} mv o) =
           let a = answer-read s (length b0) rows e room ∙ ap itemAnswer f in
           let c = conserved (subst (Conserved (at s 10 .here)) f (item-conserving 0 (at s 10 .here))) in

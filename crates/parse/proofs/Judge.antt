@@ -16,12 +16,18 @@ module _ (st : Stops) (d : ℕ) (m : Bool) (b : ℕ) where
 
   pub closing : b ≡ 62 → (m && eqb b 62) ≡ false
       → judgePunct st d m b ≡ cond (eqb d 0) (cond (st .angle) (ends atAngle) unopened) (belongs (d - 1) false)
-  closing e a = passed-over _ _ _ a ∙ ap (λ (x : ℕ). cond (eqb x 60) (belongs (d + 1) false) (cond (eqb x 62) (cond (eqb d 0) (cond (st .angle) (ends atAngle) unopened) (belongs (d - 1) false)) (cond (eqb x 44 && (eqb d 0 && st .comma)) (ends atComma) (belongs d (eqb x 45))))) e
+  closing e a = passed-over _ _ _ a ∙ ap (λ (x : ℕ). cond (eqb x 60) (belongs (d + 1) false)
+      (cond (eqb x 62) (cond (eqb d 0) (cond (st .angle) (ends atAngle) unopened) (belongs (d - 1) false))
+      (cond (eqb x 44 && (eqb d 0 && st .comma)) (ends atComma) (belongs d (eqb x 45))))) e
 
-  pub comma : b ≡ 44 → (m && eqb b 62) ≡ false → judgePunct st d m b ≡ cond (eqb d 0 && st .comma) (ends atComma) (belongs d false)
-  comma e a = passed-over _ _ _ a ∙ ap (λ (x : ℕ). cond (eqb x 60) (belongs (d + 1) false) (cond (eqb x 62) (cond (eqb d 0) (cond (st .angle) (ends atAngle) unopened) (belongs (d - 1) false)) (cond (eqb x 44 && (eqb d 0 && st .comma)) (ends atComma) (belongs d (eqb x 45))))) e
+  pub comma : b ≡ 44 → (m && eqb b 62) ≡ false → judgePunct st d m b ≡
+      cond (eqb d 0 && st .comma) (ends atComma) (belongs d false)
+  comma e a = passed-over _ _ _ a ∙ ap (λ (x : ℕ). cond (eqb x 60) (belongs (d + 1) false)
+      (cond (eqb x 62) (cond (eqb d 0) (cond (st .angle) (ends atAngle) unopened) (belongs (d - 1) false))
+      (cond (eqb x 44 && (eqb d 0 && st .comma)) (ends atComma) (belongs d (eqb x 45))))) e
 
-  pub other : (m && eqb b 62) ≡ false → (b ≡ 60 → ⊥) → (b ≡ 62 → ⊥) → (b ≡ 44 → ⊥) → judgePunct st d m b ≡ belongs d (eqb b 45)
+  pub other : (m && eqb b 62) ≡ false → (b ≡ 60 → ⊥) → (b ≡ 62 → ⊥) → (b ≡ 44 → ⊥) →
+      judgePunct st d m b ≡ belongs d (eqb b 45)
   other a o c k =
       passed-over _ _ _ a
       ∙ passed-over _ _ _ (ne-eqb _ _ o)

@@ -37,7 +37,8 @@ last-fails : (a b : Bool) → b ≡ false → (a && b) ≡ false
 last-fails true b e = e
 last-fails false b e = refl
 
-pub no-visibility : (row : ℕ) (ts : Trees) → (firstKind ts ≡ 111 → ⊥) → (firstMark ts ≡ 112 → ⊥) → visibility row ts ≡ took tt [] ts
+pub no-visibility : (row : ℕ) (ts : Trees) → (firstKind ts ≡ 111 → ⊥) → (firstMark ts ≡ 112 → ⊥) →
+    visibility row ts ≡ took tt [] ts
 no-visibility row end k m = refl
 no-visibility row (leaf r us) k m = passed-over _ _ _ (last-fails (isIdent r) _ (no-pub (r .text) m))
 no-visibility row (group d ts us) k m = absurd (k refl)

@@ -19,7 +19,8 @@ abbrev pub gathered : {A : Type 0} → List A → List ℕ → Took (List A) →
 gathered xs rs (took ys qs us) = took (xs ++ ys) (rs ++ qs) us
 gathered xs rs (refuse n p) = refuse n p
 
-pub record Rounded {A : Type 0} (s : List ℕ) (from : Cursor) (before : List ℕ) (c : Cursor) (now : List ℕ) (count : ℕ) (was is : Took (List A)) : Type 0 where
+pub record Rounded {A : Type 0} (s : List ℕ) (from : Cursor) (before : List ℕ) (c : Cursor) (now : List ℕ) (count : ℕ)
+    (was is : Took (List A)) : Type 0 where
   pub got : List A
   pub taken : List ℕ
   pub counted : count ≡ length got
@@ -31,31 +32,46 @@ gathered-none : {A : Type 0} (t : Took (List A)) → gathered [] [] t ≡ t
 gathered-none (took ys qs us) = refl
 gathered-none (refuse n p) = refl
 
-gathered-append : {A : Type 0} (xs ys : List A) (rs qs : List ℕ) (t : Took (List A)) → gathered xs rs (gathered ys qs t) ≡ gathered (xs ++ ys) (rs ++ qs) t
+gathered-append : {A : Type 0} (xs ys : List A) (rs qs : List ℕ) (t : Took (List A)) →
+    gathered xs rs (gathered ys qs t) ≡ gathered (xs ++ ys) (rs ++ qs) t
 gathered-append xs ys rs qs (took zs ps us) = simp append-assoc
 gathered-append xs ys rs qs (refuse n p) = refl
 
-gathered-one : {A : Type 0} (row : ℕ) (a : A) (rs : List ℕ) (t : Took (List A)) → onward rs (after row t (λ xs. pure (a ∷ xs))) ≡ gathered (a ∷ []) rs t
+gathered-one : {A : Type 0} (row : ℕ) (a : A) (rs : List ℕ) (t : Took (List A)) →
+    onward rs (after row t (λ xs. pure (a ∷ xs))) ≡ gathered (a ∷ []) rs t
 gathered-one row a rs (took xs qs us) = ap (λ (ps : List ℕ). took (a ∷ xs) (rs ++ ps) us) (append-nil qs)
 gathered-one row a rs (refuse n p) = refl
 
-pub rounds-start : {A : Type 0} (s : List ℕ) (c : Cursor) (b : List ℕ) (t : Took (List A)) → InList s c → Rounded s c b c b 0 t t
+pub rounds-start : {A : Type 0} (s : List ℕ) (c : Cursor) (b : List ℕ) (t : Took (List A)) → InList s c →
+    Rounded s c b c b 0 t t
 rounds-start s c b t i =
-    record { got = []; taken = []; counted = refl; few = omega arith; moved = moved-none s c b i; same = sym (gathered-none t) }
+    record {
+      got = [];
+      taken = [];
+      counted = refl;
+      few = omega arith;
+      moved = moved-none s c b i;
+      same =
+          sym (gathered-none t);
+    }
 
 progress : {A : Type 0} {ts us : Trees} {a : A} {rs : List ℕ} → Round ts (took (one a) rs us) → 0 < length rs
 progress (another rs us e l) = omega arith
 
-pub rounds-length : {A : Type 0} {s : List ℕ} {from c : Cursor} {b0 b1 : List ℕ} {n : ℕ} {t u : Took (List A)} → Rounded s from b0 c b1 n t u → length b1 ≡ length b0
+pub rounds-length : {A : Type 0} {s : List ℕ} {from c : Cursor} {b0 b1 : List ℕ} {n : ℕ} {t u : Took (List A)} →
+    Rounded s from b0 c b1 n t u → length b1 ≡ length b0
 rounds-length k = ap length (k .moved .roles) ∙ simp length-sets
 
-module _ {A : Type 0} (m : Reader (Maybe A)) (rd : Rounding m) {s : List ℕ} {from c : Cursor} {b0 b1 : List ℕ} {count : ℕ} {was : Took (List A)}
+module _ {A : Type 0} (m : Reader (Maybe A)) (rd : Rounding m) {s : List ℕ} {from c : Cursor} {b0 b1 : List ℕ}
+    {count : ℕ} {was : Took (List A)}
     (k : Rounded s from b0 c b1 count was (every m (c .row) (stream s c))) where
   -- the reader's own answer, and then the rest
-  step : {t : Took (Maybe A)} → m (c .row) (stream s c) ≡ t → every m (c .row) (stream s c) ≡ after (c .row) t (more (every m))
+  step : {t : Took (Maybe A)} → m (c .row) (stream s c) ≡ t →
+      every m (c .row) (stream s c) ≡ after (c .row) t (more (every m))
   step e = every-step m rd (c .row) (stream s c) ∙ ap (λ (u : Took (Maybe A)). after (c .row) u (more (every m))) e
 
-  another-one : {b2 : List ℕ} (d : Cursor) (a : A) (rs : List ℕ) (us : Trees) → m (c .row) (stream s c) ≡ took (one a) rs us → Moved s c d rs us b1 b2
+  another-one : {b2 : List ℕ} (d : Cursor) (a : A) (rs : List ℕ) (us : Trees) →
+      m (c .row) (stream s c) ≡ took (one a) rs us → Moved s c d rs us b1 b2
       → Rounded s from b0 d b2 (count + 1) was (every m (d .row) (stream s d)) × (c .at < d .at)
   another-one {b2} d a rs us e mv =
       let p = progress (subst (Round (stream s c)) e (rd (c .row) (stream s c))) in
@@ -71,37 +87,45 @@ module _ {A : Type 0} (m : Reader (Maybe A)) (rd : Rounding m) {s : List ℕ} {f
               k .same
               ∙ ap (gathered (k .got) (k .taken))
               (step e ∙ gathered-one (c .row + length rs) a rs
-              (every m (c .row + length rs) us) ∙ (λ i. gathered (a ∷ []) rs (every m (sym (mv .row) i) (sym (mv .here) i))))
+              (every m (c .row + length rs) us) ∙ (λ i. gathered (a ∷ []) rs
+              (every m (sym (mv .row) i) (sym (mv .here) i))))
               ∙ gathered-append (k .got) (a ∷ []) (k .taken) rs (every m (d .row) (stream s d));
         },
         omega (arith, mv .forth, p),
       )
 
-  pub rounds-more : {b2 : List ℕ} {sh : Maybe A → Type 0} {d : Cursor} → Meets s c b1 b2 sh (on d) (m (c .row) (stream s c)) → ((v : Maybe A) → sh v → (a : A) × (v ≡ one a))
+  pub rounds-more : {b2 : List ℕ} {sh : Maybe A → Type 0} {d : Cursor} →
+      Meets s c b1 b2 sh (on d) (m (c .row) (stream s c)) → ((v : Maybe A) → sh v → (a : A) × (v ≡ one a))
       → Rounded s from b0 d b2 (count + 1) was (every m (d .row) (stream s d)) × (c .at < d .at)
   rounds-more {b2} {sh} {d} x f = go refl x
     where
-      go : {t : Took (Maybe A)} → m (c .row) (stream s c) ≡ t → Meets s c b1 b2 sh (on d) t → Rounded s from b0 d b2 (count + 1) was (every m (d .row) (stream s d)) × (c .at < d .at)
+      go : {t : Took (Maybe A)} → m (c .row) (stream s c) ≡ t → Meets s c b1 b2 sh (on d) t →
+          Rounded s from b0 d b2 (count + 1) was (every m (d .row) (stream s d)) × (c .at < d .at)
       go e (stands {a = v} {rs = rs} {us = us} mv h) =
           let o = f v h in
           another-one d (o .0) rs us (e ∙ ap (λ (w : Maybe A). took w rs us) (o .1)) mv
 
-  pub rounds-done : {b2 : List ℕ} {sh : Maybe A → Type 0} {d : Cursor} → Meets s c b1 b2 sh (on d) (m (c .row) (stream s c)) → ((v : Maybe A) → sh v → v ≡ done)
+  pub rounds-done : {b2 : List ℕ} {sh : Maybe A → Type 0} {d : Cursor} →
+      Meets s c b1 b2 sh (on d) (m (c .row) (stream s c)) → ((v : Maybe A) → sh v → v ≡ done)
       → Meets s from b0 b2 (λ (xs : List A). count ≡ length xs) (on d) was
   rounds-done {b2} {sh} {d} x f = go refl x
     where
-      go : {t : Took (Maybe A)} → m (c .row) (stream s c) ≡ t → Meets s c b1 b2 sh (on d) t → Meets s from b0 b2 (λ (xs : List A). count ≡ length xs) (on d) was
+      go : {t : Took (Maybe A)} → m (c .row) (stream s c) ≡ t → Meets s c b1 b2 sh (on d) t →
+          Meets s from b0 b2 (λ (xs : List A). count ≡ length xs) (on d) was
       go e (stands {a = v} {rs = rs} {us = us} mv h) =
           subst⁻¹ (Meets s from b0 b2 (λ (xs : List A). count ≡ length xs) (on d))
           (k .same
-          ∙ ap (gathered (k .got) (k .taken)) (step (e ∙ ap (λ (w : Maybe A). took w rs us) (f v h)) ∙ ap (λ (ps : List ℕ). took [] ps us) (append-nil rs))
+          ∙ ap (gathered (k .got) (k .taken)) (step (e ∙ ap (λ (w : Maybe A). took w rs us) (f v h)) ∙
+          ap (λ (ps : List ℕ). took [] ps us) (append-nil rs))
           ∙ ap (λ (xs : List A). took xs (k .taken ++ rs) us) (append-nil (k .got)))
           (stands (moved-on (k .moved) mv) (k .counted))
 
-  pub rounds-refused : {b2 : List ℕ} {sh : Maybe A → Type 0} {n p : ℕ} {sh2 : List A → Type 0} → Meets s c b1 b2 sh (no n p) (m (c .row) (stream s c)) → Meets s from b0 b2 sh2 (no n p) was
+  pub rounds-refused : {b2 : List ℕ} {sh : Maybe A → Type 0} {n p : ℕ} {sh2 : List A → Type 0} →
+      Meets s c b1 b2 sh (no n p) (m (c .row) (stream s c)) → Meets s from b0 b2 sh2 (no n p) was
   rounds-refused {b2} {sh} {n} {p} {sh2} x = go refl x
     where
-      go : {t : Took (Maybe A)} → m (c .row) (stream s c) ≡ t → Meets s c b1 b2 sh (no n p) t → Meets s from b0 b2 sh2 (no n p) was
+      go : {t : Took (Maybe A)} → m (c .row) (stream s c) ≡ t → Meets s c b1 b2 sh (no n p) t →
+          Meets s from b0 b2 sh2 (no n p) was
       go e (refuses qs q) =
           subst⁻¹ (Meets s from b0 b2 sh2 (no n p)) (k .same ∙ ap (gathered (k .got) (k .taken)) (step e))
           (refuses (k .taken ++ qs) (marked-on qs (k .moved) q))

@@ -38,7 +38,8 @@ module _ (s : List ℕ) (c : Cursor) (inList : InList s c) (t : Token) (l : Leaf
       pub mark-other : isPunct 35 (rowOf s q) ≡ false → here ≡ refuse 13 (d .row)
       mark-other f = after-mark _ (n .here) ∙ passed-over _ _ _ f ∙ ap (refuse 13) (sym below)
 
-      pub mark-idle : (b0 b1 : List ℕ) → b1 ≡ set b0 (c .row) 3 → isPunct 35 (rowOf s q) ≡ true → Belonged s c d b0 b1 here (attributes (d .row) (stream s d))
+      pub mark-idle : (b0 b1 : List ℕ) → b1 ≡ set b0 (c .row) 3 → isPunct 35 (rowOf s q) ≡ true →
+          Belonged s c d b0 b1 here (attributes (d .row) (stream s d))
       mark-idle b0 b1 w f =
           record {
             roles = 3 ∷ [];
@@ -59,7 +60,8 @@ module _ (s : List ℕ) (c : Cursor) (inList : InList s c) (t : Token) (l : Leaf
       mark-wrong f = after-mark _ (group-stream s d q k g) ∙ passed-over _ _ _ (ne-eqb _ _ f) ∙ ap (refuse 12)
           (sym below)
 
-      pub mark-group : (b0 b1 b2 : List ℕ) (x : Cursor) → q .mark ≡ 91 → b1 ≡ set b0 (c .row) 1 → Moved s d x (copied 2 ins) aft b1 b2
+      pub mark-group : (b0 b1 b2 : List ℕ) (x : Cursor) → q .mark ≡ 91 → b1 ≡ set b0 (c .row) 1 →
+          Moved s d x (copied 2 ins) aft b1 b2
           → Belonged s c x b0 b2 here (attributes (x .row) (stream s x))
       mark-group b0 b1 b2 x f w m =
           let h : length (copied 2 ins) ≡ whole ins = length-replicate (whole ins) 2 in

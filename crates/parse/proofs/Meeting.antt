@@ -35,7 +35,8 @@ moved-none s c b i =
 -- stores from the row where a reader stopped on follow its own
 pub marked-on : {s : List ℕ} {a b : Cursor} {rs : List ℕ} {us : Trees} {b0 b1 b2 : List ℕ} (qs : List ℕ)
     → Moved s a b rs us b0 b1 → b2 ≡ sets b1 (b .row) qs → b2 ≡ sets b0 (a .row) (rs ++ qs)
-marked-on {a = a} {rs = rs} {b0 = b0} qs m e = e ∙ (λ i. sets (m .roles i) (m .row i) qs) ∙ sym (sets-append b0 (a .row) rs qs)
+marked-on {a = a} {rs = rs} {b0 = b0} qs m e = e ∙ (λ i. sets (m .roles i) (m .row i) qs) ∙
+    sym (sets-append b0 (a .row) rs qs)
 
 pub moved-on : {s : List ℕ} {a b c : Cursor} {rs qs : List ℕ} {us vs : Trees} {b0 b1 b2 : List ℕ}
     → Moved s a b rs us b0 b1 → Moved s b c qs vs b1 b2 → Moved s a c (rs ++ qs) vs b0 b2
@@ -52,7 +53,10 @@ moved-on {rs = rs} {qs} m n =
 module _ (s : List ℕ) (c : Cursor) (t : Token) (i : InList s c) where
   pub past-fits : TokenAt s (c .at) t → (c .row < length s) × (c .at + 1 ≤ t .next)
   past-fits
-      k = (omega (arith, i .counted, i .within, k .start, k .text, k .next, k .within), omega (arith, k .start, k .text, k .next))
+      k = (
+        omega (arith, i .counted, i .within, k .start, k .text, k .next, k .within),
+        omega (arith, k .start, k .text, k .next),
+      )
 
   pub past-in : TokenAt s (c .at) t → InList s (pastOf c t)
   past-in k =
@@ -63,7 +67,8 @@ module _ (s : List ℕ) (c : Cursor) (t : Token) (i : InList s c) where
         whole = k .whole;
       }
 
-  pub leaf-moved : (b : List ℕ) (r : ℕ) → LeafAt s (c .at) t → Moved s c (pastOf c t) (r ∷ []) (stream s (pastOf c t)) b (set b (c .row) r)
+  pub leaf-moved : (b : List ℕ) (r : ℕ) → LeafAt s (c .at) t →
+      Moved s c (pastOf c t) (r ∷ []) (stream s (pastOf c t)) b (set b (c .row) r)
   leaf-moved b r l =
       record {
         inList = past-in (l .token);
@@ -96,7 +101,8 @@ module _ (s : List ℕ) (c : Cursor) (t : Token) (i : InList s c) where
       }
 
   -- what the group's streams are
-  pub group-stream : GroupAt s (c .at) t → stream s c ≡ group (t .mark) (at s (t .next) .here) (head (at s (t .next) .outer))
+  pub group-stream : GroupAt s (c .at) t → stream s c ≡
+      group (t .mark) (at s (t .next) .here) (head (at s (t .next) .outer))
   group-stream g = g .here ∙ ap (λ (u : Trees). group (t .mark) (at s (t .next) .here) u) (sym (ap head (g .outer)))
 
 -- ## Putting readers together
@@ -113,21 +119,26 @@ module _ {A : Type 0} {s : List ℕ} {c : Cursor} {b0 b1 : List ℕ} {sh : A →
   pub landed : {d : Cursor} {t : Took A} → Meets s c b0 b1 sh (on d) t → InList s d
   landed (stands m h) = m .inList
 
-  pub meets-show : {sh2 : A → Type 0} {x : Said} {t : Took A} → ((a : A) → sh a → sh2 a) → Meets s c b0 b1 sh x t → Meets s c b0 b1 sh2 x t
+  pub meets-show : {sh2 : A → Type 0} {x : Said} {t : Took A} → ((a : A) → sh a → sh2 a) → Meets s c b0 b1 sh x t →
+      Meets s c b0 b1 sh2 x t
   meets-show f (stands m h) = stands m (f _ h)
   meets-show f (refuses qs e) = refuses qs e
 
-pub meets-stay : {A : Type 0} (s : List ℕ) (c : Cursor) (b : List ℕ) (sh : A → Type 0) (a : A) → InList s c → sh a → Meets s c b b sh (on c) (took a [] (stream s c))
+pub meets-stay : {A : Type 0} (s : List ℕ) (c : Cursor) (b : List ℕ) (sh : A → Type 0) (a : A) → InList s c → sh a →
+    Meets s c b b sh (on c) (took a [] (stream s c))
 meets-stay s c b sh a i h = stands (moved-none s c b i) h
 
-pub meets-onward : {A : Type 0} {s : List ℕ} {c d : Cursor} {rs : List ℕ} {us : Trees} {b0 b1 b2 : List ℕ} {sh : A → Type 0} {x : Said} {t : Took A}
+pub meets-onward : {A : Type 0} {s : List ℕ} {c d : Cursor} {rs : List ℕ} {us : Trees} {b0 b1 b2 : List ℕ}
+    {sh : A → Type 0} {x : Said} {t : Took A}
     → Moved s c d rs us b0 b1 → Meets s d b1 b2 sh x t → Meets s c b0 b2 sh x (onward rs t)
 meets-onward m (stands n h) = stands (moved-on m n) h
 meets-onward {rs = rs} m (refuses qs e) = refuses (rs ++ qs) (marked-on qs m e)
 
 -- a reader, and then another from where it stopped
-pub meets-then : {A B : Type 0} {s : List ℕ} {c d : Cursor} {b0 b1 b2 : List ℕ} {sh : A → Type 0} {sh2 : B → Type 0} {x : Said} {t : Took A}
-    (f : A → Reader B) → Meets s c b0 b1 sh (on d) t → ((a : A) → sh a → Meets s d b1 b2 sh2 x (f a (d .row) (stream s d)))
+pub meets-then : {A B : Type 0} {s : List ℕ} {c d : Cursor} {b0 b1 b2 : List ℕ} {sh : A → Type 0} {sh2 : B → Type 0}
+    {x : Said} {t : Took A}
+    (f : A → Reader B) → Meets s c b0 b1 sh (on d) t →
+    ((a : A) → sh a → Meets s d b1 b2 sh2 x (f a (d .row) (stream s d)))
     → Meets s c b0 b2 sh2 x (after (c .row) t f)
 meets-then {s = s} {c} {d} {b0} {b1} {b2} {sh} {sh2} {x} f (stands {a = a} {rs = rs} {us = us} m h) k =
     meets-onward m
@@ -135,7 +146,8 @@ meets-then {s = s} {c} {d} {b0} {b1} {b2} {sh} {sh2} {x} f (stands {a = a} {rs =
     (subst (λ r. Meets s d b1 b2 sh2 x (f a r (stream s d))) (m .row) (k a h)))
 
 -- a reader that refuses
-pub meets-no : {A B : Type 0} {s : List ℕ} {c : Cursor} {b0 b1 : List ℕ} {sh : A → Type 0} {sh2 : B → Type 0} {n p : ℕ} {t : Took A}
+pub meets-no : {A B : Type 0} {s : List ℕ} {c : Cursor} {b0 b1 : List ℕ} {sh : A → Type 0} {sh2 : B → Type 0} {n p : ℕ}
+    {t : Took A}
     (f : A → Reader B) → Meets s c b0 b1 sh (no n p) t → Meets s c b0 b1 sh2 (no n p) (after (c .row) t f)
 meets-no f (refuses qs e) = refuses qs e
 
@@ -148,15 +160,18 @@ peeked s i h e = subst (standsAt s i) e h
 pub token-within : (s : List ℕ) (i : ℕ) (t : Token) → TokenAt s i t → t .end ≤ length s
 token-within s i t k = omega (arith, k .next, k .within)
 
-pub past-in-of : (s : List ℕ) (c d : Cursor) (t : Token) → d ≡ pastOf c t → InList s c → TokenAt s (c .at) t → InList s d
+pub past-in-of : (s : List ℕ) (c d : Cursor) (t : Token) → d ≡ pastOf c t → InList s c → TokenAt s (c .at) t →
+    InList s d
 past-in-of s c d t e i k = subst⁻¹ (InList s) e (past-in s c t i k)
 
-pub follows-of : (s : List ℕ) (c d : Cursor) (t : Token) → d ≡ pastOf c t → InList s c → GroupAt s (c .at) t → follows (at s (d .at) .outer) ≡ true
+pub follows-of : (s : List ℕ) (c d : Cursor) (t : Token) → d ≡ pastOf c t → InList s c → GroupAt s (c .at) t →
+    follows (at s (d .at) .outer) ≡ true
 follows-of s c d t e i g = subst⁻¹ (λ (x : Cursor). follows (at s (x .at) .outer) ≡ true) e (group-follows s c t i g)
 
 module _ {A : Type 0} (m : Reader A) (s : List ℕ) (c : Cursor) (inList : InList s c) (sh : A → Type 0) where
   -- it takes nothing
-  pub meets-same : (b : List ℕ) (ts : Trees) (a : A) → stream s c ≡ ts → m (c .row) ts ≡ took a [] ts → sh a → Meets s c b b sh (on c) (m (c .row) (stream s c))
+  pub meets-same : (b : List ℕ) (ts : Trees) (a : A) → stream s c ≡ ts → m (c .row) ts ≡ took a [] ts → sh a →
+      Meets s c b b sh (on c) (m (c .row) (stream s c))
   meets-same b ts a e q h = meets-as (ap (m (c .row)) e ∙ q ∙ ap (took a []) (sym e)) (meets-stay s c b sh a inList h)
 
   -- it refuses
@@ -164,25 +179,33 @@ module _ {A : Type 0} (m : Reader A) (s : List ℕ) (c : Cursor) (inList : InLis
       → Meets s c b b sh (no n p) (m (c .row) (stream s c))
   meets-refused b ts n p e q = meets-as (ap (m (c .row)) e ∙ q) (refuses [] refl)
 
-  module _ (t : Token) (l : LeafAt s (c .at) t) (d : Cursor) (b0 b1 : List ℕ) (r : ℕ) (e : d ≡ pastOf c t) (q : b1 ≡ set b0 (c .row) r) where
+  module _ (t : Token) (l : LeafAt s (c .at) t) (d : Cursor) (b0 b1 : List ℕ) (r : ℕ) (e : d ≡ pastOf c t)
+      (q : b1 ≡ set b0 (c .row) r) where
     pub leaf-taken : Moved s c d (r ∷ []) (stream s d) b0 b1
-    leaf-taken = subst⁻¹ (λ (x : Cursor). Moved s c x (r ∷ []) (stream s x) b0 b1) e (subst⁻¹ (λ (b : List ℕ). Moved s c (pastOf c t) (r ∷ []) (stream s (pastOf c t)) b0 b) q (leaf-moved s c t inList b0 r l))
+    leaf-taken = subst⁻¹ (λ (x : Cursor). Moved s c x (r ∷ []) (stream s x) b0 b1) e
+        (subst⁻¹ (λ (b : List ℕ). Moved s c (pastOf c t) (r ∷ []) (stream s (pastOf c t)) b0 b) q
+        (leaf-moved s c t inList b0 r l))
 
     -- it takes the token
-    pub meets-leaf : (a : A) → m (c .row) (leaf (rowOf s t) (at s (t .next) .here)) ≡ took a (r ∷ []) (at s (t .next) .here) → sh a → Meets s c b0 b1 sh (on d) (m (c .row) (stream s c))
+    pub meets-leaf : (a : A) → m (c .row) (leaf (rowOf s t) (at s (t .next) .here)) ≡
+        took a (r ∷ []) (at s (t .next) .here) → sh a → Meets s c b0 b1 sh (on d) (m (c .row) (stream s c))
     meets-leaf a k h =
         let f = ap (λ (x : Cursor). stream s x) e in
         meets-as (ap (m (c .row)) (l .here) ∙ k ∙ ap (took a (r ∷ [])) (sym f)) (stands leaf-taken h)
 
     -- it takes the token and goes on
-    pub meets-from : (b2 : List ℕ) (x : Said) (k : Reader A) → m (c .row) (leaf (rowOf s t) (at s (t .next) .here)) ≡ onward (r ∷ []) (k (c .row + 1) (at s (t .next) .here))
+    pub meets-from : (b2 : List ℕ) (x : Said) (k : Reader A) →
+        m (c .row) (leaf (rowOf s t) (at s (t .next) .here)) ≡ onward (r ∷ []) (k (c .row + 1) (at s (t .next) .here))
         → Meets s d b1 b2 sh x (k (d .row) (stream s d)) → Meets s c b0 b2 sh x (m (c .row) (stream s c))
     meets-from b2 x k f g =
-        meets-as (ap (m (c .row)) (l .here) ∙ f ∙ ap (λ (y : Cursor). onward (r ∷ []) (k (y .row) (stream s y))) (sym e)) (meets-onward leaf-taken g)
+        meets-as (ap (m (c .row)) (l .here) ∙ f ∙ ap (λ (y : Cursor). onward (r ∷ []) (k (y .row) (stream s y)))
+        (sym e)) (meets-onward leaf-taken g)
 
-  module _ (t : Token) (g : GroupAt s (c .at) t) (d : Cursor) (b0 b1 rs : List ℕ) (moved : Moved s c d rs (head (at s (t .next) .outer)) b0 b1) where
+  module _ (t : Token) (g : GroupAt s (c .at) t) (d : Cursor) (b0 b1 rs : List ℕ)
+      (moved : Moved s c d rs (head (at s (t .next) .outer)) b0 b1) where
     -- it takes the group
-    pub meets-group : (a : A) → m (c .row) (group (t .mark) (at s (t .next) .here) (head (at s (t .next) .outer))) ≡ took a rs (head (at s (t .next) .outer)) → sh a
+    pub meets-group : (a : A) → m (c .row) (group (t .mark) (at s (t .next) .here) (head (at s (t .next) .outer))) ≡
+        took a rs (head (at s (t .next) .outer)) → sh a
         → Meets s c b0 b1 sh (on d) (m (c .row) (stream s c))
     meets-group a k h = meets-as (ap (m (c .row)) (group-stream s c t inList g) ∙ k) (stands moved h)
 
@@ -198,7 +221,8 @@ module _ {A : Type 0} (m : Reader A) (s : List ℕ) (c : Cursor) (inList : InLis
         (meets-onward moved n)
 
 -- past the closing row of a group, from before a token in it
-pub leaf-skipped : (s : List ℕ) (c d : Cursor) (t : Token) → LeafAt s (c .at) t → Skipped s (pastOf c t) d → Skipped s c d
+pub leaf-skipped : (s : List ℕ) (c d : Cursor) (t : Token) → LeafAt s (c .at) t → Skipped s (pastOf c t) d →
+    Skipped s c d
 leaf-skipped s c d t l k =
     let z = ap size (l .here) in
     record {
@@ -216,16 +240,19 @@ lone-not p r (group d ts us) e = refl
 pub lone-other : (p : Row → Bool) (ts us : Trees) (r : Row) → ts ≡ leaf r us → p r ≡ false → lone p ts ≡ false
 lone-other p ts us r e q = ap (lone p) e ∙ lone-not p r us q
 
-pub leaf-then : (s : List ℕ) (c d : Cursor) (t : Token) (us : Trees) → LeafAt s (c .at) t → d ≡ pastOf c t → stream s d ≡ us → stream s c ≡ leaf (rowOf s t) us
+pub leaf-then : (s : List ℕ) (c d : Cursor) (t : Token) (us : Trees) → LeafAt s (c .at) t → d ≡ pastOf c t →
+    stream s d ≡ us → stream s c ≡ leaf (rowOf s t) us
 leaf-then s c d t us l e n = l .here ∙ ap (leaf (rowOf s t)) (sym (ap (λ (x : Cursor). stream s x) e) ∙ n)
 
 -- the test for a punctuation, on the token
-pub punct-of : (s : List ℕ) (i : ℕ) (t : Token) (b : ℕ) → TokenAt s i t → isPunct b (rowOf s t) ≡ (eqb (t .kind) 112 && eqb (t .mark) b)
+pub punct-of : (s : List ℕ) (i : ℕ) (t : Token) (b : ℕ) → TokenAt s i t →
+    isPunct b (rowOf s t) ≡ (eqb (t .kind) 112 && eqb (t .mark) b)
 punct-of s i t b k = ap (λ (m : ℕ). eqb (t .kind) 112 && eqb m b) (sym (k .mark))
 
 -- ## Readers that go round: what was `was` at the cursor `from` is `is` at c
 
-pub record Going {A : Type 0} (s : List ℕ) (from : Cursor) (before : List ℕ) (c : Cursor) (now : List ℕ) (was is : Took A) : Type 0 where
+pub record Going {A : Type 0} (s : List ℕ) (from : Cursor) (before : List ℕ) (c : Cursor) (now : List ℕ)
+    (was is : Took A) : Type 0 where
   pub taken : List ℕ
   pub moved : Moved s from c taken (stream s c) before now
   pub same : was ≡ onward taken is
@@ -241,7 +268,8 @@ onward-append rs qs (refuse n p) = refl
 pub going-start : {A : Type 0} (s : List ℕ) (c : Cursor) (b : List ℕ) (t : Took A) → InList s c → Going s c b c b t t
 going-start s c b t i = record { taken = []; moved = moved-none s c b i; same = sym (onward-none t) }
 
-pub going-more : {A : Type 0} {s : List ℕ} {from c d : Cursor} {b0 b1 b2 : List ℕ} {t u v : Took A} → Going s from b0 c b1 t u → Belonged s c d b1 b2 u v → Going s from b0 d b2 t v
+pub going-more : {A : Type 0} {s : List ℕ} {from c d : Cursor} {b0 b1 b2 : List ℕ} {t u v : Took A} →
+    Going s from b0 c b1 t u → Belonged s c d b1 b2 u v → Going s from b0 d b2 t v
 going-more {v = v} k g =
     record {
       taken = k .taken ++ g .roles;
@@ -249,7 +277,8 @@ going-more {v = v} k g =
       same = k .same ∙ ap (onward (k .taken)) (g .same) ∙ onward-append (k .taken) (g .roles) v;
     }
 
-pub going-ends : {A : Type 0} {s : List ℕ} {from c : Cursor} {b0 b1 b2 : List ℕ} {t u : Took A} {sh : A → Type 0} (a : A)
+pub going-ends : {A : Type 0} {s : List ℕ} {from c : Cursor} {b0 b1 b2 : List ℕ} {t u : Took A} {sh : A → Type 0}
+    (a : A)
     → Going s from b0 c b1 t u → u ≡ took a [] (stream s c) → b2 ≡ b1 → sh a → Meets s from b0 b2 sh (on c) t
 going-ends {s = s} {from} {c} {b0} {b1} {t = t} {sh = sh} a k e q h =
     subst⁻¹ (λ b. Meets s from b0 b sh (on c) t) q
@@ -257,38 +286,48 @@ going-ends {s = s} {from} {c} {b0} {b1} {t = t} {sh = sh} a k e q h =
     (meets-onward (k .moved) (meets-stay s c b1 sh a (k .moved .inList) h)))
 
 -- the last part of it meets what is left
-pub going-meets : {A : Type 0} {s : List ℕ} {from c : Cursor} {b0 b1 b2 : List ℕ} {t u : Took A} {sh : A → Type 0} {x : Said}
+pub going-meets : {A : Type 0} {s : List ℕ} {from c : Cursor} {b0 b1 b2 : List ℕ} {t u : Took A} {sh : A → Type 0}
+    {x : Said}
     → Going s from b0 c b1 t u → Meets s c b1 b2 sh x u → Meets s from b0 b2 sh x t
 going-meets k m = meets-as (k .same) (meets-onward (k .moved) m)
 
-pub going-length : {A : Type 0} {s : List ℕ} {from c : Cursor} {b0 b1 : List ℕ} {t u : Took A} → Going s from b0 c b1 t u → length b1 ≡ length b0
+pub going-length : {A : Type 0} {s : List ℕ} {from c : Cursor} {b0 b1 : List ℕ} {t u : Took A} →
+    Going s from b0 c b1 t u → length b1 ≡ length b0
 going-length k = ap length (k .moved .roles) ∙ simp length-sets
 
 -- ## Words
 
-module _ {B : Type 0} (f : Word → Reader B) {s : List ℕ} {c : Cursor} {b0 b1 b2 : List ℕ} {sh : B → Type 0} {x : Said} {t : Took Word} where
+module _ {B : Type 0} (f : Word → Reader B) {s : List ℕ} {c : Cursor} {b0 b1 b2 : List ℕ} {sh : B → Type 0} {x : Said}
+    {t : Took Word} where
   pub meets-word : (w : WordAt) → Meets s c b0 b1 (wordShown s c (words.Found w)) (on (w .next)) t
-      → ((text : List ℕ) → TextOf s (w .token) text → TokenIn s (wordRow (point s c)) (w .token) → Meets s (w .next) b1 b2 sh x (f (found text (w .row)) (w .next .row) (stream s (w .next))))
+      → ((text : List ℕ) → TextOf s (w .token) text → TokenIn s (wordRow (point s c)) (w .token) →
+      Meets s (w .next) b1 b2 sh x (f (found text (w .row)) (w .next .row) (stream s (w .next))))
       → Meets s c b0 b2 sh x (after (c .row) t f)
-  meets-word w m k = meets-then f m (λ a h. subst⁻¹ (λ (y : Word). Meets s (w .next) b1 b2 sh x (f y (w .next .row) (stream s (w .next)))) (h .2) (k (h .0) (h .1) (h .3)))
+  meets-word w m k = meets-then f m (λ a h. subst⁻¹ (λ (y : Word). Meets s (w .next) b1 b2 sh x
+      (f y (w .next .row) (stream s (w .next)))) (h .2) (k (h .0) (h .1) (h .3)))
 
-  pub meets-missing : Meets s c b0 b1 (wordShown s c words.Missing) (on c) t → Meets s c b1 b2 sh x (f missing (c .row) (stream s c)) → Meets s c b0 b2 sh x (after (c .row) t f)
-  meets-missing m k = meets-then f m (λ a h. subst⁻¹ (λ (y : Word). Meets s c b1 b2 sh x (f y (c .row) (stream s c))) h k)
+  pub meets-missing : Meets s c b0 b1 (wordShown s c words.Missing) (on c) t →
+      Meets s c b1 b2 sh x (f missing (c .row) (stream s c)) → Meets s c b0 b2 sh x (after (c .row) t f)
+  meets-missing m k =
+      meets-then f m (λ a h. subst⁻¹ (λ (y : Word). Meets s c b1 b2 sh x (f y (c .row) (stream s c))) h k)
 
 -- a refusal at what stands at the cursor
 pub meets-wrong : {A : Type 0} {s : List ℕ} {c : Cursor} {b : List ℕ} {sh : A → Type 0} (r : Refusal) (n : ℕ)
-    → (r .number ≡ n) × (r .place ≡ placeOf (c .row) (stream s c)) → Meets s c b b sh (refusal r) (refuse n (placeOf (c .row) (stream s c)))
+    → (r .number ≡ n) × (r .place ≡ placeOf (c .row) (stream s c)) →
+    Meets s c b b sh (refusal r) (refuse n (placeOf (c .row) (stream s c)))
 meets-wrong r n e = meets-say (λ i. no (sym (e .0) i) (sym (e .1) i)) (refuses [] refl)
 
 -- ## Readers in a row may be bracketed otherwise
 
-after-onward : {A B : Type 0} (row : ℕ) (rs : List ℕ) (t : Took A) (g : A → Reader B) → after row (onward rs t) g ≡ onward rs (after (row + length rs) t g)
+after-onward : {A B : Type 0} (row : ℕ) (rs : List ℕ) (t : Took A) (g : A → Reader B) →
+    after row (onward rs t) g ≡ onward rs (after (row + length rs) t g)
 after-onward row rs (took a qs us) g =
     let e : row + length (rs ++ qs) ≡ row + length rs + length qs = omega (arith, length-append rs qs) in
     ap (λ (k : ℕ). onward (rs ++ qs) (g a k us)) e ∙ sym (onward-append rs qs (g a (row + length rs + length qs) us))
 after-onward row rs (refuse n p) g = refl
 
-pub after-assoc : {A B C : Type 0} (row : ℕ) (t : Took A) (f : A → Reader B) (g : B → Reader C) → after row (after row t f) g ≡ after row t (λ a. f a >>= g)
+pub after-assoc : {A B C : Type 0} (row : ℕ) (t : Took A) (f : A → Reader B) (g : B → Reader C) →
+    after row (after row t f) g ≡ after row t (λ a. f a >>= g)
 after-assoc row (took a rs us) f g = after-onward row rs (f a (row + length rs) us) g
 after-assoc row (refuse n p) f g = refl
 
@@ -309,26 +348,31 @@ lone-no-word t (leaf r (leaf q us)) e = refl
 lone-no-word t (leaf r (group d ts us)) e = refl
 
 -- what a word's reader answered
-pub say-word : {s : List ℕ} {c : Cursor} {b0 b1 : List ℕ} {t : Took Word} {p q : MaybeWord} → p ≡ q → Meets s c b0 b1 (wordShown s c p) (wordSaid c p) t → Meets s c b0 b1 (wordShown s c q) (wordSaid c q) t
+pub say-word : {s : List ℕ} {c : Cursor} {b0 b1 : List ℕ} {t : Took Word} {p q : MaybeWord} → p ≡ q →
+    Meets s c b0 b1 (wordShown s c p) (wordSaid c p) t → Meets s c b0 b1 (wordShown s c q) (wordSaid c q) t
 say-word {s} {c} {b0} {b1} {t} e m = subst (λ (p : MaybeWord). Meets s c b0 b1 (wordShown s c p) (wordSaid c p) t) e m
 
-pub word-within : {s : List ℕ} {c : Cursor} {b0 b1 : List ℕ} {t : Took Word} (w : WordAt) → Meets s c b0 b1 (wordShown s c (words.Found w)) (on (w .next)) t → w .token .end ≤ length s
+pub word-within : {s : List ℕ} {c : Cursor} {b0 b1 : List ℕ} {t : Took Word} (w : WordAt) →
+    Meets s c b0 b1 (wordShown s c (words.Found w)) (on (w .next)) t → w .token .end ≤ length s
 word-within w (stands m h) = h .1 .within
 
 -- what a reader answered, by its own enum
-pub say : {R A : Type 0} (sh : R → A → Type 0) (f : R → Said) {s : List ℕ} {c : Cursor} {b0 b1 : List ℕ} {t : Took A} {p q : R}
+pub say : {R A : Type 0} (sh : R → A → Type 0) (f : R → Said) {s : List ℕ} {c : Cursor} {b0 b1 : List ℕ} {t : Took A}
+    {p q : R}
     → p ≡ q → Meets s c b0 b1 (sh p) (f p) t → Meets s c b0 b1 (sh q) (f q) t
 say {R} sh f {s} {c} {b0} {b1} {t} e m = subst (λ (x : R). Meets s c b0 b1 (sh x) (f x) t) e m
 
 -- the value made into another
-pub meets-map : {A B : Type 0} {s : List ℕ} {c : Cursor} {b0 b1 : List ℕ} {sh : A → Type 0} {sh2 : B → Type 0} {x : Said} {t : Took A} (row : ℕ) (f : A → B)
+pub meets-map : {A B : Type 0} {s : List ℕ} {c : Cursor} {b0 b1 : List ℕ} {sh : A → Type 0} {sh2 : B → Type 0}
+    {x : Said} {t : Took A} (row : ℕ) (f : A → B)
     → ((a : A) → sh a → sh2 (f a)) → Meets s c b0 b1 sh x t → Meets s c b0 b1 sh2 x (after row t (λ a. pure (f a)))
 meets-map {s = s} {c} {b0} {b1} {sh2 = sh2} row f g (stands {d = d} {a = a} {rs = rs} {us = us} m h) =
     subst⁻¹ (λ (qs : List ℕ). Meets s c b0 b1 sh2 (on d) (took (f a) qs us)) (append-nil rs) (stands m (g a h))
 meets-map row f g (refuses qs e) = refuses qs e
 
 -- a run with what it holds
-pub meets-kept : {s : List ℕ} {c : Cursor} {b0 b1 : List ℕ} {sh : Ending → Type 0} {x : Said} {t : Took Ending} (ts : Trees) → Meets s c b0 b1 sh x t → Meets s c b0 b1 any x (kept ts t)
+pub meets-kept : {s : List ℕ} {c : Cursor} {b0 b1 : List ℕ} {sh : Ending → Type 0} {x : Said} {t : Took Ending}
+    (ts : Trees) → Meets s c b0 b1 sh x t → Meets s c b0 b1 any x (kept ts t)
 meets-kept ts (stands m h) = stands m tt
 meets-kept ts (refuses qs e) = refuses qs e
 
@@ -339,14 +383,18 @@ pub group-not-end : {d : ℕ} {ts us : Trees} → group d ts us ≡ end → ⊥
 group-not-end e = let z : _≡_ {A = ℕ} 0 1 = cc in omega arith
 
 -- of a refusal nothing is shown
-pub meets-none : {A : Type 0} {s : List ℕ} {c : Cursor} {b0 b1 : List ℕ} {sh sh2 : A → Type 0} {n p : ℕ} {t : Took A} → Meets s c b0 b1 sh (no n p) t → Meets s c b0 b1 sh2 (no n p) t
+pub meets-none : {A : Type 0} {s : List ℕ} {c : Cursor} {b0 b1 : List ℕ} {sh sh2 : A → Type 0} {n p : ℕ} {t : Took A} →
+    Meets s c b0 b1 sh (no n p) t → Meets s c b0 b1 sh2 (no n p) t
 meets-none (refuses qs e) = refuses qs e
 
 -- with the value, that it is read at c
-pub meets-inside : {A : Type 0} (m : Reader A) {s : List ℕ} {c : Cursor} {b0 b1 : List ℕ} {sh : A → Type 0} {x : Said} → InList s c
-    → Meets s c b0 b1 sh x (m (c .row) (stream s c)) → Meets s c b0 b1 (λ (a : A). sh a × InsideAt m s c a) x (m (c .row) (stream s c))
+pub meets-inside : {A : Type 0} (m : Reader A) {s : List ℕ} {c : Cursor} {b0 b1 : List ℕ} {sh : A → Type 0} {x : Said} →
+    InList s c
+    → Meets s c b0 b1 sh x (m (c .row) (stream s c)) →
+    Meets s c b0 b1 (λ (a : A). sh a × InsideAt m s c a) x (m (c .row) (stream s c))
 meets-inside {A} m {s} {c} {b0} {b1} {sh} i w = go refl w
   where
-    go : {x : Said} {t : Took A} → m (c .row) (stream s c) ≡ t → Meets s c b0 b1 sh x t → Meets s c b0 b1 (λ (a : A). sh a × InsideAt m s c a) x t
+    go : {x : Said} {t : Took A} → m (c .row) (stream s c) ≡ t → Meets s c b0 b1 sh x t →
+        Meets s c b0 b1 (λ (a : A). sh a × InsideAt m s c a) x t
     go e (stands {rs = rs} {us = us} mv h) = stands mv (h, record { inList = i; roles = rs; rest = us; gives = e })
     go e (refuses qs q) = refuses qs q

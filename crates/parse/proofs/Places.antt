@@ -46,7 +46,8 @@ both-beyond {A} {B} m k x {b} {rs} {us} e = first (m (x .row) (x .stream)) e
     first (took a qs vs) q = second (k (x .row + length qs) vs) q
       where
         second : (t : Took B) → after (x .row) (took a qs vs) (λ a row us. t) ≡ took b rs us
-            → pastTaken x (after (x .row) (took a qs vs) (λ a row us. t)) ≡ pastTaken (record { row = x .row + length qs; stream = vs }) t
+            → pastTaken x (after (x .row) (took a qs vs) (λ a row us. t)) ≡
+            pastTaken (record { row = x .row + length qs; stream = vs }) t
         second (refuse n p) q = refused q
         second (took c ps ws) q =
             let n : x .row + length (qs ++ ps) ≡ x .row + length qs + length ps = omega (arith, length-append qs ps) in
@@ -71,7 +72,8 @@ module _ (s : List ℕ) (c : Cursor) (t : Token) (i : InList s c) where
   ident-leaf l = subst⁻¹ (λ (n : ℕ). TokenIn s n t) (ap (identRow (c .row)) (l .here)) (token-in (l .token))
 
 -- the ident in a group that opens at c
-pub ident-group : (s : List ℕ) (c : Cursor) (g t : Token) → GroupAt s (c .at) g → TokenIn s (c .row + 1) t → TokenIn s (wordRow (point s c)) t
+pub ident-group : (s : List ℕ) (c : Cursor) (g t : Token) → GroupAt s (c .at) g → TokenIn s (c .row + 1) t →
+    TokenIn s (wordRow (point s c)) t
 ident-group s c g t k h = subst⁻¹ (λ (n : ℕ). TokenIn s n t) (ap (identRow (c .row)) (k .here)) h
 
 -- the same token from an equal point
@@ -83,22 +85,26 @@ word-at s t e h = subst (λ (x : Point). TokenIn s (wordRow x) t) e h
 module _ (s : List ℕ) (c d : Cursor) (t : Token) (l : LeafAt s (c .at) t) where
   name-row : {b : Bool} → marksName (rowOf s t) ≡ b → parameterNameRow (point s c) ≡ cond b (c .row + 1) (c .row)
   name-row {b} q =
-      ap (λ (ts : Trees). cond (starts marksName ts) (c .row + 1) (c .row)) (l .here) ∙ ap (λ (x : Bool). cond x (c .row + 1) (c .row)) q
+      ap (λ (ts : Trees). cond (starts marksName ts) (c .row + 1) (c .row)) (l .here) ∙
+      ap (λ (x : Bool). cond x (c .row + 1) (c .row)) q
 
   pub after-quote : d ≡ pastOf c t → isPunct 39 (rowOf s t) ≡ true → d .row ≡ parameterNameRow (point s c)
   after-quote e q = ap (λ (x : Cursor). x .row) e ∙ sym (name-row (ap (λ (b : Bool). b || isWord CONST (rowOf s t)) q))
 
-  pub after-const : d ≡ pastOf c t → isPunct 39 (rowOf s t) ≡ false → isWord CONST (rowOf s t) ≡ true → d .row ≡ parameterNameRow (point s c)
+  pub after-const : d ≡ pastOf c t → isPunct 39 (rowOf s t) ≡ false → isWord CONST (rowOf s t) ≡ true →
+      d .row ≡ parameterNameRow (point s c)
   after-const e q r = ap (λ (x : Cursor). x .row) e ∙ sym (name-row (λ i. q i || r i))
 
-  pub name-itself : isPunct 39 (rowOf s t) ≡ false → isWord CONST (rowOf s t) ≡ false → c .row ≡ parameterNameRow (point s c)
+  pub name-itself : isPunct 39 (rowOf s t) ≡ false → isWord CONST (rowOf s t) ≡ false →
+      c .row ≡ parameterNameRow (point s c)
   name-itself q r = sym (name-row (λ i. q i || r i))
 
 -- ## A value's literal
 
 -- a negative's literal stands past the `-`
 data PastMinus : Took Value → Type 0 where
-  negative : {v : Value} {rs : List ℕ} {us : Trees} → ((row : ℕ) → literalRow row v ≡ row + 1) → PastMinus (took v rs us)
+  negative : {v : Value} {rs : List ℕ} {us : Trees} → ((row : ℕ) → literalRow row v ≡ row + 1) →
+      PastMinus (took v rs us)
   refused : {n p : ℕ} → PastMinus (refuse n p)
 
 choice : (b : Bool) {t u : Took Value} → PastMinus t → PastMinus u → PastMinus (cond b t u)
@@ -110,11 +116,13 @@ past-minus row end = refused
 past-minus row (group d ts us) = refused
 past-minus row (leaf r us) = choice (isLiteral r) (choice (negatable (r .text)) (negative (λ n. refl)) refused) refused
 
-literal-past : {v : Value} {rs : List ℕ} {us : Trees} → PastMinus (took v rs us) → (row : ℕ) → literalRow row v ≡ row + 1
+literal-past : {v : Value} {rs : List ℕ} {us : Trees} → PastMinus (took v rs us) → (row : ℕ) →
+    literalRow row v ≡ row + 1
 literal-past (negative h) = h
 
 -- the same value, with its literal's row said otherwise
-pub value-as : (s : List ℕ) (r : ValueStep) (f g : Value → ℕ) (v : Value) → g v ≡ f v → valueShown s f r v → valueShown s g r v
+pub value-as : (s : List ℕ) (r : ValueStep) (f g : Value → ℕ) (v : Value) → g v ≡ f v → valueShown s f r v →
+    valueShown s g r v
 value-as s (valueSteps.At w d) f g v e h = (h .0, subst⁻¹ (λ (n : ℕ). ValueIn s n w) e (h .1))
 value-as s (valueSteps.Refused r) f g v e h = h
 
@@ -123,7 +131,8 @@ pub value-past-minus : {s : List ℕ} {d : Cursor} {b0 b1 : List ℕ} (r : Value
     → Meets s d b0 b1 (valueShown s (literalRow row) r) (valueSaid r) (negativeValue (d .row) (stream s d))
 value-past-minus {s} {d} {b0} {b1} r row q m = go refl m
   where
-    go : {t : Took Value} {x : Said} → negativeValue (d .row) (stream s d) ≡ t → Meets s d b0 b1 (valueShown s (λ v. d .row) r) x t
+    go : {t : Took Value} {x : Said} → negativeValue (d .row) (stream s d) ≡ t →
+        Meets s d b0 b1 (valueShown s (λ v. d .row) r) x t
         → Meets s d b0 b1 (valueShown s (literalRow row) r) x t
     go e (stands {a = v} mv h) =
         let past = literal-past (subst PastMinus e (past-minus (d .row) (stream s d))) row in

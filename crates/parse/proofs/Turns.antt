@@ -18,7 +18,8 @@ use Rattle.parse.proofs.Meeting.{leaf-taken, group-stream, Going, going
 
 pub judge-of : (st : Stops) (depth : ℕ) (m : Bool) (s : List ℕ) (i : ℕ) (t : Token) → TokenAt s i t
     → judge st depth m (rowOf s t) ≡ cond (eqb (t .kind) 112) (judgePunct st depth m (t .mark)) (belongs depth false)
-judge-of st depth m s i t k = ap (λ (b : ℕ). cond (eqb (t .kind) 112) (judgePunct st depth m b) (belongs depth false)) (sym (k .mark))
+judge-of st depth m s i t k =
+    ap (λ (b : ℕ). cond (eqb (t .kind) 112) (judgePunct st depth m b) (belongs depth false)) (sym (k .mark))
 
 -- a token takes the depth up by one at most
 depthOf : Verdict → ℕ
@@ -35,7 +36,9 @@ deepened st depth m r =
   where
     go : (p a o c z x k : Bool)
         → depthOf
-        (cond p (cond a (belongs depth false) (cond o (belongs (depth + 1) false) (cond c (cond z (cond x (ends atAngle) unopened) (belongs (depth - 1) false)) (cond k (ends atComma) (belongs depth (eqb (first (r .text)) 45)))))) (belongs depth false)) ≤ depth + 1
+        (cond p (cond a (belongs depth false) (cond o (belongs (depth + 1) false)
+        (cond c (cond z (cond x (ends atAngle) unopened) (belongs (depth - 1) false))
+        (cond k (ends atComma) (belongs depth (eqb (first (r .text)) 45)))))) (belongs depth false)) ≤ depth + 1
     go false a o c z x k = omega arith
     go true true o c z x k = omega arith
     go true false true c z x k = omega arith
@@ -51,7 +54,8 @@ deep-after st depth e m n r q = subst (λ (v : Verdict). depthOf v ≤ depth + 1
 
 pub deep-after-group : (st : Stops) (depth e d : ℕ) (n : Bool) → judgeGroup st depth d ≡ belongs e n → e ≤ depth
 unfolding depthOf
-deep-after-group st depth e d n q = subst (λ (v : Verdict). depthOf v ≤ depth) q (go (eqb depth 0 && (st .group && (eqb d 123 || eqb d 40))))
+deep-after-group st depth e d n q =
+    subst (λ (v : Verdict). depthOf v ≤ depth) q (go (eqb depth 0 && (st .group && (eqb d 123 || eqb d 40))))
   where
     go : (b : Bool) → depthOf (cond b (ends atGroup) (belongs depth false)) ≤ depth
     go true = omega arith
@@ -72,16 +76,19 @@ module _ (st : Stops) (r : ℕ) (s : List ℕ) (c : Cursor) (inList : InList s c
         (leaf (rowOf s t) (at s (t .next) .here)) (c .row)
     leaf-judged v q =
         ap (runFrom st r depth m (c .row)) (l .here)
-        ∙ ap (λ (x : Verdict). judged x (λ e n. onward (r ∷ []) (runFrom st r e n (c .row + 1) (at s (t .next) .here))) (leaf (rowOf s t) (at s (t .next) .here)) (c .row)) q
+        ∙ ap (λ (x : Verdict). judged x (λ e n. onward (r ∷ []) (runFrom st r e n (c .row + 1) (at s (t .next) .here)))
+        (leaf (rowOf s t) (at s (t .next) .here)) (c .row)) q
 
-    pub turn-leaf : (d : Cursor) (b0 b1 : List ℕ) (e : ℕ) (n : Bool) → d ≡ pastOf c t → b1 ≡ set b0 (c .row) r → judge st depth m (rowOf s t) ≡ belongs e n
+    pub turn-leaf : (d : Cursor) (b0 b1 : List ℕ) (e : ℕ) (n : Bool) → d ≡ pastOf c t → b1 ≡ set b0 (c .row) r →
+        judge st depth m (rowOf s t) ≡ belongs e n
         → Belonged s c d b0 b1 here (runFrom st r e n (d .row) (stream s d))
     turn-leaf d b0 b1 e n p q v =
         record {
           roles = r ∷ [];
           moved = leaf-taken (runFrom st r depth m) s c inList (λ x. Unit) t l d b0 b1 r p q;
           some = omega arith;
-          same = leaf-judged (belongs e n) v ∙ ap (λ (y : Cursor). onward (r ∷ []) (runFrom st r e n (y .row) (stream s y))) (sym p);
+          same = leaf-judged (belongs e n) v ∙ ap (λ (y : Cursor). onward (r ∷ [])
+              (runFrom st r e n (y .row) (stream s y))) (sym p);
         }
 
     pub turn-leaf-ends : (x : Ending) → judge st depth m (rowOf s t) ≡ ends x → here ≡ took x [] (stream s c)
@@ -102,9 +109,11 @@ module _ (st : Stops) (r : ℕ) (s : List ℕ) (c : Cursor) (inList : InList s c
         (group (t .mark) ins aft) (c .row)
     group-judged v q =
         ap (runFrom st r depth m (c .row)) (group-stream s c t inList g)
-        ∙ ap (λ (x : Verdict). judged x (λ e n. onward (copied r ins) (runFrom st r e n (c .row + whole ins) aft)) (group (t .mark) ins aft) (c .row)) q
+        ∙ ap (λ (x : Verdict). judged x (λ e n. onward (copied r ins) (runFrom st r e n (c .row + whole ins) aft))
+        (group (t .mark) ins aft) (c .row)) q
 
-    pub turn-group : (d : Cursor) (b0 b1 : List ℕ) (e : ℕ) (n : Bool) → Moved s c d (copied r ins) aft b0 b1 → judgeGroup st depth (t .mark) ≡ belongs e n
+    pub turn-group : (d : Cursor) (b0 b1 : List ℕ) (e : ℕ) (n : Bool) → Moved s c d (copied r ins) aft b0 b1 →
+        judgeGroup st depth (t .mark) ≡ belongs e n
         → Belonged s c d b0 b1 here (runFrom st r e n (d .row) (stream s d))
     turn-group d b0 b1 e n k v =
         let w : length (copied r ins) ≡ whole ins = length-replicate (whole ins) r in
@@ -125,9 +134,12 @@ module _ (st : Stops) (r : ℕ) (s : List ℕ) (c : Cursor) (inList : InList s c
 
 -- ## A whole run: it came from the cursor `from` to c
 
-pub record Running (s : List ℕ) (st : Stops) (r : ℕ) (from : Cursor) (before : List ℕ) (c : Cursor) (depth : ℕ) (m : Bool) (now : List ℕ) : Type 0 where
-  pub going : Going s from before c now (runFrom st r 0 false (from .row) (stream s from)) (runFrom st r depth m (c .row) (stream s c))
+pub record Running (s : List ℕ) (st : Stops) (r : ℕ) (from : Cursor) (before : List ℕ) (c : Cursor) (depth : ℕ)
+    (m : Bool) (now : List ℕ) : Type 0 where
+  pub going : Going s from before c now (runFrom st r 0 false (from .row) (stream s from))
+      (runFrom st r depth m (c .row) (stream s c))
   pub deep : depth ≤ c .at
 
-pub run-start : (s : List ℕ) (st : Stops) (r : ℕ) (c : Cursor) (b : List ℕ) → InList s c → Running s st r c b c 0 false b
+pub run-start : (s : List ℕ) (st : Stops) (r : ℕ) (c : Cursor) (b : List ℕ) → InList s c →
+    Running s st r c b c 0 false b
 run-start s st r c b i = record { going = going-start s c b _ i; deep = omega arith }

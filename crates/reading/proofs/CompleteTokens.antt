@@ -1,4 +1,5 @@
--- What the role grammar admits, the reader of that production takes, with the same roles: runs, attributes, visibility and words.
+-- What the role grammar admits, the reader of that production takes, with the same roles: runs, attributes, visibility
+-- and words.
 use mathlib.Core.Path.{_≡_, refl, ap, _∙_, sym, subst}
 use mathlib.Core.Bool.{Bool, true, false, cond, not, _&&_, _||_, false≢true}
 use mathlib.Core.List.{List, [], _∷_, _++_, append-nil}
@@ -34,16 +35,20 @@ Any a = Unit {0}
 
 -- ## Sequences
 
-pub same-as : {A : Type 0} {P : A → Type 0} {t u : Took A} {rs : List ℕ} {us : Trees} → t ≡ u → Taken P u rs us → Taken P t rs us
+pub same-as : {A : Type 0} {P : A → Type 0} {t u : Took A} {rs : List ℕ} {us : Trees} → t ≡ u → Taken P u rs us →
+    Taken P t rs us
 same-as e h = record { value = h .value; holds = h .holds; equal = e ∙ h .equal }
 
-pub taken-as : {A : Type 0} {P : A → Type 0} {t : Took A} (a : A) (rs : List ℕ) (us : Trees) → P a → t ≡ took a rs us → Taken P t rs us
+pub taken-as : {A : Type 0} {P : A → Type 0} {t : Took A} (a : A) (rs : List ℕ) (us : Trees) → P a → t ≡ took a rs us →
+    Taken P t rs us
 taken-as a rs us h e = record { value = a; holds = h; equal = e }
 
-pub onward-taken : {A : Type 0} {P : A → Type 0} {t : Took A} {qs : List ℕ} {us : Trees} (rs : List ℕ) → Taken P t qs us → Taken P (onward rs t) (rs ++ qs) us
+pub onward-taken : {A : Type 0} {P : A → Type 0} {t : Took A} {qs : List ℕ} {us : Trees} (rs : List ℕ) →
+    Taken P t qs us → Taken P (onward rs t) (rs ++ qs) us
 onward-taken rs h = record { value = h .value; holds = h .holds; equal = ap (onward rs) (h .equal) }
 
-pub and-then : {A B : Type 0} {P : A → Type 0} {Q : B → Type 0} {m : Reader A} {f : A → Reader B} {ts us vs : Trees} {rs qs : List ℕ}
+pub and-then : {A B : Type 0} {P : A → Type 0} {Q : B → Type 0} {m : Reader A} {f : A → Reader B} {ts us vs : Trees}
+    {rs qs : List ℕ}
     → Takes P m ts us rs → ((a : A) → P a → Takes Q (f a) us vs qs) → Takes Q (m >>= f) ts vs (rs ++ qs)
 and-then {Q = Q} {m = m} {f = f} {ts = ts} {us = us} {vs = vs} {rs = rs} {qs = qs} h k = record { from = go }
   where
@@ -51,10 +56,16 @@ and-then {Q = Q} {m = m} {f = f} {ts = ts} {us = us} {vs = vs} {rs = rs} {qs = q
     go row =
         let a = h .from row in
         let b = k (a .value) (a .holds) .from (row + length rs) in
-        record { value = b .value; holds = b .holds; equal = ap (λ t. after row t f) (a .equal) ∙ ap (onward rs) (b .equal) }
+        record {
+          value = b .value;
+          holds = b .holds;
+          equal = ap (λ t. after row t f) (a .equal) ∙ ap (onward
+              rs) (b .equal);
+        }
 
 -- the same roles, written otherwise
-pub with-roles : {A : Type 0} {P : A → Type 0} {m : Reader A} {rs qs : List ℕ} {ts us : Trees} → rs ≡ qs → Takes P m ts us rs → Takes P m ts us qs
+pub with-roles : {A : Type 0} {P : A → Type 0} {m : Reader A} {rs qs : List ℕ} {ts us : Trees} → rs ≡ qs →
+    Takes P m ts us rs → Takes P m ts us qs
 with-roles {P = P} {m = m} {ts = ts} {us = us} e h = subst (λ (rs : List ℕ). Takes P m ts us rs) e h
 
 pub pure-takes : {A : Type 0} {P : A → Type 0} (a : A) (us : Trees) → P a → Takes P (pure a) us us []
@@ -102,35 +113,46 @@ judging depth minus k lt gt co z cm ang mi =
     (belongs depth false)
 
 module _ (st : Stops) (depth : ℕ) (q : Row) where
-  judged-by : {k lt gt co z cm ang : Bool} (minus : Bool) → eqb (q .kind) 112 ≡ k → eqb (first (q .text)) 60 ≡ lt → eqb (first (q .text)) 62 ≡ gt
+  judged-by : {k lt gt co z cm ang : Bool} (minus : Bool) → eqb (q .kind) 112 ≡ k → eqb (first (q .text)) 60 ≡ lt →
+      eqb (first (q .text)) 62 ≡ gt
       → eqb (first (q .text)) 44 ≡ co
-      → eqb depth 0 ≡ z → st .comma ≡ cm → st .angle ≡ ang → r.judge st depth minus q ≡ judging depth minus k lt gt co z cm ang (eqb (first (q .text)) 45)
-  judged-by minus a b c d e f h = λ i. judging depth minus (a i) (b i) (c i) (d i) (e i) (f i) (h i) (eqb (first (q .text)) 45)
+      → eqb depth 0 ≡ z → st .comma ≡ cm → st .angle ≡ ang →
+      r.judge st depth minus q ≡ judging depth minus k lt gt co z cm ang (eqb (first (q .text)) 45)
+  judged-by minus a b c d e f h =
+      λ i. judging depth minus (a i) (b i) (c i) (d i) (e i) (f i) (h i) (eqb (first (q .text)) 45)
 
   judge-arrow : isPunct 62 q ≡ true → r.judge st depth true q ≡ belongs depth false
   judge-arrow e = let p = punct-parts 62 q e in judged-by true (p .0) refl (p .1) refl refl refl refl
 
   judge-deeper : (minus : Bool) → isPunct 60 q ≡ true → r.judge st depth minus q ≡ belongs (depth + 1) false
-  judge-deeper true e = let p = punct-parts 60 q e in judged-by true (p .0) (p .1) (eqb-other (first (q .text)) 60 62 (p .1) refl) refl refl refl refl
+  judge-deeper true e = let p = punct-parts 60 q e in judged-by true (p .0) (p .1)
+      (eqb-other (first (q .text)) 60 62 (p .1) refl) refl refl refl refl
   judge-deeper false e = let p = punct-parts 60 q e in judged-by false (p .0) (p .1) refl refl refl refl refl
 
   judge-back : isPunct 62 q ≡ true → eqb depth 0 ≡ false → r.judge st depth false q ≡ belongs (depth - 1) false
-  judge-back e z = let p = punct-parts 62 q e in judged-by false (p .0) (eqb-other (first (q .text)) 62 60 (p .1) refl) (p .1) refl z refl refl
+  judge-back e z = let p = punct-parts 62 q e in judged-by false (p .0) (eqb-other (first (q .text)) 62 60 (p .1) refl)
+      (p .1) refl z refl refl
 
   judge-angle : isPunct 62 q ≡ true → eqb depth 0 ≡ true → st .angle ≡ true → r.judge st depth false q ≡ ends r.atAngle
-  judge-angle e z h = let p = punct-parts 62 q e in judged-by false (p .0) (eqb-other (first (q .text)) 62 60 (p .1) refl) (p .1) refl z refl h
+  judge-angle e z h = let p = punct-parts 62 q e in judged-by false (p .0)
+      (eqb-other (first (q .text)) 62 60 (p .1) refl) (p .1) refl z refl h
 
-  judge-comma : (minus : Bool) → isPunct 44 q ≡ true → eqb depth 0 ≡ true → st .comma ≡ true → r.judge st depth minus q ≡ ends r.atComma
+  judge-comma : (minus : Bool) → isPunct 44 q ≡ true → eqb depth 0 ≡ true → st .comma ≡ true →
+      r.judge st depth minus q ≡ ends r.atComma
   judge-comma true e z h =
-      let p = punct-parts 44 q e in judged-by true (p .0) (eqb-other (first (q .text)) 44 60 (p .1) refl) (eqb-other (first (q .text)) 44 62 (p .1) refl) (p .1) z h refl
+      let p = punct-parts 44 q e in judged-by true (p .0) (eqb-other (first (q .text)) 44 60 (p .1) refl)
+      (eqb-other (first (q .text)) 44 62 (p .1) refl) (p .1) z h refl
   judge-comma false e z h =
-      let p = punct-parts 44 q e in judged-by false (p .0) (eqb-other (first (q .text)) 44 60 (p .1) refl) (eqb-other (first (q .text)) 44 62 (p .1) refl) (p .1) z h refl
+      let p = punct-parts 44 q e in judged-by false (p .0) (eqb-other (first (q .text)) 44 60 (p .1) refl)
+      (eqb-other (first (q .text)) 44 62 (p .1) refl) (p .1) z h refl
 
   judge-token : (minus : Bool) → g.ordinary st depth q ≡ true → r.judge st depth minus q ≡ belongs depth (isPunct 45 q)
-  judge-token minus = go minus (eqb (q .kind) 112) (eqb (first (q .text)) 60) (eqb (first (q .text)) 62) (eqb (first (q .text)) 44) (eqb depth 0) (st .comma)
+  judge-token minus = go minus (eqb (q .kind) 112) (eqb (first (q .text)) 60) (eqb (first (q .text)) 62)
+      (eqb (first (q .text)) 44) (eqb depth 0) (st .comma)
     where
       go : (minus k lt gt co z cm : Bool) → not (k && lt || k && gt || k && co && (z && cm)) ≡ true
-          → judging depth minus k lt gt co z cm (st .angle) (eqb (first (q .text)) 45) ≡ belongs depth (k && eqb (first (q .text)) 45)
+          → judging depth minus k lt gt co z cm (st .angle) (eqb (first (q .text)) 45) ≡
+          belongs depth (k && eqb (first (q .text)) 45)
       go minus false lt gt co z cm e = refl
       go minus true true gt co z cm e = absurd (false≢true e)
       go minus true false true co z cm e = absurd (false≢true e)
@@ -143,34 +165,52 @@ module _ (st : Stops) (depth : ℕ) (q : Row) where
       go false true false false false z cm e = refl
 
 module _ (st : Stops) (n : ℕ) where
-  run-step : (depth : ℕ) (minus : Bool) (q : Row) (us : Trees) (row : ℕ) {e : ℕ} {m : Bool} {vs : Trees} {rs : List ℕ} → r.judge st depth minus q ≡ belongs e m
-      → Taken Any (r.runFrom st n e m (row + 1) us) rs vs → Taken Any (r.runFrom st n depth minus row (leaf q us)) (n ∷ rs) vs
+  run-step : (depth : ℕ) (minus : Bool) (q : Row) (us : Trees) (row : ℕ) {e : ℕ} {m : Bool} {vs : Trees} {rs : List ℕ} →
+      r.judge st depth minus q ≡ belongs e m
+      → Taken Any (r.runFrom st n e m (row + 1) us) rs vs →
+      Taken Any (r.runFrom st n depth minus row (leaf q us)) (n ∷ rs) vs
   run-step depth minus q us row j h =
-      same-as (ap (λ (v : Verdict). r.judged v (λ e m. onward (n ∷ []) (r.runFrom st n e m (row + 1) us)) (leaf q us) row) j) (onward-taken (n ∷ []) h)
+      same-as (ap (λ (v : Verdict). r.judged v (λ e m. onward (n ∷ []) (r.runFrom st n e m (row + 1) us)) (leaf q us)
+      row) j) (onward-taken (n ∷ []) h)
 
-  run-ends : (depth : ℕ) (minus : Bool) (q : Row) (us : Trees) (row : ℕ) {e : Ending} → r.judge st depth minus q ≡ ends e
+  run-ends : (depth : ℕ) (minus : Bool) (q : Row) (us : Trees) (row : ℕ) {e : Ending} →
+      r.judge st depth minus q ≡ ends e
       → Taken Any (r.runFrom st n depth minus row (leaf q us)) [] (leaf q us)
-  run-ends depth minus q us row {e = e} j = taken-as e [] (leaf q us) tt (ap (λ (v : Verdict). r.judged v (λ e m. onward (n ∷ []) (r.runFrom st n e m (row + 1) us)) (leaf q us) row) j)
+  run-ends depth minus q us row {e = e} j = taken-as e [] (leaf q us) tt
+      (ap (λ (v : Verdict). r.judged v (λ e m. onward (n ∷ []) (r.runFrom st n e m (row + 1) us)) (leaf q us) row) j)
 
-  pub runFrom-complete : {depth : ℕ} {minus : Bool} {ts us : Trees} {rs : List ℕ} → g.Run everything st n depth minus ts us rs → (row : ℕ)
+  pub runFrom-complete : {depth : ℕ} {minus : Bool} {ts us : Trees} {rs : List ℕ} →
+      g.Run everything st n depth minus ts us rs → (row : ℕ)
       → Taken Any (r.runFrom st n depth minus row ts) rs us
-  runFrom-complete (g.Run.arrow {depth = depth} {q = q} {us = us} e h) row = run-step depth true q us row (judge-arrow st depth q e) (runFrom-complete h (row + 1))
-  runFrom-complete (g.Run.deeper {depth = depth} {minus = minus} {q = q} {us = us} e h) row = run-step depth minus q us row (judge-deeper st depth q minus e) (runFrom-complete h (row + 1))
-  runFrom-complete (g.Run.back {depth = depth} {q = q} {us = us} e z h) row = run-step depth false q us row (judge-back st depth q e z) (runFrom-complete h (row + 1))
-  runFrom-complete (g.Run.angle {depth = depth} {q = q} {us = us} e z h) row = run-ends depth false q us row (judge-angle st depth q e z h)
-  runFrom-complete (g.Run.comma {depth = depth} {minus = minus} {q = q} {us = us} e z h) row = run-ends depth minus q us row (judge-comma st depth q minus e z h)
+  runFrom-complete (g.Run.arrow {depth = depth} {q = q} {us = us} e h) row =
+      run-step depth true q us row (judge-arrow st depth q e) (runFrom-complete h (row + 1))
+  runFrom-complete (g.Run.deeper {depth = depth} {minus = minus} {q = q} {us = us} e h) row =
+      run-step depth minus q us row (judge-deeper st depth q minus e) (runFrom-complete h (row + 1))
+  runFrom-complete (g.Run.back {depth = depth} {q = q} {us = us} e z h) row =
+      run-step depth false q us row (judge-back st depth q e z) (runFrom-complete h (row + 1))
+  runFrom-complete (g.Run.angle {depth = depth} {q = q} {us = us} e z h) row =
+      run-ends depth false q us row (judge-angle st depth q e z h)
+  runFrom-complete (g.Run.comma {depth = depth} {minus = minus} {q = q} {us = us} e z h) row =
+      run-ends depth minus q us row (judge-comma st depth q minus e z h)
   runFrom-complete (g.Run.stop {depth = depth} {d = d} {ts = ts} {us = us} e) row =
       taken-as r.atGroup [] (group d ts us) tt
-      (ap (λ (b : Bool). r.judged (cond b (ends r.atGroup) (belongs depth false)) (λ e m. onward (copied n ts) (r.runFrom st n e m (row + r.whole ts) us)) (group d ts us) row) e)
-  runFrom-complete (g.Run.token {depth = depth} {minus = minus} {q = q} {us = us} e h) row = run-step depth minus q us row (judge-token st depth q minus e) (runFrom-complete h (row + 1))
+      (ap (λ (b : Bool). r.judged (cond b (ends r.atGroup) (belongs depth false))
+      (λ e m. onward (copied n ts) (r.runFrom st n e m (row + r.whole ts) us)) (group d ts us) row) e)
+  runFrom-complete (g.Run.token {depth = depth} {minus = minus} {q = q} {us = us} e h) row =
+      run-step depth minus q us row (judge-token st depth q minus e) (runFrom-complete h (row + 1))
   runFrom-complete (g.Run.inside {depth = depth} {d = d} {ts = ts} {us = us} e h) row =
       same-as
-      (ap (λ (b : Bool). r.judged (cond b (ends r.atGroup) (belongs depth false)) (λ e m. onward (copied n ts) (r.runFrom st n e m (row + r.whole ts) us)) (group d ts us) row) e)
+      (ap (λ (b : Bool). r.judged (cond b (ends r.atGroup) (belongs depth false))
+      (λ e m. onward (copied n ts) (r.runFrom st n e m (row + r.whole ts) us)) (group d ts us) row) e)
       (onward-taken (copied n ts) (runFrom-complete h (row + r.whole ts)))
   runFrom-complete (g.Run.ended e) row = taken-as r.atEnd [] end tt refl
 
-  pub run-complete : {ts us : Trees} {rs : List ℕ} → g.Run everything st n 0 false ts us rs → Takes Any (r.run st n) ts us rs
-  run-complete {ts} {us} {rs} h = record { from = λ row. taken-as (r.front ts (length rs)) rs us tt (ap (r.kept ts) (runFrom-complete h row .equal)) }
+  pub run-complete : {ts us : Trees} {rs : List ℕ} → g.Run everything st n 0 false ts us rs →
+      Takes Any (r.run st n) ts us rs
+  run-complete {ts} {us} {rs} h = record {
+    from = λ row. taken-as (r.front ts (length rs)) rs us tt (ap (r.kept ts)
+        (runFrom-complete h row .equal));
+  }
 
 -- ## Attributes and visibility
 
@@ -179,7 +219,8 @@ attributes-none end e row = refl
 attributes-none (group d ts us) e row = refl
 attributes-none (leaf q us) e row = passed-over (isPunct 35 q) _ _ e
 
-attributes-taken : {ts us : Trees} {rs : List ℕ} → g.Attributes everything ts us rs → (row : ℕ) → r.attributes row ts ≡ took tt rs us
+attributes-taken : {ts us : Trees} {rs : List ℕ} → g.Attributes everything ts us rs → (row : ℕ) →
+    r.attributes row ts ≡ took tt rs us
 attributes-taken (g.Attributes.none {ts = ts} e) row = attributes-none ts e row
 attributes-taken (g.Attributes.attribute {q = q} {d = d} {ts = ts} e f h) row =
     chosen (isPunct 35 q) _ _ e
@@ -190,7 +231,8 @@ attributes-taken (g.Attributes.idle {q = q} {p = p} {us = us} a e f h) row =
     ∙ chosen (isPunct 35 p) _ _ f
     ∙ ap (onward (role.idle-mark ∷ [])) (sym (chosen (isPunct 35 p) _ _ f) ∙ attributes-taken h (row + 1))
 
-pub attributes-complete : {ts us : Trees} {rs : List ℕ} → g.Attributes everything ts us rs → Takes Any r.attributes ts us rs
+pub attributes-complete : {ts us : Trees} {rs : List ℕ} → g.Attributes everything ts us rs →
+    Takes Any r.attributes ts us rs
 attributes-complete {us = us} {rs = rs} h = record { from = λ row. taken-as tt rs us tt (attributes-taken h row) }
 
 visibility-none : (ts : Trees) → g.startsVisibility ts ≡ false → (row : ℕ) → r.visibility row ts ≡ took tt [] ts
@@ -208,9 +250,11 @@ no-group end e row = refl
 no-group (leaf q us) e row = refl
 no-group (group d ts us) e row = absurd (false≢true (sym e))
 
-visibility-taken : {ts us : Trees} {rs : List ℕ} → g.Visibility everything ts us rs → (row : ℕ) → r.visibility row ts ≡ took tt rs us
+visibility-taken : {ts us : Trees} {rs : List ℕ} → g.Visibility everything ts us rs → (row : ℕ) →
+    r.visibility row ts ≡ took tt rs us
 visibility-taken (g.Visibility.none {ts = ts} e) row = visibility-none ts e row
-visibility-taken (g.Visibility.plain {q = q} {us = us} e f) row = chosen (isWord PUB q) _ _ e ∙ ap (onward (role.visibility ∷ [])) (no-scope us f (row + 1))
+visibility-taken (g.Visibility.plain {q = q} {us = us} e f) row = chosen (isWord PUB q) _ _ e ∙
+    ap (onward (role.visibility ∷ [])) (no-scope us f (row + 1))
 visibility-taken (g.Visibility.with-scope {q = q} {d = d} {ts = ts} {us = us} e f u) row =
     chosen (isWord PUB q) _ _ e ∙ ap (onward (role.visibility ∷ [])) (chosen (g.startsScope (group d ts us)) _ _ f)
 visibility-taken (g.Visibility.wrapped {d = d} {ts = ts} {us = us} a e f) row =
@@ -219,7 +263,8 @@ visibility-taken (g.Visibility.wrapped {d = d} {ts = ts} {us = us} a e f) row =
     ∙ ap (λ (rs : List ℕ). took tt rs us) (append-nil (copied role.visibility ts))
 visibility-taken (g.Visibility.wrapped-scoped {ts = ts} a b e) row = chosen (lone (isWord PUB) ts) _ _ e
 
-pub visibility-complete : {ts us : Trees} {rs : List ℕ} → g.Visibility everything ts us rs → Takes Any r.visibility ts us rs
+pub visibility-complete : {ts us : Trees} {rs : List ℕ} → g.Visibility everything ts us rs →
+    Takes Any r.visibility ts us rs
 visibility-complete {us = us} {rs = rs} h = record { from = λ row. taken-as tt rs us tt (visibility-taken h row) }
 
 -- ## Words
@@ -229,7 +274,8 @@ abbrev Found : (List ℕ → Bool) → Word → Type 0
 Found p missing = ⊥
 Found p (found t row) = p t ≡ true
 
-module _ (is : Row → Bool) (p : List ℕ → Bool) (parts : (q : Row) → is q ≡ true → (isIdent q ≡ true) × (p (q .text) ≡ true)) where
+module _ (is : Row → Bool) (p : List ℕ → Bool) (parts : (q : Row) → is q ≡ true → (isIdent q ≡ true) ×
+    (p (q .text) ≡ true)) where
   lone-parts : (ts : Trees) → lone is ts ≡ true → (lone isIdent ts ≡ true) × (p (r.textOf ts) ≡ true)
   lone-parts end e = absurd (false≢true e)
   lone-parts (group d ts us) e = absurd (false≢true e)
@@ -237,27 +283,37 @@ module _ (is : Row → Bool) (p : List ℕ → Bool) (parts : (q : Row) → is q
   lone-parts (leaf q (leaf s us)) e = absurd (false≢true e)
   lone-parts (leaf q (group d ts us)) e = absurd (false≢true e)
 
-  word-taken : {n : ℕ} {ts us : Trees} {rs : List ℕ} → g.Word everything is n ts us rs → (row : ℕ) → Taken (Found p) (r.word n row ts) rs us
-  word-taken {n} (g.Word.ident {q = q} {us = us} e) row = taken-as (found (q .text) row) (n ∷ []) us (parts q e .1) (chosen (isIdent q) _ _ (parts q e .0))
+  word-taken : {n : ℕ} {ts us : Trees} {rs : List ℕ} → g.Word everything is n ts us rs → (row : ℕ) →
+      Taken (Found p) (r.word n row ts) rs us
+  word-taken {n} (g.Word.ident {q = q} {us = us} e) row =
+      taken-as (found (q .text) row) (n ∷ []) us (parts q e .1) (chosen (isIdent q) _ _ (parts q e .0))
   word-taken {n} (g.Word.wrapped {ts = ts} {us = us} a e) row =
-      taken-as (found (r.textOf ts) (row + 1)) (copied n ts) us (lone-parts ts e .1) (chosen (lone isIdent ts) _ _ (lone-parts ts e .0))
+      taken-as (found (r.textOf ts) (row + 1)) (copied n ts) us (lone-parts ts e .1)
+      (chosen (lone isIdent ts) _ _ (lone-parts ts e .0))
 
-  word-complete : {n : ℕ} {ts us : Trees} {rs : List ℕ} → g.Word everything is n ts us rs → Takes (Found p) (r.word n) ts us rs
+  word-complete : {n : ℕ} {ts us : Trees} {rs : List ℕ} → g.Word everything is n ts us rs →
+      Takes (Found p) (r.word n) ts us rs
   word-complete h = record { from = word-taken h }
 
 -- a word as name, and what is read after it
-pub name-then : {B : Type 0} {Q : B → Type 0} {f : List ℕ → Reader B} {n : ℕ} {ts us vs : Trees} {rs qs : List ℕ} → g.Word everything isIdent n ts us rs
+pub name-then : {B : Type 0} {Q : B → Type 0} {f : List ℕ → Reader B} {n : ℕ} {ts us vs : Trees} {rs qs : List ℕ} →
+    g.Word everything isIdent n ts us rs
     → ((t : List ℕ) → Takes Q (f t) us vs qs) → Takes Q (r.word n >>= λ w. r.named! w >>= f) ts vs (rs ++ qs)
-name-then {Q = Q} {f = f} {us = us} {vs = vs} {qs = qs} h k = and-then (word-complete isIdent (λ t. true) (λ q e. (e, refl)) h) go
+name-then {Q = Q} {f = f} {us = us} {vs = vs} {qs = qs} h k =
+    and-then (word-complete isIdent (λ t. true) (λ q e. (e, refl)) h) go
   where
     go : (w : Word) → Found (λ t. true) w → Takes Q (r.named! w >>= f) us vs qs
     go missing e = absurd e
-    go (found t p) e = and-then (pure-takes {P = λ a. a ≡ t} t us refl) (λ a e. subst (λ (a : List ℕ). Takes Q (f a) us vs qs) (sym e) (k t))
+    go (found t p) e = and-then (pure-takes {P = λ a. a ≡ t} t us refl)
+        (λ a e. subst (λ (a : List ℕ). Takes Q (f a) us vs qs) (sym e) (k t))
 
-kindOf-taken : (k : Kind) (t : List ℕ) (p row : ℕ) (us : Trees) → same t (kindWord k) ≡ true → r.kindOf (found t p) row us ≡ took k [] us
-kindOf-taken struct t p row us e = ap (λ (b : Bool). cond b (pure struct) (cond (same t ENUM) (pure enum) (λ row ts. refuse 25 p)) row us) e
+kindOf-taken : (k : Kind) (t : List ℕ) (p row : ℕ) (us : Trees) → same t (kindWord k) ≡ true →
+    r.kindOf (found t p) row us ≡ took k [] us
+kindOf-taken struct t p row us e =
+    ap (λ (b : Bool). cond b (pure struct) (cond (same t ENUM) (pure enum) (λ row ts. refuse 25 p)) row us) e
 kindOf-taken enum t p row us e =
-    ap (λ (b : Bool). cond b (pure struct) (cond (same t ENUM) (pure enum) (λ row ts. refuse 25 p)) row us) (ap (λ (w : List ℕ). same w STRUCT) (same-path t ENUM e))
+    ap (λ (b : Bool). cond b (pure struct) (cond (same t ENUM) (pure enum) (λ row ts. refuse 25 p)) row us)
+    (ap (λ (w : List ℕ). same w STRUCT) (same-path t ENUM e))
     ∙ ap (λ (b : Bool). cond b (pure enum) (λ row ts. refuse 25 p) row us) e
 
 abbrev after-kind : Kind → Reader r.Head
@@ -266,12 +322,15 @@ after-kind k = r.word role.item-name >>= λ v. r.named! v >>= λ n. pure (record
 pub dataType-complete : {ts us : Trees} {rs : List ℕ} (k : Kind) → g.Head everything (isWord (kindWord k)) ts us rs
     → Takes (λ (h : r.Head). h .kind ≡ k) r.dataType ts us rs
 dataType-complete k (g.Head.head {us = us} {vs = vs} {bs = bs} a b) =
-    and-then (word-complete (isWord (kindWord k)) (λ t. same t (kindWord k)) (λ q e. and-parts (isIdent q) (same (q .text) (kindWord k)) e) a) kinds
+    and-then (word-complete (isWord (kindWord k)) (λ t. same t (kindWord k))
+    (λ q e. and-parts (isIdent q) (same (q .text) (kindWord k)) e) a) kinds
   where
     named : (l : Kind) → l ≡ k → Takes (λ (h : r.Head). h .kind ≡ k) (after-kind l) us vs bs
     named l e = with-roles (append-nil bs) (name-then b (λ t. pure-takes (record { kind = l; name = t }) vs e))
 
-    kinds : (w : Word) → Found (λ t. same t (kindWord k)) w → Takes (λ (h : r.Head). h .kind ≡ k) (r.kindOf w >>= after-kind) us vs bs
+    kinds : (w : Word) → Found (λ t. same t (kindWord k)) w →
+        Takes (λ (h : r.Head). h .kind ≡ k) (r.kindOf w >>= after-kind) us vs bs
     kinds missing e = absurd e
     kinds (found t p) e =
-        and-then {P = λ l. l ≡ k} {m = r.kindOf (found t p)} {rs = []} (record { from = λ row. taken-as k [] us refl (kindOf-taken k t p row us e) }) named
+        and-then {P = λ l. l ≡ k} {m = r.kindOf (found t p)} {rs = []}
+        (record { from = λ row. taken-as k [] us refl (kindOf-taken k t p row us e) }) named

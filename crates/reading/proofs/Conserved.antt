@@ -30,7 +30,8 @@ punctIf-conserving b n row end = nothing-taken
 punctIf-conserving b n row (leaf q us) = choice (r.isPunct b q) (one-row n q us) nothing-taken
 punctIf-conserving b n row (group d ts us) = nothing-taken
 
-judged-conserved : (v : Verdict) {go : ℕ → Bool → Took Ending} (ts : Trees) (row : ℕ) → ((e : ℕ) (m : Bool) → Conserved ts (go e m))
+judged-conserved : (v : Verdict) {go : ℕ → Bool → Took Ending} (ts : Trees) (row : ℕ) →
+    ((e : ℕ) (m : Bool) → Conserved ts (go e m))
     → Conserved ts (r.judged v go ts row)
 judged-conserved (belongs e m) ts row c = c e m
 judged-conserved (ends e) ts row c = nothing-taken
@@ -39,9 +40,11 @@ judged-conserved unopened ts row c = refused refl
 pub runFrom-conserving : (st : Stops) (n depth : ℕ) (minus : Bool) → Conserving (r.runFrom st n depth minus)
 runFrom-conserving st n depth minus row end = nothing-taken
 runFrom-conserving st n depth minus row (leaf q us) =
-    judged-conserved (r.judge st depth minus q) (leaf q us) row (λ e m. onward-conserved (n ∷ []) (past-leaf q us) (runFrom-conserving st n e m (row + 1) us))
+    judged-conserved (r.judge st depth minus q) (leaf q us) row
+    (λ e m. onward-conserved (n ∷ []) (past-leaf q us) (runFrom-conserving st n e m (row + 1) us))
 runFrom-conserving st n depth minus row (group d ts us) =
-    judged-conserved (r.judgeGroup st depth d) (group d ts us) row (λ e m. copied-conserved n d ts us (runFrom-conserving st n e m (row + r.whole ts) us))
+    judged-conserved (r.judgeGroup st depth d) (group d ts us) row
+    (λ e m. copied-conserved n d ts us (runFrom-conserving st n e m (row + r.whole ts) us))
 
 kept-conserved : {ts : Trees} {t : Took Ending} (us : Trees) → Conserved ts t → Conserved ts (r.kept us t)
 kept-conserved us (taken rs vs e) = taken rs vs e
@@ -64,15 +67,19 @@ mutual
   marked-conserved row q end = refused refl
   marked-conserved row q (group d ts us) =
       choice (eqb d 91)
-      (onward-conserved (role.attribute-mark ∷ r.copied role.attribute-group ts) (past-both (role.attribute-mark ∷ []) (r.copied role.attribute-group ts) (past-leaf q (group d ts us)) (past-group role.attribute-group d ts us)) (attributes-conserving (row + 1 + r.whole ts) us))
+      (onward-conserved (role.attribute-mark ∷ r.copied role.attribute-group ts)
+      (past-both (role.attribute-mark ∷ []) (r.copied role.attribute-group ts) (past-leaf q (group d ts us))
+      (past-group role.attribute-group d ts us)) (attributes-conserving (row + 1 + r.whole ts) us))
       (refused refl)
   marked-conserved row q (leaf p us) =
-      choice (r.isPunct 35 p) (onward-conserved (role.idle-mark ∷ []) (past-leaf q (leaf p us)) (marked-conserved (row + 1) p us)) (refused refl)
+      choice (r.isPunct 35 p) (onward-conserved (role.idle-mark ∷ []) (past-leaf q (leaf p us))
+      (marked-conserved (row + 1) p us)) (refused refl)
 
 pub scopeAfter-conserving : Conserving r.scopeAfter
 scopeAfter-conserving row end = nothing-taken
 scopeAfter-conserving row (leaf q us) = nothing-taken
-scopeAfter-conserving row (group d ts us) = choice (eqb d 40 && r.scoped ts) (copied-alone role.scope d ts us) nothing-taken
+scopeAfter-conserving row (group d ts us) =
+    choice (eqb d 40 && r.scoped ts) (copied-alone role.scope d ts us) nothing-taken
 
 pub anyScope-conserving : Conserving r.anyScope
 anyScope-conserving row end = nothing-taken
@@ -82,9 +89,11 @@ anyScope-conserving row (group d ts us) = copied-alone role.scope d ts us
 pub visibility-conserving : Conserving r.visibility
 visibility-conserving row end = nothing-taken
 visibility-conserving row (leaf q us) =
-    choice (r.isWord r.PUB q) (onward-conserved (role.visibility ∷ []) (past-leaf q us) (scopeAfter-conserving (row + 1) us)) nothing-taken
+    choice (r.isWord r.PUB q) (onward-conserved (role.visibility ∷ []) (past-leaf q us)
+    (scopeAfter-conserving (row + 1) us)) nothing-taken
 visibility-conserving row (group d ts us) =
-    choice (r.lone (r.isWord r.PUB) ts) (copied-conserved role.visibility d ts us (anyScope-conserving (row + r.whole ts) us)) nothing-taken
+    choice (r.lone (r.isWord r.PUB) ts) (copied-conserved role.visibility d ts us
+    (anyScope-conserving (row + r.whole ts) us)) nothing-taken
 
 pub named!-conserving : (w : Word) → Conserving (r.named! w)
 named!-conserving missing row ts = refused refl
@@ -93,11 +102,13 @@ named!-conserving (found t p) row ts = nothing-taken
 pub kindOf-conserving : (w : Word) → Conserving (r.kindOf w)
 kindOf-conserving missing = λ row ts. refused refl
 kindOf-conserving (found t p) =
-    reader-choice (same t r.STRUCT) (pure-conserving struct) (reader-choice (same t r.ENUM) (pure-conserving enum) (λ row ts. refused refl))
+    reader-choice (same t r.STRUCT) (pure-conserving struct)
+    (reader-choice (same t r.ENUM) (pure-conserving enum) (λ row ts. refused refl))
 
 pub dataType-conserving : Conserving r.dataType
 dataType-conserving =
-    bind (word-conserving role.item-word) (λ w. bind (kindOf-conserving w) (λ k. bind (word-conserving role.item-name) (λ v. bind (named!-conserving v) (λ n. pure-conserving _))))
+    bind (word-conserving role.item-word) (λ w. bind (kindOf-conserving w)
+    (λ k. bind (word-conserving role.item-name) (λ v. bind (named!-conserving v) (λ n. pure-conserving _))))
 
 -- ## Parameters
 
@@ -107,16 +118,19 @@ parameterName-conserving n p own row (leaf q us) = choice (r.isIdent q) (one-row
 parameterName-conserving n p own row (group d ts us) = refused own
 
 pub marked-run-conserving : (b : ℕ) → Conserving (r.marked-run b)
-marked-run-conserving b = bind (punctIf-conserving b role.separator) (λ t. runIf-conserving t r.parameterStops role.bound)
+marked-run-conserving b =
+    bind (punctIf-conserving b role.separator) (λ t. runIf-conserving t r.parameterStops role.bound)
 
 pub comma-conserving : {A : Type 0} (a : A) → Conserving (r.comma a)
 comma-conserving a = bind (punctIf-conserving 44 role.separator) (λ t. pure-conserving (one a))
 
 pub lifetimeAfter-conserving : (q : ℕ) → Conserving (r.lifetimeAfter q)
-lifetimeAfter-conserving q = bind (parameterName-conserving 24 q refl) (λ n. bind (marked-run-conserving 58) (λ b. pure-conserving _))
+lifetimeAfter-conserving q =
+    bind (parameterName-conserving 24 q refl) (λ n. bind (marked-run-conserving 58) (λ b. pure-conserving _))
 
 pub constantAfter-conserving : Conserving r.constantAfter
-constantAfter-conserving = bind (parameterName-conserving 27 65535 refl) (λ n. bind (marked-run-conserving 58) (λ b. pure-conserving _))
+constantAfter-conserving =
+    bind (parameterName-conserving 27 65535 refl) (λ n. bind (marked-run-conserving 58) (λ b. pure-conserving _))
 
 pub typeRuns-conserving : (n : List ℕ) (t : Bool) → Conserving (r.typeRuns n t)
 typeRuns-conserving n true = bind (run-conserving r.parameterStops role.bound) (λ b. pure-conserving _)
@@ -129,10 +143,13 @@ parameter-shorter : (angle row : ℕ) (ts : Trees) → Shorter (size ts) ts (r.p
 parameter-shorter angle row end = refused refl
 parameter-shorter angle row (group d ts us) = refused refl
 parameter-shorter angle row (leaf q us) =
-    shorter-choice (r.isPunct 39 q) (from-shorter role.parameter-name row q us (bind (lifetimeAfter-conserving row) comma-conserving))
+    shorter-choice (r.isPunct 39 q) (from-shorter role.parameter-name row q us
+    (bind (lifetimeAfter-conserving row) comma-conserving))
     (shorter-choice (r.isPunct 62 q) (shorter (role.angle ∷ []) us (past-leaf q us) (omega arith))
-    (shorter-choice (r.isWord r.CONST q) (from-shorter role.parameter-name row q us (bind constantAfter-conserving comma-conserving))
-    (shorter-choice (r.isIdent q) (from-shorter role.parameter-name row q us (bind (typeAfter-conserving (q .text)) comma-conserving)) (refused refl))))
+    (shorter-choice (r.isWord r.CONST q) (from-shorter role.parameter-name row q us
+    (bind constantAfter-conserving comma-conserving))
+    (shorter-choice (r.isIdent q) (from-shorter role.parameter-name row q us
+    (bind (typeAfter-conserving (q .text)) comma-conserving)) (refused refl))))
 
 pub parameter-round : (angle : ℕ) → Rounding (r.parameter angle)
 parameter-round angle row ts = shorter-round (omega arith) (parameter-shorter angle row ts)
@@ -141,13 +158,15 @@ pub generics-conserving : Conserving r.generics
 generics-conserving row end = nothing-taken
 generics-conserving row (group d ts us) = nothing-taken
 generics-conserving row (leaf q us) =
-    choice (r.isPunct 60 q) (from-conserved role.angle row q us (bind (every-conserving (r.parameter row) (parameter-round row)) (λ ps. pure-conserving _))) nothing-taken
+    choice (r.isPunct 60 q) (from-conserved role.angle row q us
+    (bind (every-conserving (r.parameter row) (parameter-round row)) (λ ps. pure-conserving _))) nothing-taken
 
 pub clause-conserving : Conserving r.clause
 clause-conserving row end = nothing-taken
 clause-conserving row (group d ts us) = nothing-taken
 clause-conserving row (leaf q us) =
-    choice (r.isWord r.WHERE q) (from-conserved role.where-word row q us (run-conserving r.clauseStops role.where-run)) nothing-taken
+    choice (r.isWord r.WHERE q) (from-conserved role.where-word row q us (run-conserving r.clauseStops role.where-run))
+    nothing-taken
 
 -- ## Fields
 
@@ -157,13 +176,15 @@ must-conserving n false own row ts = refused own
 
 pub fieldAfter-conserving : (n : List ℕ) → Conserving (r.fieldAfter n)
 fieldAfter-conserving n =
-    bind (punctIf-conserving 58 role.separator) (λ t. bind (must-conserving 23 t refl) (λ u. bind (run-conserving r.fieldStops role.type) (λ f. comma-conserving _)))
+    bind (punctIf-conserving 58 role.separator) (λ t. bind (must-conserving 23 t refl)
+    (λ u. bind (run-conserving r.fieldStops role.type) (λ f. comma-conserving _)))
 
 pub fieldStart-round : Rounding r.fieldStart
 fieldStart-round row end = finished [] end (past-none end)
 fieldStart-round row (group d ts us) = refused refl
 fieldStart-round row (leaf q us) =
-    round-choice (r.isIdent q) (shorter-round (omega arith) (from-shorter role.field-name row q us (fieldAfter-conserving (q .text)))) (refused refl)
+    round-choice (r.isIdent q) (shorter-round (omega arith)
+    (from-shorter role.field-name row q us (fieldAfter-conserving (q .text)))) (refused refl)
 
 pub namedField-round : Rounding r.namedField
 namedField-round row ts =
@@ -172,10 +193,12 @@ namedField-round row ts =
 
 -- a field's run ends at a comma or at the end, so that with the comma a row at least is taken
 pub judge-comma : (q : Row) (e : Ending) → r.judge r.fieldStops 0 false q ≡ ends e → r.isPunct 44 q ≡ true
-judge-comma q e = go (eqb (q .kind) 112) (eqb (first (q .text)) 60) (eqb (first (q .text)) 62) (eqb (first (q .text)) 44)
+judge-comma q e =
+    go (eqb (q .kind) 112) (eqb (first (q .text)) 60) (eqb (first (q .text)) 62) (eqb (first (q .text)) 44)
   where
     go : (k lt gt co : Bool)
-        → cond k (cond lt (belongs 1 false) (cond gt unopened (cond (co && true) (ends r.atComma) (belongs 0 (eqb (first (q .text)) 45))))) (belongs 0 false) ≡ ends e
+        → cond k (cond lt (belongs 1 false) (cond gt unopened
+        (cond (co && true) (ends r.atComma) (belongs 0 (eqb (first (q .text)) 45))))) (belongs 0 false) ≡ ends e
         → (k && co) ≡ true
     go true true gt co x = cc
     go true false true co x = cc
@@ -187,14 +210,17 @@ kept-shorter : {b : ℕ} {ts : Trees} {t : Took Ending} (us : Trees) → Shorter
 kept-shorter us (shorter rs vs e h) = shorter rs vs e h
 kept-shorter us (refused n) = refused n
 
-tail-leaf : (row : ℕ) (q : Row) (us : Trees) (v : Verdict) (go : ℕ → Bool → Took Ending) → r.judge r.fieldStops 0 false q ≡ v
+tail-leaf : (row : ℕ) (q : Row) (us : Trees) (v : Verdict) (go : ℕ → Bool → Took Ending) →
+    r.judge r.fieldStops 0 false q ≡ v
     → ((e : ℕ) (m : Bool) → Shorter (size (leaf q us)) (leaf q us) (go e m))
     → Shorter (size (leaf q us)) (leaf q us) (after row (r.kept (leaf q us) (r.judged v go (leaf q us) row)) r.comma)
 tail-leaf row q us (belongs e m) go j k = after-shorter row r.comma (kept-shorter (leaf q us) (k e m)) comma-conserving
 tail-leaf row q us (ends e) go j k = taken-comma (r.isPunct 44 q) (judge-comma q e j)
   where
     taken-comma : (b : Bool) → b ≡ true
-        → Shorter (size (leaf q us)) (leaf q us) (after row (took end [] (leaf q us)) (λ t row us'. after row (cond b (took true (role.separator ∷ []) us) (took false [] (leaf q us))) (λ c. pure (one t))))
+        → Shorter (size (leaf q us)) (leaf q us) (after row (took end [] (leaf q us))
+        (λ t row us'. after row (cond b (took true (role.separator ∷ []) us) (took false [] (leaf q us)))
+        (λ c. pure (one t))))
     taken-comma true f = shorter (role.separator ∷ []) us (past-leaf q us) (omega arith)
     taken-comma false f = absurd (false≢true f)
 tail-leaf row q us unopened go j k = refused refl
@@ -204,18 +230,22 @@ tail-shorter : (row : ℕ) (ts : Trees) → Shorter (least ts) ts ((r.run r.fiel
 tail-shorter row end = shorter [] end (past-none end) (omega arith)
 tail-shorter row (leaf q us) =
     looser (omega arith)
-    (tail-leaf row q us (r.judge r.fieldStops 0 false q) (λ e m. onward (role.type ∷ []) (r.runFrom r.fieldStops role.type e m (row + 1) us)) refl
-    (λ e m. onward-shorter (role.type ∷ []) (past-leaf q us) (omega arith) (runFrom-conserving r.fieldStops role.type e m (row + 1) us)))
+    (tail-leaf row q us (r.judge r.fieldStops 0 false q)
+    (λ e m. onward (role.type ∷ []) (r.runFrom r.fieldStops role.type e m (row + 1) us)) refl
+    (λ e m. onward-shorter (role.type ∷ []) (past-leaf q us) (omega arith)
+    (runFrom-conserving r.fieldStops role.type e m (row + 1) us)))
 tail-shorter row (group d ts us) =
     after-shorter row r.comma
     (kept-shorter (group d ts us)
-    (onward-shorter (r.copied role.type ts) (past-group role.type d ts us) (omega arith) (runFrom-conserving r.fieldStops role.type 0 false (row + r.whole ts) us)))
+    (onward-shorter (r.copied role.type ts) (past-group role.type d ts us) (omega arith)
+    (runFrom-conserving r.fieldStops role.type 0 false (row + r.whole ts) us)))
     comma-conserving
 
 tupleType-shorter : (row : ℕ) (ts : Trees) → Shorter (least ts) ts (r.tupleType row ts)
 tupleType-shorter row ts =
     after-still row (λ a. r.visibility >>= λ v. r.run r.fieldStops role.type >>= r.comma) (attributes-conserving row ts)
-    (λ a row us. after-still row (λ v. r.run r.fieldStops role.type >>= r.comma) (visibility-conserving row us) (λ v. tail-shorter))
+    (λ a row us. after-still row (λ v. r.run r.fieldStops role.type >>= r.comma) (visibility-conserving row us)
+    (λ v. tail-shorter))
 
 pub tupleField-round : Rounding r.tupleField
 tupleField-round row end = finished [] end (past-none end)
@@ -236,14 +266,17 @@ fieldStart-last row end = last []
 fieldStart-last row (group d ts us) = refused
 fieldStart-last row (leaf q us) =
     last-choice (r.isIdent q)
-    (onward-last (role.field-name ∷ []) (bind-last (r.punctIf 58 role.separator) (λ t. bind-last (r.must 23 t) (λ u. bind-last (r.run r.fieldStops role.type) (λ f. comma-last _))) (row + 1) us))
+    (onward-last (role.field-name ∷ []) (bind-last (r.punctIf 58 role.separator)
+    (λ t. bind-last (r.must 23 t) (λ u. bind-last (r.run r.fieldStops role.type) (λ f. comma-last _))) (row + 1)
+    us))
     refused
 
 pub namedField-last : Lasting r.namedField
 namedField-last = bind-last r.attributes (λ a. bind-last r.visibility (λ v. fieldStart-last))
 
 pub tupleType-last : Lasting r.tupleType
-tupleType-last = bind-last r.attributes (λ a. bind-last r.visibility (λ v. bind-last (r.run r.fieldStops role.type) comma-last))
+tupleType-last =
+    bind-last r.attributes (λ a. bind-last r.visibility (λ v. bind-last (r.run r.fieldStops role.type) comma-last))
 
 pub tupleField-last : Lasting r.tupleField
 tupleField-last row end = last []
@@ -262,25 +295,30 @@ pub variantFields-conserving : Conserving r.variantFields
 variantFields-conserving row end = nothing-taken
 variantFields-conserving row (leaf q us) = nothing-taken
 variantFields-conserving row (group d ts us) =
-    choice (eqb d 123) (closing-conserved d ts us (namedFields-ended (row + 1) ts) (namedFields-conserving (row + 1) ts))
-    (choice (eqb d 40) (closing-conserved d ts us (tupleFields-ended (row + 1) ts) (tupleFields-conserving (row + 1) ts)) (refused refl))
+    choice (eqb d 123) (closing-conserved d ts us (namedFields-ended (row + 1) ts)
+    (namedFields-conserving (row + 1) ts))
+    (choice (eqb d 40) (closing-conserved d ts us (tupleFields-ended (row + 1) ts)
+    (tupleFields-conserving (row + 1) ts)) (refused refl))
 
 pub negativeValue-conserving : Conserving r.negativeValue
 negativeValue-conserving row end = refused refl
 negativeValue-conserving row (group d ts us) = refused refl
-negativeValue-conserving row (leaf q us) = choice (r.isLiteral q) (choice (r.negatable (q .text)) (one-row role.value q us) (refused refl)) (refused refl)
+negativeValue-conserving row (leaf q us) =
+    choice (r.isLiteral q) (choice (r.negatable (q .text)) (one-row role.value q us) (refused refl)) (refused refl)
 
 pub discriminant-conserving : Conserving r.discriminant
 discriminant-conserving row end = refused refl
 discriminant-conserving row (group d ts us) = refused refl
 discriminant-conserving row (leaf q us) =
-    choice (r.isLiteral q) (one-row role.value q us) (choice (r.isPunct 45 q) (from-conserved role.value row q us negativeValue-conserving) (refused refl))
+    choice (r.isLiteral q) (one-row role.value q us) (choice (r.isPunct 45 q)
+    (from-conserved role.value row q us negativeValue-conserving) (refused refl))
 
 pub valueIf-conserving : Conserving r.valueIf
 valueIf-conserving row end = nothing-taken
 valueIf-conserving row (group d ts us) = refused refl
 valueIf-conserving row (leaf q us) =
-    choice (r.isPunct 61 q) (from-conserved role.separator row q us discriminant-conserving) (choice (r.isPunct 44 q) nothing-taken (refused refl))
+    choice (r.isPunct 61 q) (from-conserved role.separator row q us discriminant-conserving)
+    (choice (r.isPunct 44 q) nothing-taken (refused refl))
 
 -- a word that must stand here takes a row
 word-shorter : {A : Type 0} (n : ℕ) (f : List ℕ → Reader A) → ((t : List ℕ) → Conserving (f t))
@@ -289,15 +327,20 @@ word-shorter n f k row end = refused refl
 word-shorter n f k row (leaf q us) = go (r.isIdent q)
   where
     go : (b : Bool)
-        → Shorter (least (leaf q us)) (leaf q us) (after row (cond b (took (found (q .text) row) (n ∷ []) us) (took missing [] (leaf q us))) (λ w. r.named! w >>= f))
-    go true = onward-shorter (n ∷ []) (past-leaf q us) (omega arith) (onward-conserved [] (past-none us) (k (q .text) _ us))
+        → Shorter (least (leaf q us)) (leaf q us) (after row
+        (cond b (took (found (q .text) row) (n ∷ []) us) (took missing [] (leaf q us))) (λ w. r.named! w >>= f))
+    go true =
+        onward-shorter (n ∷ []) (past-leaf q us) (omega arith) (onward-conserved [] (past-none us) (k (q .text) _ us))
     go false = refused refl
 word-shorter n f k row (group d ts us) = go (r.lone r.isIdent ts)
   where
     go : (b : Bool)
-        → Shorter (least (group d ts us)) (group d ts us) (after row (cond b (took (found (r.textOf ts) (row + 1)) (r.copied n ts) us) (took missing [] (group d ts us))) (λ w. r.named! w >>= f))
+        → Shorter (least (group d ts us)) (group d ts us)
+        (after row (cond b (took (found (r.textOf ts) (row + 1)) (r.copied n ts) us)
+        (took missing [] (group d ts us))) (λ w. r.named! w >>= f))
     go true =
-        onward-shorter (r.copied n ts) (past-group n d ts us) (omega arith) (onward-conserved [] (past-none us) (k (r.textOf ts) _ us))
+        onward-shorter (r.copied n ts) (past-group n d ts us) (omega arith)
+        (onward-conserved [] (past-none us) (k (r.textOf ts) _ us))
     go false = refused refl
 
 -- a variant's parts after its name
@@ -320,7 +363,8 @@ variant-round row (group d ts us) = shorter-round (omega arith) (variantHere-sho
 pub variantHere-last : Lasting r.variantHere
 variantHere-last =
     bind-last r.attributes
-    (λ a. bind-last (r.word role.variant-name) (λ w. bind-last (r.named! w) (λ n. bind-last r.variantFields (λ f. bind-last r.valueIf (λ v. comma-last _)))))
+    (λ a. bind-last (r.word role.variant-name) (λ w. bind-last (r.named! w)
+    (λ n. bind-last r.variantFields (λ f. bind-last r.valueIf (λ v. comma-last _)))))
 
 pub variant-last : Lasting r.variant
 variant-last row end = last []
@@ -338,15 +382,18 @@ structBody-conserving row end = refused refl
 structBody-conserving row (leaf q us) = choice (r.isPunct 59 q) (one-row role.delimiter q us) (refused refl)
 structBody-conserving row (group d ts us) =
     choice (eqb d 123)
-    (closing-conserved d ts us (pure-after-ended (row + 1) Body.fields (namedFields-ended (row + 1) ts)) (bind namedFields-conserving (λ f. pure-conserving _) (row + 1) ts))
+    (closing-conserved d ts us (pure-after-ended (row + 1) Body.fields (namedFields-ended (row + 1) ts))
+    (bind namedFields-conserving (λ f. pure-conserving _) (row + 1) ts))
     (choice (eqb d 40)
-    (closing-conserved d ts us (pure-after-ended (row + 1) Body.fields (tupleFields-ended (row + 1) ts)) (bind tupleFields-conserving (λ f. pure-conserving _) (row + 1) ts))
+    (closing-conserved d ts us (pure-after-ended (row + 1) Body.fields (tupleFields-ended (row + 1) ts))
+    (bind tupleFields-conserving (λ f. pure-conserving _) (row + 1) ts))
     (refused refl))
 
 pub enumBody-conserving : Conserving r.enumBody
 enumBody-conserving row end = refused refl
 enumBody-conserving row (leaf q us) = choice (r.isPunct 59 q) (one-row role.delimiter q us) (refused refl)
-enumBody-conserving row (group d ts us) = closing-conserved d ts us (enumVariants-ended (row + 1) ts) (enumVariants-conserving (row + 1) ts)
+enumBody-conserving row (group d ts us) =
+    closing-conserved d ts us (enumVariants-ended (row + 1) ts) (enumVariants-conserving (row + 1) ts)
 
 pub bodyOf-conserving : (k : Kind) → Conserving (r.bodyOf k)
 bodyOf-conserving struct = structBody-conserving

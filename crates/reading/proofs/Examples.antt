@@ -22,34 +22,43 @@ paper = refl
 -- ## The Reference's productions admit what they should: with no difference allowed, two of the examples
 -- have their roles
 
-pub valve : Obeys nothing (stream (bytes VALVE)) (4 ∷ 6 ∷ 7 ∷ 14 ∷ 15 ∷ 10 ∷ 16 ∷ 10 ∷ 15 ∷ 14 ∷ 18 ∷ 14 ∷ 10 ∷ 15 ∷ 10 ∷ 16 ∷ 16 ∷ 14 ∷ [])
+pub valve : Obeys nothing (stream (bytes VALVE))
+    (4 ∷ 6 ∷ 7 ∷ 14 ∷ 15 ∷ 10 ∷ 16 ∷ 10 ∷ 15 ∷ 14 ∷ 18 ∷ 14 ∷ 10 ∷ 15 ∷ 10 ∷ 16 ∷ 16 ∷ 14 ∷ [])
 unfolding before at negatable keyword
 valve =
     g.Obeys.obeys
-    (g.Item.enum (g.Attributes.none refl) (g.Visibility.plain refl refl) (g.Head.head (g.Word.ident refl) (g.Word.ident refl)) (g.Generics.none refl) (g.Clause.none refl)
+    (g.Item.enum (g.Attributes.none refl) (g.Visibility.plain refl refl)
+    (g.Head.head (g.Word.ident refl) (g.Word.ident refl)) (g.Generics.none refl) (g.Clause.none refl)
     (g.EnumBody.variants refl
-    (g.Variants.next refl (g.Variant.valued (g.Attributes.none refl) (g.Word.ident refl) (g.VariantFields.none refl) (g.Value.literal refl refl) (g.Mark.present refl) refl refl)
+    (g.Variants.next refl (g.Variant.valued (g.Attributes.none refl) (g.Word.ident refl) (g.VariantFields.none refl)
+    (g.Value.literal refl refl) (g.Mark.present refl) refl refl)
     (g.Variants.next refl
     (g.Variant.plain (g.Attributes.none refl) (g.Word.ident refl)
     (g.VariantFields.tuple refl
-    (g.TupleFields.next refl (g.TupleField.field (g.Attributes.none refl) (g.Visibility.none refl) (g.Run.token refl (g.Run.ended refl)) refl (g.Mark.absent refl)) g.TupleFields.last))
+    (g.TupleFields.next refl (g.TupleField.field (g.Attributes.none refl) (g.Visibility.none refl)
+    (g.Run.token refl (g.Run.ended refl)) refl (g.Mark.absent refl)) g.TupleFields.last))
     (g.Mark.present refl) refl)
-    (g.Variants.next refl (g.Variant.valued (g.Attributes.none refl) (g.Word.ident refl) (g.VariantFields.none refl) (g.Value.negative refl refl refl refl) (g.Mark.absent refl) refl refl)
+    (g.Variants.next refl (g.Variant.valued (g.Attributes.none refl) (g.Word.ident refl) (g.VariantFields.none refl)
+    (g.Value.negative refl refl refl refl) (g.Mark.absent refl) refl refl)
     g.Variants.last)))))
     g.LeftOver.none
 
-pub arrow : Obeys nothing (stream (bytes ARROW)) (6 ∷ 7 ∷ 8 ∷ 9 ∷ 10 ∷ 11 ∷ 11 ∷ 11 ∷ 11 ∷ 11 ∷ 11 ∷ 8 ∷ 14 ∷ 18 ∷ 14 ∷ 0 ∷ [])
+pub arrow : Obeys nothing (stream (bytes ARROW))
+    (6 ∷ 7 ∷ 8 ∷ 9 ∷ 10 ∷ 11 ∷ 11 ∷ 11 ∷ 11 ∷ 11 ∷ 11 ∷ 8 ∷ 14 ∷ 18 ∷ 14 ∷ 0 ∷ [])
 unfolding before at keyword
 arrow =
     g.Obeys.obeys
-    (g.Item.struct (g.Attributes.none refl) (g.Visibility.none refl) (g.Head.head (g.Word.ident refl) (g.Word.ident refl))
+    (g.Item.struct (g.Attributes.none refl) (g.Visibility.none refl)
+    (g.Head.head (g.Word.ident refl) (g.Word.ident refl))
     (g.Generics.generics refl
     (g.Parameters.next
-    (g.Parameter.bounded refl refl refl (g.Run.token refl (g.Run.inside refl (g.Run.token refl (g.Run.arrow refl (g.Run.token refl (g.Run.angle refl refl refl)))))))
+    (g.Parameter.bounded refl refl refl (g.Run.token refl
+    (g.Run.inside refl (g.Run.token refl (g.Run.arrow refl (g.Run.token refl (g.Run.angle refl refl refl)))))))
     (g.Mark.absent refl) refl refl (g.Parameters.close refl)))
     (g.Clause.none refl)
     (g.StructBody.tuple refl
-    (g.TupleFields.next refl (g.TupleField.field (g.Attributes.none refl) (g.Visibility.none refl) (g.Run.token refl (g.Run.ended refl)) refl (g.Mark.absent refl)) g.TupleFields.last)))
+    (g.TupleFields.next refl (g.TupleField.field (g.Attributes.none refl) (g.Visibility.none refl)
+    (g.Run.token refl (g.Run.ended refl)) refl (g.Mark.absent refl)) g.TupleFields.last)))
     (g.LeftOver.semicolon refl)
 
 -- ## The Reference's names, scopes and where clauses

@@ -11,7 +11,8 @@ use Rattle.reading.specs.Took.{Took}
 use Rattle.reading.specs.Reading.{item}
 use Rattle.reading.specs.Answer.{framed}
 
-module _ {A : Type 0} (P : A → Type 0) (refused : ℕ → ℕ → A) (short : ℕ → Bool) (made : Took Declaration → A) (s : List ℕ)
+module _ {A : Type 0} (P : A → Type 0) (refused : ℕ → ℕ → A) (short : ℕ → Bool) (made : Took Declaration → A)
+    (s : List ℕ)
     (checked : (n p : ℕ) → list.check s ≡ list.Answer.refused n p → P (refused n p))
     (lacking : (rows : ℕ) → list.check s ≡ list.Answer.passed rows → short rows ≡ true → P (refused 8 list.END))
     (read : (rows : ℕ) → list.check s ≡ list.Answer.passed rows → short rows ≡ false → (t : Took Declaration)

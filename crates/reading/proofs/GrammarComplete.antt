@@ -1,5 +1,5 @@
--- What the role grammar admits, the reader of that production takes, with the same roles: generics, bodies and the item. So an
--- assignment that obeys is the reading's own.
+-- What the role grammar admits, the reader of that production takes, with the same roles: generics, bodies and the
+-- item. So an assignment that obeys is the reading's own.
 use mathlib.Core.Path.{_≡_, refl, ap, _∙_, sym, subst}
 use mathlib.Core.Bool.{Bool, true, false, not, _||_, false≢true}
 use mathlib.Core.List.{List, [], _∷_, _++_, append-nil}
@@ -24,7 +24,8 @@ use Rattle.reading.proofs.CompleteTokens.{Taken, Takes, Any, same-as, t
 
 -- ## Marks and generics
 
-punctIf-taken : {b : ℕ} {t : Bool} {ts us : Trees} {rs : List ℕ} → g.Mark everything b t ts us rs → (row : ℕ) → r.punctIf b role.separator row ts ≡ took t rs us
+punctIf-taken : {b : ℕ} {t : Bool} {ts us : Trees} {rs : List ℕ} → g.Mark everything b t ts us rs → (row : ℕ) →
+    r.punctIf b role.separator row ts ≡ took t rs us
 punctIf-taken {b} (g.Mark.present {q = q} e) row = chosen (isPunct b q) _ _ e
 punctIf-taken {b} (g.Mark.absent {ts = ts} e) row = none ts e
   where
@@ -38,16 +39,20 @@ pub punctIf-complete : {b : ℕ} {t : Bool} {ts us : Trees} {rs : List ℕ} → 
 punctIf-complete {t = t} {us = us} {rs = rs} h = record { from = λ row. taken-as t rs us refl (punctIf-taken h row) }
 
 -- the mark stands or not, and what is read then
-mark-then : {B : Type 0} {Q : B → Type 0} {f : Bool → Reader B} {b : ℕ} {t : Bool} {ts us vs : Trees} {rs qs : List ℕ} → g.Mark everything b t ts us rs
+mark-then : {B : Type 0} {Q : B → Type 0} {f : Bool → Reader B} {b : ℕ} {t : Bool} {ts us vs : Trees} {rs qs : List ℕ} →
+    g.Mark everything b t ts us rs
     → Takes Q (f t) us vs qs → Takes Q (r.punctIf b role.separator >>= f) ts vs (rs ++ qs)
-mark-then {Q = Q} {f = f} {us = us} {vs = vs} {qs = qs} h k = and-then (punctIf-complete h) (λ x e. subst (λ (x : Bool). Takes Q (f x) us vs qs) (sym e) k)
+mark-then {Q = Q} {f = f} {us = us} {vs = vs} {qs = qs} h k =
+    and-then (punctIf-complete h) (λ x e. subst (λ (x : Bool). Takes Q (f x) us vs qs) (sym e) k)
 
 marked-run-none : {b : ℕ} {ts : Trees} → starts (isPunct b) ts ≡ false → Takes Any (r.marked-run b) ts ts []
 marked-run-none {b} {ts} e = mark-then {b = b} {t = false} {us = ts} (g.Mark.absent e) (pure-takes end ts tt)
 
-marked-run-some : {b : ℕ} {c : Row} {us vs : Trees} {rs : List ℕ} → isPunct b c ≡ true → g.Run everything parameterStops role.bound 0 false us vs rs
+marked-run-some : {b : ℕ} {c : Row} {us vs : Trees} {rs : List ℕ} → isPunct b c ≡ true →
+    g.Run everything parameterStops role.bound 0 false us vs rs
     → Takes Any (r.marked-run b) (leaf c us) vs (role.separator ∷ rs)
-marked-run-some {b} {c} e h = mark-then {b = b} {t = true} (g.Mark.present {q = c} e) (run-complete parameterStops role.bound h)
+marked-run-some {b} {c} e h =
+    mark-then {b = b} {t = true} (g.Mark.present {q = c} e) (run-complete parameterStops role.bound h)
 
 bound-complete : {ts us : Trees} {rs : List ℕ} → g.Bound everything ts us rs → Takes Any (r.marked-run 58) ts us rs
 bound-complete (g.Bound.none e) = marked-run-none e
@@ -62,16 +67,20 @@ abbrev Last : {A : Type 0} → Maybe A → Type 0
 Last done = Unit {0}
 Last (one a) = ⊥
 
-comma-complete : {A : Type 0} {t : Bool} {us vs : Trees} {cs : List ℕ} (a : A) → g.Mark everything 44 t us vs cs → Takes Another (r.comma a) us vs cs
+comma-complete : {A : Type 0} {t : Bool} {us vs : Trees} {cs : List ℕ} (a : A) → g.Mark everything 44 t us vs cs →
+    Takes Another (r.comma a) us vs cs
 comma-complete a m = and-pure (λ t. one a) (punctIf-complete m) (λ x e. tt)
 
 -- the first row of a parameter
-from-complete : {A : Type 0} {P : A → Type 0} {m : Reader A} {us vs : Trees} {rs : List ℕ} (n row : ℕ) → Takes P m us vs rs
+from-complete : {A : Type 0} {P : A → Type 0} {m : Reader A} {us vs : Trees} {rs : List ℕ} (n row : ℕ) →
+    Takes P m us vs rs
     → Taken P (r.from n row us m) (n ∷ rs) vs
 from-complete n row h = onward-taken (n ∷ []) (h .from (row + 1))
 
-parameterName-complete : (n k : ℕ) (p : Row) (us : Trees) → isIdent p ≡ true → Takes Any (r.parameterName n k) (leaf p us) us (role.parameter-name ∷ [])
-parameterName-complete n k p us e = record { from = λ row. taken-as (p .text) (role.parameter-name ∷ []) us tt (chosen (isIdent p) _ _ e) }
+parameterName-complete : (n k : ℕ) (p : Row) (us : Trees) → isIdent p ≡ true →
+    Takes Any (r.parameterName n k) (leaf p us) us (role.parameter-name ∷ [])
+parameterName-complete n k p us e =
+    record { from = λ row. taken-as (p .text) (role.parameter-name ∷ []) us tt (chosen (isIdent p) _ _ e) }
 
 type-chosen : (angle row : ℕ) (q : Row) (us : Trees) → isWord CONST q ≡ false → isIdent q ≡ true
     → r.parameter angle row (leaf q us) ≡ r.from role.parameter-name row us (r.typeAfter (q .text) >>= r.comma)
@@ -81,74 +90,99 @@ type-chosen angle row q us e f =
     ∙ passed-over (isWord CONST q) _ _ e
     ∙ chosen (isIdent q) _ _ f
 
-lifetimeAfter-complete : (quote : ℕ) (p : Row) {us vs : Trees} {rs : List ℕ} → isIdent p ≡ true → g.Bound everything us vs rs
+lifetimeAfter-complete : (quote : ℕ) (p : Row) {us vs : Trees} {rs : List ℕ} → isIdent p ≡ true →
+    g.Bound everything us vs rs
     → Takes Any (r.lifetimeAfter quote) (leaf p us) vs (role.parameter-name ∷ rs)
 lifetimeAfter-complete quote p {us} f b =
-    and-then (parameterName-complete 24 quote p us f) (λ n y. and-pure (Parameter.lifetime n) (bound-complete b) (λ x y. tt))
+    and-then (parameterName-complete 24 quote p us f) (λ n y. and-pure (Parameter.lifetime n) (bound-complete b)
+    (λ x y. tt))
 
 constantAfter-complete : (p : Row) {us vs : Trees} {rs : List ℕ} → isIdent p ≡ true → g.Bound everything us vs rs
     → Takes Any r.constantAfter (leaf p us) vs (role.parameter-name ∷ rs)
-constantAfter-complete p {us} f b = and-then (parameterName-complete 27 65535 p us f) (λ n y. and-pure (Parameter.constant n) (bound-complete b) (λ x y. tt))
+constantAfter-complete p {us} f b = and-then (parameterName-complete 27 65535 p us f)
+    (λ n y. and-pure (Parameter.constant n) (bound-complete b) (λ x y. tt))
 
 module _ (n : List ℕ) where
-  typeAfter-plain : {us : Trees} → starts (isPunct 58) us ≡ false → starts (isPunct 61) us ≡ false → Takes Any (r.typeAfter n) us us []
+  typeAfter-plain : {us : Trees} → starts (isPunct 58) us ≡ false → starts (isPunct 61) us ≡ false →
+      Takes Any (r.typeAfter n) us us []
   typeAfter-plain {us} h k =
-      mark-then {f = r.typeRuns n} {b = 58} {t = false} {us = us} (g.Mark.absent h) (and-pure (Parameter.type n end) (marked-run-none k) (λ x y. tt))
+      mark-then {f = r.typeRuns n} {b = 58} {t = false} {us = us} (g.Mark.absent h)
+      (and-pure (Parameter.type n end) (marked-run-none k) (λ x y. tt))
 
-  typeAfter-bounded : (c : Row) {us vs : Trees} {rs : List ℕ} → isPunct 58 c ≡ true → g.Run everything parameterStops role.bound 0 false us vs rs
+  typeAfter-bounded : (c : Row) {us vs : Trees} {rs : List ℕ} → isPunct 58 c ≡ true →
+      g.Run everything parameterStops role.bound 0 false us vs rs
       → Takes Any (r.typeAfter n) (leaf c us) vs (role.separator ∷ rs)
   typeAfter-bounded c i h =
-      mark-then {f = r.typeRuns n} {b = 58} {t = true} (g.Mark.present {q = c} i) (and-pure (λ b. Parameter.type n b end) (run-complete parameterStops role.bound h) (λ x y. tt))
+      mark-then {f = r.typeRuns n} {b = 58} {t = true} (g.Mark.present {q = c} i)
+      (and-pure (λ b. Parameter.type n b end) (run-complete parameterStops role.bound h) (λ x y. tt))
 
-  typeAfter-defaulted : (c : Row) {us vs : Trees} {rs : List ℕ} → isPunct 61 c ≡ true → g.Run everything parameterStops role.bound 0 false us vs rs
+  typeAfter-defaulted : (c : Row) {us vs : Trees} {rs : List ℕ} → isPunct 61 c ≡ true →
+      g.Run everything parameterStops role.bound 0 false us vs rs
       → Takes Any (r.typeAfter n) (leaf c us) vs (role.separator ∷ rs)
   typeAfter-defaulted c {us} i h =
       mark-then {f = r.typeRuns n} {b = 58} {t = false} {us = leaf c us} (g.Mark.absent (punct-other 61 58 c i refl))
       (and-pure (Parameter.type n end) (marked-run-some {b = 61} {c = c} i h) (λ x y. tt))
 
-and-comma : {A : Type 0} {t : Bool} {m : Reader A} {ts us vs : Trees} {rs cs : List ℕ} → Takes Any m ts us rs → g.Mark everything 44 t us vs cs
+and-comma : {A : Type 0} {t : Bool} {m : Reader A} {ts us vs : Trees} {rs cs : List ℕ} → Takes Any m ts us rs →
+    g.Mark everything 44 t us vs cs
     → Takes Another (m >>= r.comma) ts vs (rs ++ cs)
 and-comma h k = and-then h (λ a y. comma-complete a k)
 
-parameter-complete : {t : Bool} {ts us vs : Trees} {ps cs : List ℕ} (angle : ℕ) → g.Parameter everything ts us ps → g.Mark everything 44 t us vs cs
+parameter-complete : {t : Bool} {ts us vs : Trees} {ps cs : List ℕ} (angle : ℕ) → g.Parameter everything ts us ps →
+    g.Mark everything 44 t us vs cs
     → (row : ℕ) → Taken Another (r.parameter angle row ts) (ps ++ cs) vs
 parameter-complete angle (g.Parameter.lifetime {q = q} {p = p} e f u b) m row =
-    same-as (chosen (isPunct 39 q) _ _ e) (from-complete role.parameter-name row (and-comma (lifetimeAfter-complete row p f b) m))
+    same-as (chosen (isPunct 39 q) _ _ e) (from-complete role.parameter-name row
+    (and-comma (lifetimeAfter-complete row p f b) m))
 parameter-complete angle (g.Parameter.constant {q = q} {p = p} e f b u) m row =
     let i = and-parts (isIdent q) (same (q .text) CONST) e .0 in
-    same-as (passed-over (isPunct 39 q) _ _ (ident-no-punct 39 q i) ∙ passed-over (isPunct 62 q) _ _ (ident-no-punct 62 q i) ∙ chosen (isWord CONST q) _ _ e)
+    same-as (passed-over (isPunct 39 q) _ _ (ident-no-punct 39 q i) ∙
+    passed-over (isPunct 62 q) _ _ (ident-no-punct 62 q i) ∙ chosen (isWord CONST q) _ _ e)
     (from-complete role.parameter-name row (and-comma (constantAfter-complete p f b) m))
 parameter-complete angle (g.Parameter.plain {q = q} {us = us} e f h k) m row =
-    same-as (type-chosen angle row q us e f) (from-complete role.parameter-name row (and-comma (typeAfter-plain (q .text) h k) m))
+    same-as (type-chosen angle row q us e f) (from-complete role.parameter-name row
+    (and-comma (typeAfter-plain (q .text) h k) m))
 parameter-complete angle (g.Parameter.bounded {q = q} {c = c} {us = us} e f i h) m row =
-    same-as (type-chosen angle row q (leaf c us) e f) (from-complete role.parameter-name row (and-comma (typeAfter-bounded (q .text) c i h) m))
+    same-as (type-chosen angle row q (leaf c us) e f) (from-complete role.parameter-name row
+    (and-comma (typeAfter-bounded (q .text) c i h) m))
 parameter-complete angle (g.Parameter.defaulted {q = q} {c = c} {us = us} e f i h u) m row =
-    same-as (type-chosen angle row q (leaf c us) e f) (from-complete role.parameter-name row (and-comma (typeAfter-defaulted (q .text) c i h) m))
+    same-as (type-chosen angle row q (leaf c us) e f) (from-complete role.parameter-name row
+    (and-comma (typeAfter-defaulted (q .text) c i h) m))
 
 -- ## Going round
 
 module _ {A : Type 0} (m : Reader (Maybe A)) (rd : c.Rounding m) where
   every-last : {ts us : Trees} {rs : List ℕ} → Takes Last m ts us rs → Takes Any (every m) ts us rs
   every-last {ts} {us} {rs} h =
-      with-roles (append-nil rs) (record { from = λ row. same-as (c.every-step m rd row ts) (and-then {f = more (every m)} h go .from row) })
+      with-roles (append-nil rs) (record {
+        from = λ row. same-as (c.every-step m rd row ts) (and-then
+            {f = more (every m)} h go .from row);
+      })
     where
       go : (x : Maybe A) → Last x → Takes Any (more (every m) x) us us []
       go done e = pure-takes [] us tt
       go (one a) e = absurd e
 
-  every-next : {ts us vs : Trees} {rs qs : List ℕ} → Takes Another m ts us rs → Takes Any (every m) us vs qs → Takes Any (every m) ts vs (rs ++ qs)
-  every-next {ts} {us} {vs} {rs} {qs} h k = record { from = λ row. same-as (c.every-step m rd row ts) (and-then {f = more (every m)} h go .from row) }
+  every-next : {ts us vs : Trees} {rs qs : List ℕ} → Takes Another m ts us rs → Takes Any (every m) us vs qs →
+      Takes Any (every m) ts vs (rs ++ qs)
+  every-next {ts} {us} {vs} {rs} {qs} h k =
+      record { from = λ row. same-as (c.every-step m rd row ts) (and-then {f = more (every m)} h go .from row) }
     where
       go : (x : Maybe A) → Another x → Takes Any (more (every m) x) us vs qs
       go done e = absurd e
       go (one a) e = and-pure (λ xs. a ∷ xs) k (λ x y. tt)
 
-pub parameters-complete : {ts us : Trees} {rs : List ℕ} (angle : ℕ) → g.Parameters everything ts us rs → Takes Any (every (r.parameter angle)) ts us rs
+pub parameters-complete : {ts us : Trees} {rs : List ℕ} (angle : ℕ) → g.Parameters everything ts us rs →
+    Takes Any (every (r.parameter angle)) ts us rs
 parameters-complete angle (g.Parameters.close {q = q} {us = us} e) =
     every-last (r.parameter angle) (c.parameter-round angle)
-    (record { from = λ row. taken-as done (role.angle ∷ []) us tt (passed-over (isPunct 39 q) _ _ (punct-other 62 39 q e refl) ∙ chosen (isPunct 62 q) _ _ e) })
+    (record {
+      from = λ row. taken-as done (role.angle ∷ []) us tt (passed-over (isPunct 39 q) _ _
+          (punct-other 62 39 q e refl) ∙ chosen (isPunct 62 q) _ _ e);
+    })
 parameters-complete angle (g.Parameters.next h m x y k) =
-    every-next (r.parameter angle) (c.parameter-round angle) (record { from = parameter-complete angle h m }) (parameters-complete angle k)
+    every-next (r.parameter angle) (c.parameter-round angle) (record { from = parameter-complete angle h m })
+    (parameters-complete angle k)
 
 pub generics-complete : {ts us : Trees} {rs : List ℕ} → g.Generics everything ts us rs → Takes Any r.generics ts us rs
 generics-complete (g.Generics.none {ts = ts} e) = record { from = λ row. taken-as without [] ts tt (none ts e row) }
@@ -157,7 +191,10 @@ generics-complete (g.Generics.none {ts = ts} e) = record { from = λ row. taken-
     none end e row = refl
     none (group d ts us) e row = refl
     none (leaf q us) e row = passed-over (isPunct 60 q) _ _ e
-generics-complete (g.Generics.generics {q = q} e h) = record { from = λ row. same-as (chosen (isPunct 60 q) _ _ e) (from-complete role.angle row (and-pure angled (parameters-complete row h) (λ x y. tt))) }
+generics-complete (g.Generics.generics {q = q} e h) = record {
+  from = λ row. same-as (chosen (isPunct 60 q) _ _ e)
+      (from-complete role.angle row (and-pure angled (parameters-complete row h) (λ x y. tt)));
+}
 
 pub clause-complete : {ts us : Trees} {rs : List ℕ} → g.Clause everything ts us rs → Takes Any r.clause ts us rs
 clause-complete (g.Clause.none {ts = ts} e) = record { from = λ row. taken-as end [] ts tt (none ts e row) }
@@ -167,7 +204,10 @@ clause-complete (g.Clause.none {ts = ts} e) = record { from = λ row. taken-as e
     none (group d ts us) e row = refl
     none (leaf q us) e row = passed-over (isWord WHERE q) _ _ e
 clause-complete (g.Clause.clause {q = q} e h u) =
-    record { from = λ row. same-as (chosen (isWord WHERE q) _ _ e) (from-complete role.where-word row (run-complete clauseStops role.where-run h)) }
+    record {
+      from = λ row. same-as (chosen (isWord WHERE q) _ _ e) (from-complete role.where-word row
+          (run-complete clauseStops role.where-run h));
+    }
 
 -- ## Fields
 
@@ -175,38 +215,58 @@ fieldAfter-complete : (n : List ℕ) (c : Row) {t : Bool} {vs ws xs : Trees} {rs
     → g.Run everything fieldStops role.type 0 false vs ws rs
     → g.Mark everything 44 t ws xs cs → Takes Another (r.fieldAfter n) (leaf c vs) xs (role.separator ∷ (rs ++ cs))
 fieldAfter-complete n c {vs = vs} i j m =
-    mark-then {f = λ t. r.must 23 t >>= λ u. r.run fieldStops role.type >>= λ f. r.comma (record { name = n; type = f })} {b = 58} {t = true} {us = vs} (g.Mark.present {q = c} i)
-    (and-then {m = r.must 23 true} (pure-takes {P = Any} tt vs tt) (λ z y. and-then (run-complete fieldStops role.type j) (λ f y. comma-complete {A = Field} (record { name = n; type = f }) m)))
+    mark-then {f = λ t. r.must 23 t >>= λ u. r.run fieldStops role.type >>= λ f. r.comma (record {
+      name = n;
+      type = f;
+    })} {b = 58} {t = true} {us = vs} (g.Mark.present {q = c} i)
+    (and-then {m = r.must 23 true} (pure-takes {P = Any} tt vs tt)
+    (λ z y. and-then (run-complete fieldStops role.type j)
+    (λ f y. comma-complete {A = Field} (record { name = n; type = f }) m)))
 
-fieldStart-complete : (q c : Row) {t : Bool} {vs ws xs : Trees} {rs cs : List ℕ} → isIdent q ≡ true → isPunct 58 c ≡ true
+fieldStart-complete : (q c : Row) {t : Bool} {vs ws xs : Trees} {rs cs : List ℕ} → isIdent q ≡ true →
+    isPunct 58 c ≡ true
     → g.Run everything fieldStops role.type 0 false vs ws rs
-    → g.Mark everything 44 t ws xs cs → Takes Another r.fieldStart (leaf q (leaf c vs)) xs (role.field-name ∷ role.separator ∷ (rs ++ cs))
+    → g.Mark everything 44 t ws xs cs → Takes Another r.fieldStart (leaf q (leaf c vs)) xs
+    (role.field-name ∷ role.separator ∷ (rs ++ cs))
 fieldStart-complete q c e i j m =
-    record { from = λ row. same-as (chosen (isIdent q) _ _ e) (from-complete role.field-name row (fieldAfter-complete (q .text) c i j m)) }
+    record {
+      from = λ row. same-as (chosen (isIdent q) _ _ e) (from-complete role.field-name row
+          (fieldAfter-complete (q .text) c i j m));
+    }
 
-namedField-complete : {ts us : Trees} {rs : List ℕ} → g.NamedField everything ts us rs → Takes Another r.namedField ts us rs
+namedField-complete : {ts us : Trees} {rs : List ℕ} → g.NamedField everything ts us rs →
+    Takes Another r.namedField ts us rs
 namedField-complete (g.NamedField.field {q = q} {c = c} a v e i j u m) =
     and-then (attributes-complete a) (λ x y. and-then (visibility-complete v) (λ x y. fieldStart-complete q c e i j m))
 
-pub namedFields-complete : {ts : Trees} {rs : List ℕ} → g.NamedFields everything ts rs → Takes Any (every r.namedField) ts end rs
+pub namedFields-complete : {ts : Trees} {rs : List ℕ} → g.NamedFields everything ts rs →
+    Takes Any (every r.namedField) ts end rs
 namedFields-complete (g.NamedFields.last {bs = bs} a v u) =
     every-last r.namedField c.namedField-round
-    (and-then (attributes-complete a) (λ x y. with-roles (append-nil bs) (and-then (visibility-complete v) (λ x y. record { from = λ row. taken-as done [] end tt refl }))))
-namedFields-complete (g.NamedFields.next h k) = every-next r.namedField c.namedField-round (namedField-complete h) (namedFields-complete k)
+    (and-then (attributes-complete a) (λ x y. with-roles (append-nil bs)
+    (and-then (visibility-complete v) (λ x y. record { from = λ row. taken-as done [] end tt refl }))))
+namedFields-complete (g.NamedFields.next h k) =
+    every-next r.namedField c.namedField-round (namedField-complete h) (namedFields-complete k)
 
 tuple-open : (ts : Trees) → isEnd ts ≡ false → (row : ℕ) → r.tupleField row ts ≡ r.tupleType row ts
 tuple-open end e row = absurd (false≢true (sym e))
 tuple-open (leaf q us) e row = refl
 tuple-open (group d ts us) e row = refl
 
-tupleType-complete : {ts us : Trees} {rs : List ℕ} → g.TupleField everything ts us rs → Takes Another r.tupleType ts us rs
+tupleType-complete : {ts us : Trees} {rs : List ℕ} → g.TupleField everything ts us rs →
+    Takes Another r.tupleType ts us rs
 tupleType-complete (g.TupleField.field a v j u m) =
-    and-then (attributes-complete a) (λ x y. and-then (visibility-complete v) (λ x y. and-then (run-complete fieldStops role.type j) (λ t y. comma-complete t m)))
+    and-then (attributes-complete a) (λ x y. and-then (visibility-complete v)
+    (λ x y. and-then (run-complete fieldStops role.type j) (λ t y. comma-complete t m)))
 
-pub tupleFields-complete : {ts : Trees} {rs : List ℕ} → g.TupleFields everything ts rs → Takes Any (every r.tupleField) ts end rs
-tupleFields-complete g.TupleFields.last = every-last r.tupleField c.tupleField-round (record { from = λ row. taken-as done [] end tt refl })
+pub tupleFields-complete : {ts : Trees} {rs : List ℕ} → g.TupleFields everything ts rs →
+    Takes Any (every r.tupleField) ts end rs
+tupleFields-complete g.TupleFields.last =
+    every-last r.tupleField c.tupleField-round (record { from = λ row. taken-as done [] end tt refl })
 tupleFields-complete (g.TupleFields.next {ts = ts} e h k) =
-    every-next r.tupleField c.tupleField-round (record { from = λ row. same-as (tuple-open ts e row) (tupleType-complete h .from row) }) (tupleFields-complete k)
+    every-next r.tupleField c.tupleField-round (record {
+      from = λ row. same-as (tuple-open ts e row) (tupleType-complete h .from row);
+    }) (tupleFields-complete k)
 
 -- ## Variants and bodies
 
@@ -220,8 +280,11 @@ named-complete h = and-pure Fields.named (namedFields-complete h) (λ x y. tt)
 tuple-complete : {ts : Trees} {rs : List ℕ} → g.TupleFields everything ts rs → Takes Any r.tupleFields ts end rs
 tuple-complete h = and-pure Fields.tuple (tupleFields-complete h) (λ x y. tt)
 
-pub variantFields-complete : {ts us : Trees} {rs : List ℕ} → g.VariantFields everything ts us rs → Takes Any r.variantFields ts us rs
-variantFields-complete (g.VariantFields.none {ts = ts} e) = record { from = λ row. taken-as Fields.unit [] ts tt (none ts e row) }
+pub variantFields-complete : {ts us : Trees} {rs : List ℕ} → g.VariantFields everything ts us rs →
+    Takes Any r.variantFields ts us rs
+variantFields-complete (g.VariantFields.none {ts = ts} e) = record {
+  from = λ row. taken-as Fields.unit [] ts tt (none ts e row);
+}
   where
     none : (ts : Trees) → isGroup ts ≡ false → (row : ℕ) → r.variantFields row ts ≡ took Fields.unit [] ts
     none end e row = refl
@@ -232,12 +295,15 @@ variantFields-complete (g.VariantFields.named {d = d} {us = us} e h) =
 variantFields-complete (g.VariantFields.tuple {d = d} {us = us} e h) =
     record {
       from =
-          λ row. same-as (passed-over (eqb d 123) _ _ (eqb-other d 40 123 e refl) ∙ chosen (eqb d 40) _ _ e) (closing-complete us (tuple-complete h .from (row + 1)));
+          λ row. same-as (passed-over (eqb d 123) _ _ (eqb-other d 40 123 e refl) ∙ chosen (eqb d 40) _ _ e)
+          (closing-complete us (tuple-complete h .from (row + 1)));
     }
 
-value-taken : {ts us : Trees} {rs : List ℕ} → g.Value everything ts us rs → (row : ℕ) → Taken Any (r.valueIf row ts) rs us
+value-taken : {ts us : Trees} {rs : List ℕ} → g.Value everything ts us rs → (row : ℕ) →
+    Taken Any (r.valueIf row ts) rs us
 value-taken (g.Value.literal {e = e} {q = q} {us = us} a b) row =
-    taken-as (Value.literal (q .text)) (role.separator ∷ role.value ∷ []) us tt (chosen (isPunct 61 e) _ _ a ∙ ap (onward (role.separator ∷ [])) (chosen (isLiteral q) _ _ b))
+    taken-as (Value.literal (q .text)) (role.separator ∷ role.value ∷ []) us tt
+    (chosen (isPunct 61 e) _ _ a ∙ ap (onward (role.separator ∷ [])) (chosen (isLiteral q) _ _ b))
 value-taken (g.Value.negative {e = e} {m = m} {q = q} {us = us} a b k d) row =
     taken-as (Value.negative (r.worth (q .text))) (role.separator ∷ role.value ∷ role.value ∷ []) us tt
     (chosen (isPunct 61 e) _ _ a
@@ -247,9 +313,11 @@ value-taken (g.Value.negative {e = e} {m = m} {q = q} {us = us} a b k d) row =
     ∙ ap (onward (role.value ∷ [])) (chosen (isLiteral q) _ _ k ∙ chosen (negatable (q .text)) _ _ d)))
 
 -- without a value: a `,` or the end of the group follows
-no-value : {t : Bool} {ws xs : Trees} {cs : List ℕ} → g.Mark everything 44 t ws xs cs → (t || isEnd xs) ≡ true → (row : ℕ)
+no-value : {t : Bool} {ws xs : Trees} {cs : List ℕ} → g.Mark everything 44 t ws xs cs → (t || isEnd xs) ≡ true →
+    (row : ℕ)
     → r.valueIf row ws ≡ took absent [] ws
-no-value (g.Mark.present {q = q} e) p row = passed-over (isPunct 61 q) _ _ (punct-other 44 61 q e refl) ∙ chosen (isPunct 44 q) _ _ e
+no-value (g.Mark.present {q = q} e) p row = passed-over (isPunct 61 q) _ _ (punct-other 44 61 q e refl) ∙
+    chosen (isPunct 44 q) _ _ e
 no-value (g.Mark.absent {ts = ts} e) p row = at-end ts p
   where
     at-end : (ts : Trees) → isEnd ts ≡ true → r.valueIf row ts ≡ took absent [] ts
@@ -261,21 +329,26 @@ no-value (g.Mark.absent {ts = ts} e) p row = at-end ts p
 abbrev valueComma : List ℕ → Fields → Reader (Maybe Variant)
 valueComma n f = r.valueIf >>= λ v. r.comma (record { name = n; fields = f; value = v })
 
-valueComma-complete : {t : Bool} {ws xs ys : Trees} {es cs : List ℕ} (n : List ℕ) (f : Fields) → Takes Any r.valueIf ws xs es → g.Mark everything 44 t xs ys cs
+valueComma-complete : {t : Bool} {ws xs ys : Trees} {es cs : List ℕ} (n : List ℕ) (f : Fields) →
+    Takes Any r.valueIf ws xs es → g.Mark everything 44 t xs ys cs
     → Takes Another (valueComma n f) ws ys (es ++ cs)
-valueComma-complete n f h m = and-then h (λ v y. comma-complete {A = Variant} (record { name = n; fields = f; value = v }) m)
+valueComma-complete n f h m =
+    and-then h (λ v y. comma-complete {A = Variant} (record { name = n; fields = f; value = v }) m)
 
 variantRest-complete : {vs ws ys : Trees} {fs es : List ℕ} (n : List ℕ) → g.VariantFields everything vs ws fs
     → ((f : Fields) → Takes Another (valueComma n f) ws ys es) → Takes Another (c.variantRest n) vs ys (fs ++ es)
 variantRest-complete n h k = and-then (variantFields-complete h) (λ f y. k f)
 
-variantHere-complete : {ts us : Trees} {rs : List ℕ} → g.Variant everything ts us rs → Takes Another r.variantHere ts us rs
+variantHere-complete : {ts us : Trees} {rs : List ℕ} → g.Variant everything ts us rs →
+    Takes Another r.variantHere ts us rs
 variantHere-complete (g.Variant.plain {ws = ws} a b h m p) =
     and-then (attributes-complete a)
     (λ x y. name-then {f = c.variantRest} b
-    (λ n. variantRest-complete n h (λ f. valueComma-complete n f (record { from = λ row. taken-as absent [] ws tt (no-value m p row) }) m)))
+    (λ n. variantRest-complete n h (λ f. valueComma-complete n f
+    (record { from = λ row. taken-as absent [] ws tt (no-value m p row) }) m)))
 variantHere-complete (g.Variant.valued a b h k m p q) =
-    and-then (attributes-complete a) (λ x y. name-then {f = c.variantRest} b (λ n. variantRest-complete n h (λ f. valueComma-complete n f (record { from = value-taken k }) m)))
+    and-then (attributes-complete a) (λ x y. name-then {f = c.variantRest} b
+    (λ n. variantRest-complete n h (λ f. valueComma-complete n f (record { from = value-taken k }) m)))
 
 variant-open : (ts : Trees) → isEnd ts ≡ false → (row : ℕ) → r.variant row ts ≡ r.variantHere row ts
 variant-open end e row = absurd (false≢true (sym e))
@@ -283,45 +356,66 @@ variant-open (leaf q us) e row = refl
 variant-open (group d ts us) e row = refl
 
 pub variants-complete : {ts : Trees} {rs : List ℕ} → g.Variants everything ts rs → Takes Any (every r.variant) ts end rs
-variants-complete g.Variants.last = every-last r.variant c.variant-round (record { from = λ row. taken-as done [] end tt refl })
+variants-complete g.Variants.last =
+    every-last r.variant c.variant-round (record { from = λ row. taken-as done [] end tt refl })
 variants-complete (g.Variants.next {ts = ts} e h k) =
-    every-next r.variant c.variant-round (record { from = λ row. same-as (variant-open ts e row) (variantHere-complete h .from row) }) (variants-complete k)
+    every-next r.variant c.variant-round (record {
+      from = λ row. same-as (variant-open ts e row) (variantHere-complete
+          h .from row);
+    }) (variants-complete k)
 
-pub structBody-complete : {tuple : Bool} {ts us : Trees} {rs : List ℕ} → g.StructBody everything tuple ts us rs → Takes Any r.structBody ts us rs
-structBody-complete (g.StructBody.unit {q = q} {us = us} e) = record { from = λ row. taken-as (Body.fields Fields.unit) (role.delimiter ∷ []) us tt (chosen (isPunct 59 q) _ _ e) }
+pub structBody-complete : {tuple : Bool} {ts us : Trees} {rs : List ℕ} → g.StructBody everything tuple ts us rs →
+    Takes Any r.structBody ts us rs
+structBody-complete (g.StructBody.unit {q = q} {us = us} e) = record {
+  from = λ row. taken-as (Body.fields Fields.unit) (role.delimiter ∷ []) us tt (chosen (isPunct 59 q) _ _ e);
+}
 structBody-complete (g.StructBody.named {d = d} {us = us} e h) =
-    record { from = λ row. same-as (chosen (eqb d 123) _ _ e) (closing-complete us (and-pure Body.fields (named-complete h) (λ x y. tt) .from (row + 1))) }
+    record {
+      from = λ row. same-as (chosen (eqb d 123) _ _ e) (closing-complete us
+          (and-pure Body.fields (named-complete h) (λ x y. tt) .from (row + 1)));
+    }
 structBody-complete (g.StructBody.tuple {d = d} {us = us} e h) =
     record {
       from =
-          λ row. same-as (passed-over (eqb d 123) _ _ (eqb-other d 40 123 e refl) ∙ chosen (eqb d 40) _ _ e) (closing-complete us (and-pure Body.fields (tuple-complete h) (λ x y. tt) .from (row + 1)));
+          λ row. same-as (passed-over (eqb d 123) _ _ (eqb-other d 40 123 e refl) ∙ chosen (eqb d 40) _ _ e)
+          (closing-complete us (and-pure Body.fields (tuple-complete h) (λ x y. tt) .from (row + 1)));
     }
 
 pub enumBody-complete : {ts us : Trees} {rs : List ℕ} → g.EnumBody everything ts us rs → Takes Any r.enumBody ts us rs
-enumBody-complete (g.EnumBody.unit {q = q} {us = us} a e) = record { from = λ row. taken-as (Body.variants []) (role.delimiter ∷ []) us tt (chosen (isPunct 59 q) _ _ e) }
-enumBody-complete (g.EnumBody.variants {us = us} u h) = record { from = λ row. closing-complete us (and-pure Body.variants (variants-complete h) (λ x y. tt) .from (row + 1)) }
+enumBody-complete (g.EnumBody.unit {q = q} {us = us} a e) = record {
+  from = λ row. taken-as (Body.variants []) (role.delimiter ∷ []) us tt (chosen (isPunct 59 q) _ _ e);
+}
+enumBody-complete (g.EnumBody.variants {us = us} u h) = record {
+  from = λ row. closing-complete us (and-pure Body.variants (variants-complete h) (λ x y. tt) .from (row + 1));
+}
 
 -- ## The item
 
 -- what is read after the word and the name
 abbrev itemRest : r.Head → Reader Declaration
 itemRest h =
-    r.generics >>= λ p. r.clause >>= λ c. r.bodyOf (h .kind) >>= λ b. pure (record { kind = h .kind; name = h .name; generics = p; clause = c; body = b })
+    r.generics >>= λ p. r.clause >>= λ c. r.bodyOf (h .kind) >>= λ b. pure
+    (record { kind = h .kind; name = h .name; generics = p; clause = c; body = b })
 
-item-then : {ts₀ ts₁ ts₂ ts₃ ts₄ ts₅ ts₆ : Trees} {ks bs cs ds es fs : List ℕ} (k : Kind) → g.Attributes everything ts₀ ts₁ ks
+item-then : {ts₀ ts₁ ts₂ ts₃ ts₄ ts₅ ts₆ : Trees} {ks bs cs ds es fs : List ℕ} (k : Kind) →
+    g.Attributes everything ts₀ ts₁ ks
     → g.Visibility everything ts₁ ts₂ bs
-    → g.Head everything (isWord (kindWord k)) ts₂ ts₃ cs → g.Generics everything ts₃ ts₄ ds → g.Clause everything ts₄ ts₅ es → Takes Any (r.bodyOf k) ts₅ ts₆ fs
+    → g.Head everything (isWord (kindWord k)) ts₂ ts₃ cs → g.Generics everything ts₃ ts₄ ds →
+    g.Clause everything ts₄ ts₅ es → Takes Any (r.bodyOf k) ts₅ ts₆ fs
     → Takes Any r.item ts₀ ts₆ (ks ++ (bs ++ (cs ++ (ds ++ (es ++ fs)))))
 item-then {ts₃ = ts₃} {ts₅ = ts₅} {ts₆ = ts₆} {ds = ds} {es = es} {fs = fs} k a b c d e f =
-    and-then (attributes-complete a) (λ x y. and-then (visibility-complete b) (λ x y. and-then {f = itemRest} (dataType-complete k c) rest))
+    and-then (attributes-complete a) (λ x y. and-then (visibility-complete b)
+    (λ x y. and-then {f = itemRest} (dataType-complete k c) rest))
   where
     rest : (h : r.Head) → h .kind ≡ k → Takes Any (itemRest h) ts₃ ts₆ (ds ++ (es ++ fs))
     rest h q =
         and-then (generics-complete d)
         (λ p y. and-then (clause-complete e)
-        (λ c y. and-pure (λ b. record { kind = h .kind; name = h .name; generics = p; clause = c; body = b }) (subst (λ (l : Kind). Takes Any (r.bodyOf l) ts₅ ts₆ fs) (sym q) f) (λ x y. tt)))
+        (λ c y. and-pure (λ b. record { kind = h .kind; name = h .name; generics = p; clause = c; body = b })
+        (subst (λ (l : Kind). Takes Any (r.bodyOf l) ts₅ ts₆ fs) (sym q) f) (λ x y. tt)))
 
-pub item-complete : {tuple : Bool} {ts us : Trees} {rs : List ℕ} → g.Item everything tuple ts us rs → Takes Any r.item ts us rs
+pub item-complete : {tuple : Bool} {ts us : Trees} {rs : List ℕ} → g.Item everything tuple ts us rs →
+    Takes Any r.item ts us rs
 item-complete (g.Item.struct a b c d e f) = item-then Kind.struct a b c d e (structBody-complete f)
 item-complete (g.Item.enum a b c d e f) = item-then Kind.enum a b c d e (enumBody-complete f)
 
@@ -334,4 +428,10 @@ pub record Read (ts : Trees) (qs : List ℕ) : Type 0 where
   pub roles : qs ≡ taken ++ replicate (size rest) role.left-over
 
 pub obeys-complete : {ts : Trees} {qs : List ℕ} → g.Obeys everything ts qs → Read ts qs
-obeys-complete (g.Obeys.obeys {us = us} {rs = rs} h l) = let t = item-complete h .from 0 in record { declaration = t .value; taken = rs; rest = us; reading = t .equal; roles = refl }
+obeys-complete (g.Obeys.obeys {us = us} {rs = rs} h l) = let t = item-complete h .from 0 in record {
+  declaration = t .value;
+  taken = rs;
+  rest = us;
+  reading = t .equal;
+  roles = refl;
+}

@@ -19,7 +19,8 @@ Named rs = all (λ r. ltb r 19) rs ≡ true
 
 both : (xs ys : List ℕ) → Named xs → Named ys → Named (xs ++ ys)
 both [] ys a b = b
-both (x ∷ xs) ys a b = let p = and-parts (ltb x 19) (all (λ r. ltb r 19) xs) a in and-both (ltb x 19) _ (p .0) (both xs ys (p .1) b)
+both (x ∷ xs) ys a b =
+    let p = and-parts (ltb x 19) (all (λ r. ltb r 19) xs) a in and-both (ltb x 19) _ (p .0) (both xs ys (p .1) b)
 
 one-more : (r : ℕ) (rs : List ℕ) → ltb r 19 ≡ true → Named rs → Named (r ∷ rs)
 one-more r rs e h = and-both (ltb r 19) _ e h
@@ -32,7 +33,8 @@ delimited : (rs : List ℕ) → Named rs → Named (role.delimiter ∷ rs ++ rol
 delimited rs h = one-more role.delimiter (rs ++ role.delimiter ∷ []) refl (both rs (role.delimiter ∷ []) h refl)
 
 module _ (allowed : Difference → Bool) where
-  run-roles : {st : Stops} {r depth : ℕ} {minus : Bool} {ts us : Trees} {rs : List ℕ} → ltb r 19 ≡ true → g.Run allowed st r depth minus ts us rs → Named rs
+  run-roles : {st : Stops} {r depth : ℕ} {minus : Bool} {ts us : Trees} {rs : List ℕ} → ltb r 19 ≡ true →
+      g.Run allowed st r depth minus ts us rs → Named rs
   run-roles {r = r} e (g.Run.arrow {rs = rs} a h) = one-more r rs e (run-roles e h)
   run-roles {r = r} e (g.Run.deeper {rs = rs} a h) = one-more r rs e (run-roles e h)
   run-roles {r = r} e (g.Run.back {rs = rs} a z h) = one-more r rs e (run-roles e h)
@@ -40,16 +42,19 @@ module _ (allowed : Difference → Bool) where
   run-roles e (g.Run.comma a z h) = refl
   run-roles e (g.Run.stop a) = refl
   run-roles {r = r} e (g.Run.token {rs = rs} a h) = one-more r rs e (run-roles e h)
-  run-roles {r = r} e (g.Run.inside {ts = ts} {rs = rs} a h) = both (copied r ts) rs (repeated (whole ts) r e) (run-roles e h)
+  run-roles {r = r} e (g.Run.inside {ts = ts} {rs = rs} a h) =
+      both (copied r ts) rs (repeated (whole ts) r e) (run-roles e h)
   run-roles e (g.Run.ended a) = refl
 
-  word-roles : {is : Row → Bool} {r : ℕ} {ts us : Trees} {rs : List ℕ} → ltb r 19 ≡ true → g.Word allowed is r ts us rs → Named rs
+  word-roles : {is : Row → Bool} {r : ℕ} {ts us : Trees} {rs : List ℕ} → ltb r 19 ≡ true →
+      g.Word allowed is r ts us rs → Named rs
   word-roles {r = r} e (g.Word.ident a) = one-more r [] e refl
   word-roles {r = r} e (g.Word.wrapped {ts = ts} a b) = repeated (whole ts) r e
 
   attributes-roles : {ts us : Trees} {rs : List ℕ} → g.Attributes allowed ts us rs → Named rs
   attributes-roles (g.Attributes.none e) = refl
-  attributes-roles (g.Attributes.attribute {ts = ts} {rs = rs} a b h) = both (copied role.attribute-group ts) rs (repeated (whole ts) role.attribute-group refl) (attributes-roles h)
+  attributes-roles (g.Attributes.attribute {ts = ts} {rs = rs} a b h) =
+      both (copied role.attribute-group ts) rs (repeated (whole ts) role.attribute-group refl) (attributes-roles h)
   attributes-roles (g.Attributes.idle a b c h) = attributes-roles h
 
   visibility-roles : {ts us : Trees} {rs : List ℕ} → g.Visibility allowed ts us rs → Named rs
@@ -58,7 +63,8 @@ module _ (allowed : Difference → Bool) where
   visibility-roles (g.Visibility.with-scope {ts = ts} a b u) = repeated (whole ts) role.scope refl
   visibility-roles (g.Visibility.wrapped {ts = ts} a b c) = repeated (whole ts) role.visibility refl
   visibility-roles (g.Visibility.wrapped-scoped {ts = ts} {us = us} a b c) =
-      both (copied role.visibility ts) (copied role.scope us) (repeated (whole ts) role.visibility refl) (repeated (whole us) role.scope refl)
+      both (copied role.visibility ts) (copied role.scope us) (repeated (whole ts) role.visibility refl)
+      (repeated (whole us) role.scope refl)
 
   mark-roles : {b : ℕ} {t : Bool} {ts us : Trees} {rs : List ℕ} → g.Mark allowed b t ts us rs → Named rs
   mark-roles (g.Mark.present e) = refl
@@ -93,7 +99,8 @@ module _ (allowed : Difference → Bool) where
       both ks _ (attributes-roles a) (both bs _ (visibility-roles b) (both rs cs (run-roles refl h) (mark-roles m)))
 
   namedFields-roles : {ts : Trees} {rs : List ℕ} → g.NamedFields allowed ts rs → Named rs
-  namedFields-roles (g.NamedFields.last {ks = ks} {bs = bs} a b u) = both ks bs (attributes-roles a) (visibility-roles b)
+  namedFields-roles (g.NamedFields.last {ks = ks} {bs = bs} a b u) =
+      both ks bs (attributes-roles a) (visibility-roles b)
   namedFields-roles (g.NamedFields.next {rs = rs} {qs = qs} h k) = both rs qs (namedField-roles h) (namedFields-roles k)
 
   tupleField-roles : {ts us : Trees} {rs : List ℕ} → g.TupleField allowed ts us rs → Named rs
@@ -102,7 +109,8 @@ module _ (allowed : Difference → Bool) where
 
   tupleFields-roles : {ts : Trees} {rs : List ℕ} → g.TupleFields allowed ts rs → Named rs
   tupleFields-roles g.TupleFields.last = refl
-  tupleFields-roles (g.TupleFields.next {rs = rs} {qs = qs} e h k) = both rs qs (tupleField-roles h) (tupleFields-roles k)
+  tupleFields-roles (g.TupleFields.next {rs = rs} {qs = qs} e h k) =
+      both rs qs (tupleField-roles h) (tupleFields-roles k)
 
   variantFields-roles : {ts us : Trees} {rs : List ℕ} → g.VariantFields allowed ts us rs → Named rs
   variantFields-roles (g.VariantFields.none e) = refl
@@ -117,7 +125,8 @@ module _ (allowed : Difference → Bool) where
   variant-roles (g.Variant.plain {ks = ks} {bs = bs} {fs = fs} {cs = cs} a b f m p) =
       both ks _ (attributes-roles a) (both bs _ (word-roles refl b) (both fs cs (variantFields-roles f) (mark-roles m)))
   variant-roles (g.Variant.valued {ks = ks} {bs = bs} {fs = fs} {es = es} {cs = cs} a b f v m p q) =
-      both ks _ (attributes-roles a) (both bs _ (word-roles refl b) (both fs _ (variantFields-roles f) (both es cs (value-roles v) (mark-roles m))))
+      both ks _ (attributes-roles a) (both bs _ (word-roles refl b)
+      (both fs _ (variantFields-roles f) (both es cs (value-roles v) (mark-roles m))))
 
   variants-roles : {ts : Trees} {rs : List ℕ} → g.Variants allowed ts rs → Named rs
   variants-roles g.Variants.last = refl
@@ -138,10 +147,13 @@ module _ (allowed : Difference → Bool) where
   item-roles : {tuple : Bool} {ts us : Trees} {rs : List ℕ} → g.Item allowed tuple ts us rs → Named rs
   item-roles (g.Item.struct {ks = ks} {bs = bs} {cs = cs} {ds = ds} {es = es} {fs = fs} a b c d e f) =
       both ks _ (attributes-roles a)
-      (both bs _ (visibility-roles b) (both cs _ (head-roles c) (both ds _ (generics-roles d) (both es fs (clause-roles e) (structBody-roles f)))))
+      (both bs _ (visibility-roles b) (both cs _ (head-roles c)
+      (both ds _ (generics-roles d) (both es fs (clause-roles e) (structBody-roles f)))))
   item-roles (g.Item.enum {ks = ks} {bs = bs} {cs = cs} {ds = ds} {es = es} {fs = fs} a b c d e f) =
       both ks _ (attributes-roles a)
-      (both bs _ (visibility-roles b) (both cs _ (head-roles c) (both ds _ (generics-roles d) (both es fs (clause-roles e) (enumBody-roles f)))))
+      (both bs _ (visibility-roles b) (both cs _ (head-roles c)
+      (both ds _ (generics-roles d) (both es fs (clause-roles e) (enumBody-roles f)))))
 
   pub obeys-roles : {ts : Trees} {rs : List ℕ} → g.Obeys allowed ts rs → Named rs
-  obeys-roles (g.Obeys.obeys {us = us} {rs = rs} h l) = both rs (replicate (size us) role.left-over) (item-roles h) (repeated (size us) role.left-over refl)
+  obeys-roles (g.Obeys.obeys {us = us} {rs = rs} h l) =
+      both rs (replicate (size us) role.left-over) (item-roles h) (repeated (size us) role.left-over refl)

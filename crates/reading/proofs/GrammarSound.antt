@@ -19,18 +19,22 @@ use Rattle.reading.proofs.SoundTokens.{Meets, met, refused, met-by, cho
 
 -- ## Marks and generics
 
-pub punctIf-sound : (b row : ℕ) (ts : Trees) → Meets (λ t rs us. g.Mark everything b t ts us rs) (r.punctIf b role.separator row ts)
+pub punctIf-sound : (b row : ℕ) (ts : Trees) → Meets (λ t rs us. g.Mark everything b t ts us rs)
+    (r.punctIf b role.separator row ts)
 punctIf-sound b row end = met [] end (g.Mark.absent refl)
-punctIf-sound b row (leaf q us) = choice (isPunct b q) (λ e. met (role.separator ∷ []) us (g.Mark.present e)) (λ e. met [] (leaf q us) (g.Mark.absent e))
+punctIf-sound b row (leaf q us) = choice (isPunct b q) (λ e. met (role.separator ∷ []) us (g.Mark.present e))
+    (λ e. met [] (leaf q us) (g.Mark.absent e))
 punctIf-sound b row (group d ts us) = met [] (group d ts us) (g.Mark.absent refl)
 
 -- a mark that may stand, with its run
 pub data Marked (b : ℕ) : Trees → List ℕ → Trees → Type 0 where
   none : {ts : Trees} → starts (isPunct b) ts ≡ false → Marked b ts [] ts
-  some : {c : Row} {us vs : Trees} {rs : List ℕ} → isPunct b c ≡ true → g.Run everything parameterStops role.bound 0 false us vs rs
+  some : {c : Row} {us vs : Trees} {rs : List ℕ} → isPunct b c ≡ true →
+      g.Run everything parameterStops role.bound 0 false us vs rs
       → Marked b (leaf c us) (role.separator ∷ rs) vs
 
-weaken : {A : Type 0} {N M : A → List ℕ → Trees → Type 0} {t : Took A} → Meets N t → ((a : A) (rs : List ℕ) (us : Trees) → N a rs us → M a rs us) → Meets M t
+weaken : {A : Type 0} {N M : A → List ℕ → Trees → Type 0} {t : Took A} → Meets N t →
+    ((a : A) (rs : List ℕ) (us : Trees) → N a rs us → M a rs us) → Meets M t
 weaken (met rs us h) k = met rs us (k _ rs us h)
 weaken refused k = refused
 
@@ -48,25 +52,30 @@ bound-of (some e h) = g.Bound.bound e h
 
 -- a `,` that may follow what P says
 data Commaed {A : Type 0} (P : List ℕ → Trees → Type 0) : Maybe A → List ℕ → Trees → Type 0 where
-  commaed : {t : Bool} {a : A} {us vs : Trees} {rs cs : List ℕ} → P rs us → g.Mark everything 44 t us vs cs → Commaed P (one a) (rs ++ cs) vs
+  commaed : {t : Bool} {a : A} {us vs : Trees} {rs cs : List ℕ} → P rs us → g.Mark everything 44 t us vs cs →
+      Commaed P (one a) (rs ++ cs) vs
 
 comma-sound : {A : Type 0} (P : List ℕ → Trees → Type 0) (a : A) (rs : List ℕ) (us : Trees) → P rs us → (row : ℕ)
     → Meets (λ m qs vs. Commaed P m (rs ++ qs) vs) (r.comma a row us)
-comma-sound P a rs us h row = after-met row (punctIf-sound 44 row us) (λ t cs vs m row. met [] vs (rw append-nil (commaed h m)))
+comma-sound P a rs us h row =
+    after-met row (punctIf-sound 44 row us) (λ t cs vs m row. met [] vs (rw append-nil (commaed h m)))
 
 data ParameterName : Trees → List ℕ → Trees → Type 0 where
   name : {p : Row} {us : Trees} → isIdent p ≡ true → ParameterName (leaf p us) (role.parameter-name ∷ []) us
 
-parameterName-sound : (n p row : ℕ) (ts : Trees) → Meets (λ x rs us. ParameterName ts rs us) (r.parameterName n p row ts)
+parameterName-sound : (n p row : ℕ) (ts : Trees) → Meets (λ x rs us. ParameterName ts rs us)
+    (r.parameterName n p row ts)
 parameterName-sound n p row end = refused
-parameterName-sound n p row (leaf q us) = choice (isIdent q) (λ e. met (role.parameter-name ∷ []) us (name e)) (λ e. refused)
+parameterName-sound n p row (leaf q us) =
+    choice (isIdent q) (λ e. met (role.parameter-name ∷ []) us (name e)) (λ e. refused)
 parameterName-sound n p row (group d ts us) = refused
 
 module _ (q : Row) where
   abbrev Named : Trees → List ℕ → Trees → Type 0
   Named us rs vs = g.Parameter everything (leaf q us) vs (role.parameter-name ∷ rs)
 
-  lifetime-sound : (quote row : ℕ) (us : Trees) → isPunct 39 q ≡ true → Meets (λ x rs vs. Named us rs vs) (r.lifetimeAfter quote row us)
+  lifetime-sound : (quote row : ℕ) (us : Trees) → isPunct 39 q ≡ true →
+      Meets (λ x rs vs. Named us rs vs) (r.lifetimeAfter quote row us)
   lifetime-sound quote row us e = after-met row (parameterName-sound 24 quote row us) go
     where
       go : {us : Trees} (n rs : List ℕ) (vs : Trees) → ParameterName us rs vs → (row : ℕ)
@@ -75,29 +84,36 @@ module _ (q : Row) where
           after-met row (marked-run-sound 58 row vs)
           (λ b qs ws h row. met [] ws (rw append-nil (g.Parameter.lifetime e f refl (bound-of h))))
 
-  constant-sound : (row : ℕ) (us : Trees) → isWord CONST q ≡ true → Meets (λ x rs vs. Named us rs vs) (r.constantAfter row us)
+  constant-sound : (row : ℕ) (us : Trees) → isWord CONST q ≡ true →
+      Meets (λ x rs vs. Named us rs vs) (r.constantAfter row us)
   constant-sound row us e = after-met row (parameterName-sound 27 65535 row us) go
     where
       go : {us : Trees} (n rs : List ℕ) (vs : Trees) → ParameterName us rs vs → (row : ℕ)
           → Meets (λ x qs ws. Named us (rs ++ qs) ws) ((r.marked-run 58 >>= λ b. pure (Parameter.constant n b)) row vs)
       go n rs vs (name f) row =
-          after-met row (marked-run-sound 58 row vs) (λ b qs ws h row. met [] ws (rw append-nil (g.Parameter.constant e f (bound-of h) refl)))
+          after-met row (marked-run-sound 58 row vs) (λ b qs ws h row. met [] ws
+          (rw append-nil (g.Parameter.constant e f (bound-of h) refl)))
 
-  type-sound : (row : ℕ) (us : Trees) (n : List ℕ) → isWord CONST q ≡ false → isIdent q ≡ true → Meets (λ x rs vs. Named us rs vs) (r.typeAfter n row us)
+  type-sound : (row : ℕ) (us : Trees) (n : List ℕ) → isWord CONST q ≡ false → isIdent q ≡ true →
+      Meets (λ x rs vs. Named us rs vs) (r.typeAfter n row us)
   type-sound row us n e f = after-met row (punctIf-sound 58 row us) go
     where
-      default : {us : Trees} → starts (isPunct 58) us ≡ false → (rs : List ℕ) (vs : Trees) → Marked 61 us rs vs → Named us rs vs
+      default : {us : Trees} → starts (isPunct 58) us ≡ false → (rs : List ℕ) (vs : Trees) → Marked 61 us rs vs →
+          Named us rs vs
       default a rs vs (none b) = g.Parameter.plain e f a b
       default a rs vs (some b h) = g.Parameter.defaulted e f b h refl
 
       go : {us : Trees} (t : Bool) (rs : List ℕ) (vs : Trees) → g.Mark everything 58 t us vs rs → (row : ℕ)
           → Meets (λ x qs ws. Named us (rs ++ qs) ws) (r.typeRuns n t row vs)
       go true rs vs (g.Mark.present a) row =
-          after-met row (run-sound parameterStops role.bound row vs) (λ x qs ws h row. met [] ws (rw append-nil (g.Parameter.bounded e f a h)))
-      go false rs vs (g.Mark.absent a) row = after-met row (marked-run-sound 61 row vs) (λ x qs ws h row. met [] ws (rw append-nil (default a qs ws h)))
+          after-met row (run-sound parameterStops role.bound row vs)
+          (λ x qs ws h row. met [] ws (rw append-nil (g.Parameter.bounded e f a h)))
+      go false rs vs (g.Mark.absent a) row =
+          after-met row (marked-run-sound 61 row vs) (λ x qs ws h row. met [] ws (rw append-nil (default a qs ws h)))
 
 data ParameterRead : Trees → Maybe Parameter → List ℕ → Trees → Type 0 where
-  another : {t : Bool} {a : Parameter} {ts us vs : Trees} {ps cs : List ℕ} → g.Parameter everything ts us ps → g.Mark everything 44 t us vs cs
+  another : {t : Bool} {a : Parameter} {ts us vs : Trees} {ps cs : List ℕ} → g.Parameter everything ts us ps →
+      g.Mark everything 44 t us vs cs
       → ParameterRead ts (one a) (ps ++ cs) vs
   last : {q : Row} {us : Trees} → isPunct 62 q ≡ true → ParameterRead (leaf q us) done (role.angle ∷ []) us
 
@@ -105,41 +121,53 @@ parameter-read : (angle row : ℕ) (ts : Trees) → Meets (ParameterRead ts) (r.
 parameter-read angle row end = refused
 parameter-read angle row (group d ts us) = refused
 parameter-read angle row (leaf q us) =
-    choice (isPunct 39 q) (λ e. from (after-met (row + 1) (lifetime-sound q row (row + 1) us e) (comma-sound (Named q us))))
+    choice (isPunct 39 q) (λ e. from (after-met (row + 1) (lifetime-sound q row (row + 1) us e)
+    (comma-sound (Named q us))))
     (λ x. choice (isPunct 62 q) (λ e. met (role.angle ∷ []) us (last e))
-    (λ y. choice (isWord CONST q) (λ e. from (after-met (row + 1) (constant-sound q (row + 1) us e) (comma-sound (Named q us))))
-    (λ e. choice (isIdent q) (λ f. from (after-met (row + 1) (type-sound q (row + 1) us (q .text) e f) (comma-sound (Named q us)))) (λ z. refused))))
+    (λ y. choice (isWord CONST q) (λ e. from (after-met (row + 1) (constant-sound q (row + 1) us e)
+    (comma-sound (Named q us))))
+    (λ e. choice (isIdent q) (λ f. from (after-met (row + 1) (type-sound q (row + 1) us (q .text) e f)
+    (comma-sound (Named q us)))) (λ z. refused))))
   where
-    one-more : (m : Maybe Parameter) (rs : List ℕ) (vs : Trees) → Commaed (Named q us) m rs vs → ParameterRead (leaf q us) m (role.parameter-name ∷ rs) vs
+    one-more : (m : Maybe Parameter) (rs : List ℕ) (vs : Trees) → Commaed (Named q us) m rs vs →
+        ParameterRead (leaf q us) m (role.parameter-name ∷ rs) vs
     one-more m rs vs (commaed h k) = another h k
 
-    from : {t : Took (Maybe Parameter)} → Meets (Commaed (Named q us)) t → Meets (ParameterRead (leaf q us)) (onward (role.parameter-name ∷ []) t)
+    from : {t : Took (Maybe Parameter)} → Meets (Commaed (Named q us)) t →
+        Meets (ParameterRead (leaf q us)) (onward (role.parameter-name ∷ []) t)
     from h = onward-met (role.parameter-name ∷ []) h one-more
 
 -- ## Going round: N is what one round reads, L what they all do
 
-module _ {A : Type 0} (m : Reader (Maybe A)) (N : Trees → Maybe A → List ℕ → Trees → Type 0) (L : Trees → List ℕ → Trees → Type 0)
-    (sound : (row : ℕ) (ts : Trees) → Meets (N ts) (m row ts)) (last : (ts : Trees) (rs : List ℕ) (us : Trees) → N ts done rs us → L ts rs us)
+module _ {A : Type 0} (m : Reader (Maybe A)) (N : Trees → Maybe A → List ℕ → Trees → Type 0)
+    (L : Trees → List ℕ → Trees → Type 0)
+    (sound : (row : ℕ) (ts : Trees) → Meets (N ts) (m row ts))
+    (last : (ts : Trees) (rs : List ℕ) (us : Trees) → N ts done rs us → L ts rs us)
     (next : (ts us vs : Trees) (a : A) (rs qs : List ℕ) → N ts (one a) rs us → L us qs vs → L ts (rs ++ qs) vs) where
   rounds-sound : (n row : ℕ) (ts : Trees) → Meets (λ x rs us. L ts rs us) (rounds n m row ts)
   rounds-sound zero row ts = refused
   rounds-sound (suc n) row ts = after-met row (sound row ts) (go (rounds-sound n))
     where
-      go : ((row : ℕ) (ts : Trees) → Meets (λ x rs us. L ts rs us) (rounds n m row ts)) → (x : Maybe A) (rs : List ℕ) (us : Trees) → N ts x rs us → (row : ℕ)
+      go : ((row : ℕ) (ts : Trees) → Meets (λ x rs us. L ts rs us) (rounds n m row ts)) →
+          (x : Maybe A) (rs : List ℕ) (us : Trees) → N ts x rs us → (row : ℕ)
           → Meets (λ y qs vs. L ts (rs ++ qs) vs) (more (rounds n m) x row us)
       go ih done rs us h row = met [] us (rw append-nil (last ts rs us h))
-      go ih (one a) rs us h row = after-met row (ih row us) (λ x qs vs k row. met [] vs (rw append-nil (next ts us vs a rs qs h k)))
+      go ih (one a) rs us h row =
+          after-met row (ih row us) (λ x qs vs k row. met [] vs (rw append-nil (next ts us vs a rs qs h k)))
 
   every-sound : (row : ℕ) (ts : Trees) → Meets (λ x rs us. L ts rs us) (every m row ts)
   every-sound row ts = rounds-sound (suc (size ts)) row ts
 
-pub parameters-sound : (angle row : ℕ) (ts : Trees) → Meets (λ x rs us. g.Parameters everything ts us rs) (every (r.parameter angle) row ts)
-parameters-sound angle = every-sound (r.parameter angle) ParameterRead (λ ts rs us. g.Parameters everything ts us rs) (parameter-read angle) final following
+pub parameters-sound : (angle row : ℕ) (ts : Trees) → Meets (λ x rs us. g.Parameters everything ts us rs)
+    (every (r.parameter angle) row ts)
+parameters-sound angle = every-sound (r.parameter angle) ParameterRead (λ ts rs us. g.Parameters everything ts us rs)
+    (parameter-read angle) final following
   where
     final : (ts : Trees) (rs : List ℕ) (us : Trees) → ParameterRead ts done rs us → g.Parameters everything ts us rs
     final ts rs us (last e) = g.Parameters.close e
 
-    following : (ts us vs : Trees) (a : Parameter) (rs qs : List ℕ) → ParameterRead ts (one a) rs us → g.Parameters everything us vs qs
+    following : (ts us vs : Trees) (a : Parameter) (rs qs : List ℕ) → ParameterRead ts (one a) rs us →
+        g.Parameters everything us vs qs
         → g.Parameters everything ts vs (rs ++ qs)
     following ts us vs a rs qs (another h m) k = g.Parameters.next h m refl refl k
 
@@ -148,33 +176,39 @@ generics-sound row end = met [] end (g.Generics.none refl)
 generics-sound row (group d ts us) = met [] (group d ts us) (g.Generics.none refl)
 generics-sound row (leaf q us) =
     choice (isPunct 60 q)
-    (λ e. onward-met (role.angle ∷ []) (after-met (row + 1) (parameters-sound row (row + 1) us) (λ x rs vs h row. met [] vs (rw append-nil h))) (λ x rs vs h. g.Generics.generics e h))
+    (λ e. onward-met (role.angle ∷ []) (after-met (row + 1) (parameters-sound row (row + 1) us)
+    (λ x rs vs h row. met [] vs (rw append-nil h))) (λ x rs vs h. g.Generics.generics e h))
     (λ e. met [] (leaf q us) (g.Generics.none e))
 
 pub clause-sound : (row : ℕ) (ts : Trees) → Meets (λ x rs us. g.Clause everything ts us rs) (r.clause row ts)
 clause-sound row end = met [] end (g.Clause.none refl)
 clause-sound row (group d ts us) = met [] (group d ts us) (g.Clause.none refl)
 clause-sound row (leaf q us) =
-    choice (isWord WHERE q) (λ e. onward-met (role.where-word ∷ []) (run-sound clauseStops role.where-run (row + 1) us) (λ x rs vs h. g.Clause.clause e h refl)) (λ e. met [] (leaf q us) (g.Clause.none e))
+    choice (isWord WHERE q) (λ e. onward-met (role.where-word ∷ []) (run-sound clauseStops role.where-run (row + 1) us)
+    (λ x rs vs h. g.Clause.clause e h refl)) (λ e. met [] (leaf q us) (g.Clause.none e))
 
 -- ## Fields
 
 data FieldRead : Trees → Maybe Field → List ℕ → Trees → Type 0 where
   another : {a : Field} {ts us : Trees} {rs : List ℕ} → g.NamedField everything ts us rs → FieldRead ts (one a) rs us
-  last : {ts us : Trees} {ks bs : List ℕ} → g.Attributes everything ts us ks → g.Visibility everything us end bs → FieldRead ts done (ks ++ bs) end
+  last : {ts us : Trees} {ks bs : List ℕ} → g.Attributes everything ts us ks → g.Visibility everything us end bs →
+      FieldRead ts done (ks ++ bs) end
 
 module _ (ts us : Trees) (ks : List ℕ) (h : g.Attributes everything ts us ks) where
-  fieldAfter-read : (bs : List ℕ) (q : Row) (vs : Trees) → g.Visibility everything us (leaf q vs) bs → isIdent q ≡ true → (n : List ℕ) (row : ℕ)
+  fieldAfter-read : (bs : List ℕ) (q : Row) (vs : Trees) → g.Visibility everything us (leaf q vs) bs →
+      isIdent q ≡ true → (n : List ℕ) (row : ℕ)
       → Meets (λ m qs ws. FieldRead ts m (ks ++ (bs ++ (role.field-name ∷ qs))) ws) (r.fieldAfter n row vs)
   fieldAfter-read bs q vs i e n row = after-met row (punctIf-sound 58 row vs) (go i)
     where
-      go : {vs : Trees} → g.Visibility everything us (leaf q vs) bs → (t : Bool) (rs : List ℕ) (ws : Trees) → g.Mark everything 58 t vs ws rs → (row : ℕ)
+      go : {vs : Trees} → g.Visibility everything us (leaf q vs) bs → (t : Bool) (rs : List ℕ) (ws : Trees) →
+          g.Mark everything 58 t vs ws rs → (row : ℕ)
           → Meets (λ m qs xs. FieldRead ts m (ks ++ (bs ++ (role.field-name ∷ (rs ++ qs)))) xs)
           ((r.must 23 t >>= λ u. r.run fieldStops role.type >>= λ f. r.comma (record { name = n; type = f })) row ws)
       go i true rs ws (g.Mark.present c) row =
           onward-still []
           (after-met (row + 0) (run-sound fieldStops role.type (row + 0) ws)
-          (λ f qs xs j row. after-met row (punctIf-sound 44 row xs) (λ t cs ys m row. met [] ys (rw append-nil (another (g.NamedField.field h i e c j refl m))))))
+          (λ f qs xs j row. after-met row (punctIf-sound 44 row xs)
+          (λ t cs ys m row. met [] ys (rw append-nil (another (g.NamedField.field h i e c j refl m))))))
       go i false rs ws m row = refused
 
   fieldStart-read : (bs : List ℕ) (vs : Trees) → g.Visibility everything us vs bs → (row : ℕ)
@@ -182,24 +216,30 @@ module _ (ts us : Trees) (ks : List ℕ) (h : g.Attributes everything ts us ks) 
   fieldStart-read bs end i row = met {a = done} [] end (rw append-nil (last h i))
   fieldStart-read bs (group d vs ws) i row = refused
   fieldStart-read bs (leaf q vs) i row =
-      choice (isIdent q) (λ e. onward-still (role.field-name ∷ []) (fieldAfter-read bs q vs i e (q .text) (row + 1))) (λ e. refused)
+      choice (isIdent q) (λ e. onward-still (role.field-name ∷ []) (fieldAfter-read bs q vs i e (q .text) (row + 1)))
+      (λ e. refused)
 
 namedField-read : (row : ℕ) (ts : Trees) → Meets (FieldRead ts) (r.namedField row ts)
 namedField-read row ts =
-    after-met row (attributes-sound row ts) (λ x ks us h row. after-met row (visibility-sound row us) (λ y bs vs i row. fieldStart-read ts us ks h bs vs i row))
+    after-met row (attributes-sound row ts) (λ x ks us h row. after-met row (visibility-sound row us)
+    (λ y bs vs i row. fieldStart-read ts us ks h bs vs i row))
 
-pub namedFields-sound : (row : ℕ) (ts : Trees) → Meets (λ x rs us. g.NamedFields everything ts rs) (every r.namedField row ts)
-namedFields-sound = every-sound r.namedField FieldRead (λ ts rs us. g.NamedFields everything ts rs) namedField-read final following
+pub namedFields-sound : (row : ℕ) (ts : Trees) → Meets (λ x rs us. g.NamedFields everything ts rs)
+    (every r.namedField row ts)
+namedFields-sound =
+    every-sound r.namedField FieldRead (λ ts rs us. g.NamedFields everything ts rs) namedField-read final following
   where
     final : (ts : Trees) (rs : List ℕ) (us : Trees) → FieldRead ts done rs us → g.NamedFields everything ts rs
     final ts rs us (last h i) = g.NamedFields.last h i refl
 
-    following : (ts us vs : Trees) (a : Field) (rs qs : List ℕ) → FieldRead ts (one a) rs us → g.NamedFields everything us qs
+    following : (ts us vs : Trees) (a : Field) (rs qs : List ℕ) → FieldRead ts (one a) rs us →
+        g.NamedFields everything us qs
         → g.NamedFields everything ts (rs ++ qs)
     following ts us vs a rs qs (another h) k = g.NamedFields.next h k
 
 data TypeRead : Trees → Maybe Trees → List ℕ → Trees → Type 0 where
-  another : {a ts us : Trees} {rs : List ℕ} → isEnd ts ≡ false → g.TupleField everything ts us rs → TypeRead ts (one a) rs us
+  another : {a ts us : Trees} {rs : List ℕ} → isEnd ts ≡ false → g.TupleField everything ts us rs →
+      TypeRead ts (one a) rs us
   last : TypeRead end done [] end
 
 tupleType-read : (row : ℕ) (ts : Trees) → isEnd ts ≡ false → Meets (TypeRead ts) (r.tupleType row ts)
@@ -207,31 +247,38 @@ tupleType-read row ts e =
     after-met row (attributes-sound row ts)
     (λ x ks us h row. after-met row (visibility-sound row us)
     (λ y bs vs i row. after-met row (run-sound fieldStops role.type row vs)
-    (λ z qs ws j row. after-met row (punctIf-sound 44 row ws) (λ t cs ys m row. met [] ys (rw append-nil (another e (g.TupleField.field h i j refl m)))))))
+    (λ z qs ws j row. after-met row (punctIf-sound 44 row ws)
+    (λ t cs ys m row. met [] ys (rw append-nil (another e (g.TupleField.field h i j refl m)))))))
 
 tupleField-read : (row : ℕ) (ts : Trees) → Meets (TypeRead ts) (r.tupleField row ts)
 tupleField-read row end = met [] end last
 tupleField-read row (leaf q us) = tupleType-read row (leaf q us) refl
 tupleField-read row (group d ts us) = tupleType-read row (group d ts us) refl
 
-pub tupleFields-sound : (row : ℕ) (ts : Trees) → Meets (λ x rs us. g.TupleFields everything ts rs) (every r.tupleField row ts)
-tupleFields-sound = every-sound r.tupleField TypeRead (λ ts rs us. g.TupleFields everything ts rs) tupleField-read final following
+pub tupleFields-sound : (row : ℕ) (ts : Trees) → Meets (λ x rs us. g.TupleFields everything ts rs)
+    (every r.tupleField row ts)
+tupleFields-sound =
+    every-sound r.tupleField TypeRead (λ ts rs us. g.TupleFields everything ts rs) tupleField-read final following
   where
     final : (ts : Trees) (rs : List ℕ) (us : Trees) → TypeRead ts done rs us → g.TupleFields everything ts rs
     final ts rs us last = g.TupleFields.last
 
-    following : (ts us vs a : Trees) (rs qs : List ℕ) → TypeRead ts (one a) rs us → g.TupleFields everything us qs → g.TupleFields everything ts (rs ++ qs)
+    following : (ts us vs a : Trees) (rs qs : List ℕ) → TypeRead ts (one a) rs us → g.TupleFields everything us qs →
+        g.TupleFields everything ts (rs ++ qs)
     following ts us vs a rs qs (another e h) k = g.TupleFields.next e h k
 
 -- ## Variants and bodies
 
-pure-met : {A B : Type 0} {P : List ℕ → Trees → Type 0} {t : Took A} (row : ℕ) (f : A → B) → Meets (λ x rs us. P rs us) t
+pure-met : {A B : Type 0} {P : List ℕ → Trees → Type 0} {t : Took A} (row : ℕ) (f : A → B) →
+    Meets (λ x rs us. P rs us) t
     → Meets (λ x rs us. P rs us) (after row t (λ a. pure (f a)))
 pure-met row f (met rs us h) = met (rs ++ []) us (rw append-nil h)
 pure-met row f refused = refused
 
-closing-met : {A : Type 0} {P : List ℕ → Type 0} {M : List ℕ → Trees → Type 0} {t : Took A} (us : Trees) → Meets (λ x rs vs. P rs) t
-    → ((rs : List ℕ) → P rs → M (role.delimiter ∷ rs ++ role.delimiter ∷ []) us) → Meets (λ x rs vs. M rs vs) (r.closing us t)
+closing-met : {A : Type 0} {P : List ℕ → Type 0} {M : List ℕ → Trees → Type 0} {t : Took A} (us : Trees) →
+    Meets (λ x rs vs. P rs) t
+    → ((rs : List ℕ) → P rs → M (role.delimiter ∷ rs ++ role.delimiter ∷ []) us) →
+    Meets (λ x rs vs. M rs vs) (r.closing us t)
 closing-met us (met rs vs h) k = met (role.delimiter ∷ rs ++ role.delimiter ∷ []) us (k rs h)
 closing-met us refused k = refused
 
@@ -241,14 +288,17 @@ named-inside row ts = pure-met {P = λ rs us. g.NamedFields everything ts rs} ro
 tuple-inside : (row : ℕ) (ts : Trees) → Meets (λ x rs us. g.TupleFields everything ts rs) (r.tupleFields row ts)
 tuple-inside row ts = pure-met {P = λ rs us. g.TupleFields everything ts rs} row Fields.tuple (tupleFields-sound row ts)
 
-pub variantFields-sound : (row : ℕ) (ts : Trees) → Meets (λ x rs us. g.VariantFields everything ts us rs) (r.variantFields row ts)
+pub variantFields-sound : (row : ℕ) (ts : Trees) → Meets (λ x rs us. g.VariantFields everything ts us rs)
+    (r.variantFields row ts)
 variantFields-sound row end = met [] end (g.VariantFields.none refl)
 variantFields-sound row (leaf q us) = met [] (leaf q us) (g.VariantFields.none refl)
 variantFields-sound row (group d ts us) =
     choice (eqb d 123)
-    (λ e. closing-met {P = g.NamedFields everything ts} {M = λ rs vs. g.VariantFields everything (group d ts us) vs rs} us (named-inside (row + 1) ts) (λ rs h. g.VariantFields.named e h))
+    (λ e. closing-met {P = g.NamedFields everything ts} {M = λ rs vs. g.VariantFields everything (group d ts us) vs rs}
+    us (named-inside (row + 1) ts) (λ rs h. g.VariantFields.named e h))
     (λ x. choice (eqb d 40)
-    (λ e. closing-met {P = g.TupleFields everything ts} {M = λ rs vs. g.VariantFields everything (group d ts us) vs rs} us (tuple-inside (row + 1) ts) (λ rs h. g.VariantFields.tuple e h))
+    (λ e. closing-met {P = g.TupleFields everything ts} {M = λ rs vs. g.VariantFields everything (group d ts us) vs rs}
+    us (tuple-inside (row + 1) ts) (λ rs h. g.VariantFields.tuple e h))
     (λ e. refused))
 
 -- without a value a `,` or the end of the group follows
@@ -261,7 +311,8 @@ negativeValue-read : (e m : Row) → isPunct 61 e ≡ true → isPunct 45 m ≡ 
 negativeValue-read e m a b row end = refused
 negativeValue-read e m a b row (group d ts us) = refused
 negativeValue-read e m a b row (leaf q us) =
-    choice (isLiteral q) (λ c. choice (negatable (q .text)) (λ d. met (role.value ∷ []) us (some (g.Value.negative a b c d))) (λ d. refused)) (λ c. refused)
+    choice (isLiteral q) (λ c. choice (negatable (q .text))
+    (λ d. met (role.value ∷ []) us (some (g.Value.negative a b c d))) (λ d. refused)) (λ c. refused)
 
 discriminant-read : (e : Row) → isPunct 61 e ≡ true → (row : ℕ) (ts : Trees)
     → Meets (λ v rs us. ValueRead (leaf e ts) v (role.separator ∷ rs) us) (r.discriminant row ts)
@@ -269,7 +320,8 @@ discriminant-read e a row end = refused
 discriminant-read e a row (group d ts us) = refused
 discriminant-read e a row (leaf q us) =
     choice (isLiteral q) (λ c. met (role.value ∷ []) us (some (g.Value.literal a c)))
-    (λ c. choice (isPunct 45 q) (λ b. onward-still (role.value ∷ []) (negativeValue-read e q a b (row + 1) us)) (λ b. refused))
+    (λ c. choice (isPunct 45 q) (λ b. onward-still (role.value ∷ []) (negativeValue-read e q a b (row + 1) us))
+    (λ b. refused))
 
 valueIf-read : (row : ℕ) (ts : Trees) → Meets (ValueRead ts) (r.valueIf row ts)
 valueIf-read row end = met [] end (none refl)
@@ -279,14 +331,17 @@ valueIf-read row (leaf q us) =
     (λ e. choice (isPunct 44 q) (λ f. met [] (leaf q us) (none (ap (λ (b : Bool). b || false) f))) (λ f. refused))
 
 data VariantRead : Trees → Maybe Variant → List ℕ → Trees → Type 0 where
-  another : {a : Variant} {ts us : Trees} {rs : List ℕ} → isEnd ts ≡ false → g.Variant everything ts us rs → VariantRead ts (one a) rs us
+  another : {a : Variant} {ts us : Trees} {rs : List ℕ} → isEnd ts ≡ false → g.Variant everything ts us rs →
+      VariantRead ts (one a) rs us
   last : VariantRead end done [] end
 
-parted : {t : Bool} {ws xs : Trees} {cs : List ℕ} → g.Mark everything 44 t ws xs cs → (starts (isPunct 44) ws || isEnd ws) ≡ true → (t || isEnd xs) ≡ true
+parted : {t : Bool} {ws xs : Trees} {cs : List ℕ} → g.Mark everything 44 t ws xs cs →
+    (starts (isPunct 44) ws || isEnd ws) ≡ true → (t || isEnd xs) ≡ true
 parted (g.Mark.present e) p = refl
 parted (g.Mark.absent {ts = ts} e) p = sym (ap (λ (b : Bool). b || isEnd ts) e) ∙ p
 
-variant-of : {t : Bool} {v : Value} {ts us vs ws xs ys : Trees} {ks bs fs es cs : List ℕ} → g.Attributes everything ts us ks
+variant-of : {t : Bool} {v : Value} {ts us vs ws xs ys : Trees} {ks bs fs es cs : List ℕ} →
+    g.Attributes everything ts us ks
     → g.Word everything isIdent role.variant-name us vs bs
     → g.VariantFields everything vs ws fs → ValueRead ws v es xs → g.Mark everything 44 t xs ys cs
     → g.Variant everything ts ys (ks ++ (bs ++ (fs ++ (es ++ cs))))
@@ -299,7 +354,8 @@ variantHere-read row ts e =
     (λ x ks us h row. name-then role.variant-name row us
     (λ n bs vs i row. after-met row (variantFields-sound row vs)
     (λ f fs ws j row. after-met row (valueIf-read row ws)
-    (λ v es xs k row. after-met row (punctIf-sound 44 row xs) (λ t cs ys m row. met [] ys (rw append-nil (another e (variant-of h i j k m))))))))
+    (λ v es xs k row. after-met row (punctIf-sound 44 row xs)
+    (λ t cs ys m row. met [] ys (rw append-nil (another e (variant-of h i j k m))))))))
 
 variant-read : (row : ℕ) (ts : Trees) → Meets (VariantRead ts) (r.variant row ts)
 variant-read row end = met [] end last
@@ -307,38 +363,46 @@ variant-read row (leaf q us) = variantHere-read row (leaf q us) refl
 variant-read row (group d ts us) = variantHere-read row (group d ts us) refl
 
 pub variants-sound : (row : ℕ) (ts : Trees) → Meets (λ x rs us. g.Variants everything ts rs) (every r.variant row ts)
-variants-sound = every-sound r.variant VariantRead (λ ts rs us. g.Variants everything ts rs) variant-read final following
+variants-sound =
+    every-sound r.variant VariantRead (λ ts rs us. g.Variants everything ts rs) variant-read final following
   where
     final : (ts : Trees) (rs : List ℕ) (us : Trees) → VariantRead ts done rs us → g.Variants everything ts rs
     final ts rs us last = g.Variants.last
 
-    following : (ts us vs : Trees) (a : Variant) (rs qs : List ℕ) → VariantRead ts (one a) rs us → g.Variants everything us qs
+    following : (ts us vs : Trees) (a : Variant) (rs qs : List ℕ) → VariantRead ts (one a) rs us →
+        g.Variants everything us qs
         → g.Variants everything ts (rs ++ qs)
     following ts us vs a rs qs (another e h) k = g.Variants.next e h k
 
 -- a body, and for a struct whether it is a tuple's
 pub data BodyRead : Kind → Trees → Trees → List ℕ → Type 0 where
-  ofStruct : {tuple : Bool} {ts us : Trees} {rs : List ℕ} → g.StructBody everything tuple ts us rs → BodyRead Kind.struct ts us rs
+  ofStruct : {tuple : Bool} {ts us : Trees} {rs : List ℕ} → g.StructBody everything tuple ts us rs →
+      BodyRead Kind.struct ts us rs
   ofEnum : {ts us : Trees} {rs : List ℕ} → g.EnumBody everything ts us rs → BodyRead Kind.enum ts us rs
 
 structBody-sound : (row : ℕ) (ts : Trees) → Meets (λ x rs us. BodyRead Kind.struct ts us rs) (r.structBody row ts)
 structBody-sound row end = refused
-structBody-sound row (leaf q us) = choice (isPunct 59 q) (λ e. met (role.delimiter ∷ []) us (ofStruct (g.StructBody.unit e))) (λ e. refused)
+structBody-sound row (leaf q us) =
+    choice (isPunct 59 q) (λ e. met (role.delimiter ∷ []) us (ofStruct (g.StructBody.unit e))) (λ e. refused)
 structBody-sound row (group d ts us) =
     choice (eqb d 123)
     (λ e. closing-met {P = g.NamedFields everything ts} {M = λ rs vs. BodyRead Kind.struct (group d ts us) vs rs} us
-    (pure-met {P = λ rs us. g.NamedFields everything ts rs} (row + 1) Body.fields (named-inside (row + 1) ts)) (λ rs h. ofStruct (g.StructBody.named e h)))
+    (pure-met {P = λ rs us. g.NamedFields everything ts rs} (row + 1) Body.fields (named-inside (row + 1) ts))
+    (λ rs h. ofStruct (g.StructBody.named e h)))
     (λ x. choice (eqb d 40)
     (λ e. closing-met {P = g.TupleFields everything ts} {M = λ rs vs. BodyRead Kind.struct (group d ts us) vs rs} us
-    (pure-met {P = λ rs us. g.TupleFields everything ts rs} (row + 1) Body.fields (tuple-inside (row + 1) ts)) (λ rs h. ofStruct (g.StructBody.tuple e h)))
+    (pure-met {P = λ rs us. g.TupleFields everything ts rs} (row + 1) Body.fields (tuple-inside (row + 1) ts))
+    (λ rs h. ofStruct (g.StructBody.tuple e h)))
     (λ e. refused))
 
 enumBody-sound : (row : ℕ) (ts : Trees) → Meets (λ x rs us. BodyRead Kind.enum ts us rs) (r.enumBody row ts)
 enumBody-sound row end = refused
-enumBody-sound row (leaf q us) = choice (isPunct 59 q) (λ e. met (role.delimiter ∷ []) us (ofEnum (g.EnumBody.unit refl e))) (λ e. refused)
+enumBody-sound row (leaf q us) =
+    choice (isPunct 59 q) (λ e. met (role.delimiter ∷ []) us (ofEnum (g.EnumBody.unit refl e))) (λ e. refused)
 enumBody-sound row (group d ts us) =
     closing-met {P = g.Variants everything ts} {M = λ rs vs. BodyRead Kind.enum (group d ts us) vs rs} us
-    (pure-met {P = λ rs us. g.Variants everything ts rs} (row + 1) Body.variants (variants-sound (row + 1) ts)) (λ rs h. ofEnum (g.EnumBody.variants refl h))
+    (pure-met {P = λ rs us. g.Variants everything ts rs} (row + 1) Body.variants (variants-sound (row + 1) ts))
+    (λ rs h. ofEnum (g.EnumBody.variants refl h))
 
 pub bodyOf-sound : (k : Kind) (row : ℕ) (ts : Trees) → Meets (λ x rs us. BodyRead k ts us rs) (r.bodyOf k row ts)
 bodyOf-sound struct = structBody-sound
@@ -346,24 +410,29 @@ bodyOf-sound enum = enumBody-sound
 
 -- ## The item
 
-item-of : {ts₀ ts₁ ts₂ ts₃ ts₄ ts₅ ts₆ : Trees} {ks bs cs ds es fs : List ℕ} (k : Kind) → g.Attributes everything ts₀ ts₁ ks
+item-of : {ts₀ ts₁ ts₂ ts₃ ts₄ ts₅ ts₆ : Trees} {ks bs cs ds es fs : List ℕ} (k : Kind) →
+    g.Attributes everything ts₀ ts₁ ks
     → g.Visibility everything ts₁ ts₂ bs
-    → g.Head everything (isWord (kindWord k)) ts₂ ts₃ cs → g.Generics everything ts₃ ts₄ ds → g.Clause everything ts₄ ts₅ es → BodyRead k ts₅ ts₆ fs
+    → g.Head everything (isWord (kindWord k)) ts₂ ts₃ cs → g.Generics everything ts₃ ts₄ ds →
+    g.Clause everything ts₄ ts₅ es → BodyRead k ts₅ ts₆ fs
     → (tuple : Bool) × g.Item everything tuple ts₀ ts₆ (ks ++ (bs ++ (cs ++ (ds ++ (es ++ fs)))))
 item-of struct a b c d e (ofStruct {tuple = tuple} f) = (tuple, g.Item.struct a b c d e f)
 item-of enum a b c d e (ofEnum f) = (false, g.Item.enum a b c d e f)
 
-pub item-sound : (row : ℕ) (ts : Trees) → Meets (λ x rs us. (tuple : Bool) × g.Item everything tuple ts us rs) (r.item row ts)
+pub item-sound : (row : ℕ) (ts : Trees) → Meets (λ x rs us. (tuple : Bool) × g.Item everything tuple ts us rs)
+    (r.item row ts)
 item-sound row ts =
     after-met row (attributes-sound row ts)
     (λ x ks ts₁ a row. after-met row (visibility-sound row ts₁)
     (λ y bs ts₂ b row. after-met row (dataType-sound row ts₂)
     (λ h cs ts₃ c row. after-met row (generics-sound row ts₃)
     (λ p ds ts₄ d row. after-met row (clause-sound row ts₄)
-    (λ w es ts₅ e row. after-met row (bodyOf-sound (h .kind) row ts₅) (λ z fs ts₆ f row. met [] ts₆ (rw append-nil (item-of (h .kind) a b c d e f))))))))
+    (λ w es ts₅ e row. after-met row (bodyOf-sound (h .kind) row ts₅)
+    (λ z fs ts₆ f row. met [] ts₆ (rw append-nil (item-of (h .kind) a b c d e f))))))))
 
 -- what the reader of declarations takes obeys, with the rows after it left over
 pub obeys-sound : {ts us : Trees} {d : Declaration} {rs : List ℕ} → r.item 0 ts ≡ took d rs us
     → g.Obeys everything ts (rs ++ replicate (size us) role.left-over)
 obeys-sound {ts} {us} e =
-    let i = met-by (subst (Meets (λ x rs us. (tuple : Bool) × g.Item everything tuple ts us rs)) e (item-sound 0 ts)) in g.Obeys.obeys (i .1) (g.LeftOver.rows refl)
+    let i = met-by (subst (Meets (λ x rs us. (tuple : Bool) × g.Item everything tuple ts us rs)) e
+    (item-sound 0 ts)) in g.Obeys.obeys (i .1) (g.LeftOver.rows refl)

@@ -1,4 +1,5 @@
--- What the role grammar admits with some differences, it admits with more: so with any of them there is at most one assignment.
+-- What the role grammar admits with some differences, it admits with more: so with any of them there is at most one
+-- assignment.
 use mathlib.Core.Path.{_≡_, refl, ap, _∙_, sym}
 use mathlib.Core.Bool.{Bool, true, false, _||_, or-true, false≢true}
 use mathlib.Core.List.{List}
@@ -20,7 +21,8 @@ module _ (fewer more : Difference → Bool) (wider : (d : Difference) → fewer 
       go true e u = ap (λ (m : Bool). m || b) (wider d e)
       go false e u = ap (λ (c : Bool). more d || c) u ∙ or-true (more d)
 
-  run : {st : Stops} {r depth : ℕ} {minus : Bool} {ts us : Trees} {rs : List ℕ} → g.Run fewer st r depth minus ts us rs → g.Run more st r depth minus ts us rs
+  run : {st : Stops} {r depth : ℕ} {minus : Bool} {ts us : Trees} {rs : List ℕ} →
+      g.Run fewer st r depth minus ts us rs → g.Run more st r depth minus ts us rs
   run (g.Run.arrow a h) = g.Run.arrow a (run h)
   run (g.Run.deeper a h) = g.Run.deeper a (run h)
   run (g.Run.back a z h) = g.Run.back a z (run h)
@@ -59,7 +61,8 @@ module _ (fewer more : Difference → Bool) (wider : (d : Difference) → fewer 
   visibility (g.Visibility.plain a b) = g.Visibility.plain a b
   visibility (g.Visibility.with-scope a b u) = g.Visibility.with-scope a b (unless g.scope-contents _ u)
   visibility (g.Visibility.wrapped u a b) = g.Visibility.wrapped (wider g.wrapped-pub u) a b
-  visibility (g.Visibility.wrapped-scoped u v a) = g.Visibility.wrapped-scoped (wider g.wrapped-pub u) (wider g.any-scope v) a
+  visibility (g.Visibility.wrapped-scoped u v a) =
+      g.Visibility.wrapped-scoped (wider g.wrapped-pub u) (wider g.any-scope v) a
 
   mark : {b : ℕ} {t : Bool} {ts us : Trees} {rs : List ℕ} → g.Mark fewer b t ts us rs → g.Mark more b t ts us rs
   mark (g.Mark.present e) = g.Mark.present e
@@ -82,7 +85,8 @@ module _ (fewer more : Difference → Bool) (wider : (d : Difference) → fewer 
   parameters : {ts us : Trees} {rs : List ℕ} → g.Parameters fewer ts us rs → g.Parameters more ts us rs
   parameters (g.Parameters.close e) = g.Parameters.close e
   parameters (g.Parameters.next h m u v k) =
-      g.Parameters.next (parameter h) (mark m) (unless g.comma-after-parameter _ u) (unless g.parameter-order _ v) (parameters k)
+      g.Parameters.next (parameter h) (mark m) (unless g.comma-after-parameter _ u) (unless g.parameter-order _ v)
+      (parameters k)
 
   generics : {ts us : Trees} {rs : List ℕ} → g.Generics fewer ts us rs → g.Generics more ts us rs
   generics (g.Generics.none e) = g.Generics.none e
@@ -97,11 +101,13 @@ module _ (fewer more : Difference → Bool) (wider : (d : Difference) → fewer 
       g.NamedField.field (attributes a) (visibility b) (name q c) d (run h) (unless g.empty-type _ u) (mark m)
 
   namedFields : {ts : Trees} {rs : List ℕ} → g.NamedFields fewer ts rs → g.NamedFields more ts rs
-  namedFields (g.NamedFields.last a b u) = g.NamedFields.last (attributes a) (visibility b) (unless g.lone-field-start _ u)
+  namedFields (g.NamedFields.last a b u) =
+      g.NamedFields.last (attributes a) (visibility b) (unless g.lone-field-start _ u)
   namedFields (g.NamedFields.next h k) = g.NamedFields.next (namedField h) (namedFields k)
 
   tupleField : {ts us : Trees} {rs : List ℕ} → g.TupleField fewer ts us rs → g.TupleField more ts us rs
-  tupleField (g.TupleField.field a b h u m) = g.TupleField.field (attributes a) (visibility b) (run h) (unless g.empty-type _ u) (mark m)
+  tupleField (g.TupleField.field a b h u m) =
+      g.TupleField.field (attributes a) (visibility b) (run h) (unless g.empty-type _ u) (mark m)
 
   tupleFields : {ts : Trees} {rs : List ℕ} → g.TupleFields fewer ts rs → g.TupleFields more ts rs
   tupleFields g.TupleFields.last = g.TupleFields.last
@@ -126,7 +132,8 @@ module _ (fewer more : Difference → Bool) (wider : (d : Difference) → fewer 
   variants g.Variants.last = g.Variants.last
   variants (g.Variants.next e h k) = g.Variants.next e (variant h) (variants k)
 
-  structBody : {tuple : Bool} {ts us : Trees} {rs : List ℕ} → g.StructBody fewer tuple ts us rs → g.StructBody more tuple ts us rs
+  structBody : {tuple : Bool} {ts us : Trees} {rs : List ℕ} → g.StructBody fewer tuple ts us rs →
+      g.StructBody more tuple ts us rs
   structBody (g.StructBody.unit e) = g.StructBody.unit e
   structBody (g.StructBody.named e h) = g.StructBody.named e (namedFields h)
   structBody (g.StructBody.tuple e h) = g.StructBody.tuple e (tupleFields h)
@@ -139,8 +146,10 @@ module _ (fewer more : Difference → Bool) (wider : (d : Difference) → fewer 
   head (g.Head.head a b) = g.Head.head (word (λ q e. e) a) (word name b)
 
   item : {tuple : Bool} {ts us : Trees} {rs : List ℕ} → g.Item fewer tuple ts us rs → g.Item more tuple ts us rs
-  item (g.Item.struct a b c d e f) = g.Item.struct (attributes a) (visibility b) (head c) (generics d) (clause e) (structBody f)
-  item (g.Item.enum a b c d e f) = g.Item.enum (attributes a) (visibility b) (head c) (generics d) (clause e) (enumBody f)
+  item (g.Item.struct a b c d e f) =
+      g.Item.struct (attributes a) (visibility b) (head c) (generics d) (clause e) (structBody f)
+  item (g.Item.enum a b c d e f) =
+      g.Item.enum (attributes a) (visibility b) (head c) (generics d) (clause e) (enumBody f)
 
   leftOver : {tuple : Bool} {ts : Trees} → g.LeftOver fewer tuple ts → g.LeftOver more tuple ts
   leftOver g.LeftOver.none = g.LeftOver.none
@@ -153,5 +162,7 @@ module _ (fewer more : Difference → Bool) (wider : (d : Difference) → fewer 
   obeys (g.Obeys.obeys h l) = g.Obeys.obeys (item h) (leftOver l)
 
 -- with any differences allowed, two assignments that obey are equal
-pub unique : (allowed : Difference → Bool) {ts : Trees} (rs qs : List ℕ) → g.Obeys allowed ts rs → g.Obeys allowed ts qs → rs ≡ qs
-unique allowed rs qs h k = obeys-unique rs qs (obeys allowed everything (λ d e. refl) h) (obeys allowed everything (λ d e. refl) k)
+pub unique : (allowed : Difference → Bool) {ts : Trees} (rs qs : List ℕ) → g.Obeys allowed ts rs →
+    g.Obeys allowed ts qs → rs ≡ qs
+unique allowed rs qs h k =
+    obeys-unique rs qs (obeys allowed everything (λ d e. refl) h) (obeys allowed everything (λ d e. refl) k)

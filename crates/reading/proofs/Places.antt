@@ -45,13 +45,16 @@ module _ (b : ℕ) where
   onward-placed rs (at-row h) = at-row h
 
   -- a reader that goes on with what it took
-  after-placed : {A B : Type 0} {ts : Trees} {t : Took A} (row : ℕ) (f : A → Reader B) → row + size ts ≤ b → Conserved ts t → Placed t
+  after-placed : {A B : Type 0} {ts : Trees} {t : Took A} (row : ℕ) (f : A → Reader B) → row + size ts ≤ b →
+      Conserved ts t → Placed t
       → ((a : A) → Placing (f a)) → Placed (after row t f)
-  after-placed row f h (taken {a = a} rs us e) takes k = onward-placed rs (k a (row + length rs) us (omega (arith, e .rows)))
+  after-placed row f h (taken {a = a} rs us e) takes k =
+      onward-placed rs (k a (row + length rs) us (omega (arith, e .rows)))
   after-placed row f h (refused n) at-end k = at-end
   after-placed row f h (refused n) (at-row l) k = at-row l
 
-  bind : {A B : Type 0} {m : Reader A} {f : A → Reader B} → Conserving m → Placing m → ((a : A) → Placing (f a)) → Placing (m >>= f)
+  bind : {A B : Type 0} {m : Reader A} {f : A → Reader B} → Conserving m → Placing m → ((a : A) → Placing (f a)) →
+      Placing (m >>= f)
   bind {f = f} c p k row ts h = after-placed row f h (c row ts) (p row ts h) k
 
   none : {A : Type 0} (a : A) → Placing (pure a)
@@ -66,7 +69,8 @@ module _ (b : ℕ) where
   reader-choice false h k = k
 
   -- the first token is taken, and a reader goes on
-  from-placed : {A : Type 0} {m : Reader A} (n row : ℕ) (q : Row) (us : Trees) → row + size (leaf q us) ≤ b → Placing m → Placed (r.from n row us m)
+  from-placed : {A : Type 0} {m : Reader A} (n row : ℕ) (q : Row) (us : Trees) → row + size (leaf q us) ≤ b →
+      Placing m → Placed (r.from n row us m)
   from-placed n row q us h k = onward-placed (n ∷ []) (k (row + 1) us (omega arith))
 
   -- what stands first
@@ -102,7 +106,8 @@ module _ (b : ℕ) where
       scope (leaf q us) = takes
       scope (group d ts us) = takes
 
-  judged-placed : (v : Verdict) {go : ℕ → Bool → Took Ending} (ts : Trees) (row : ℕ) → row < b → ((e : ℕ) (m : Bool) → Placed (go e m))
+  judged-placed : (v : Verdict) {go : ℕ → Bool → Took Ending} (ts : Trees) (row : ℕ) → row < b →
+      ((e : ℕ) (m : Bool) → Placed (go e m))
       → Placed (r.judged v go ts row)
   judged-placed (belongs e m) ts row h k = k e m
   judged-placed (ends e) ts row h k = takes
@@ -111,7 +116,8 @@ module _ (b : ℕ) where
   runFrom-placed : (st : Stops) (n depth : ℕ) (minus : Bool) → Placing (r.runFrom st n depth minus)
   runFrom-placed st n depth minus row end h = takes
   runFrom-placed st n depth minus row (leaf q us) h =
-      judged-placed (r.judge st depth minus q) (leaf q us) row (omega arith) (λ e m. onward-placed _ (runFrom-placed st n e m (row + 1) us (omega arith)))
+      judged-placed (r.judge st depth minus q) (leaf q us) row (omega arith)
+      (λ e m. onward-placed _ (runFrom-placed st n e m (row + 1) us (omega arith)))
   runFrom-placed st n depth minus row (group d ts us) h =
       judged-placed (r.judgeGroup st depth d) (group d ts us) row (omega arith)
       (λ e m. onward-placed _ (runFrom-placed st n e m (row + r.whole ts) us (omega arith)))
@@ -137,9 +143,11 @@ module _ (b : ℕ) where
     marked-placed : (row : ℕ) (us : Trees) → row + 1 + size us ≤ b → Placed (r.marked row us)
     marked-placed row end h = at-end
     marked-placed row (group d ts us) h =
-        choice (eqb d 91) (onward-placed _ (attributes-placed (row + 1 + r.whole ts) us (omega arith))) (at-row {p = row + 1} (omega arith))
+        choice (eqb d 91) (onward-placed _ (attributes-placed (row + 1 + r.whole ts) us (omega arith)))
+        (at-row {p = row + 1} (omega arith))
     marked-placed row (leaf p us) h =
-        choice (r.isPunct 35 p) (onward-placed _ (marked-placed (row + 1) us (omega arith))) (at-row {p = row + 1} (omega arith))
+        choice (r.isPunct 35 p) (onward-placed _ (marked-placed (row + 1) us (omega arith)))
+        (at-row {p = row + 1} (omega arith))
 
   named!-placed : (w : Word) → Placing (r.named! w)
   named!-placed missing = wrong-placed 11
@@ -156,19 +164,23 @@ module _ (b : ℕ) where
   kindOf-placed (found t p) l =
       reader-choice (same t r.STRUCT) (none struct) (reader-choice (same t r.ENUM) (none enum) (λ row ts h. at-row l))
 
-  word-then : {A : Type 0} (n : ℕ) (f : Word → Reader A) → ((w : Word) → Low w → Placing (f w)) → Placing (r.word n >>= f)
+  word-then : {A : Type 0} (n : ℕ) (f : Word → Reader A) → ((w : Word) → Low w → Placing (f w)) →
+      Placing (r.word n >>= f)
   word-then n f k row end h = onward-placed [] (k missing tt (row + 0) end (omega arith))
   word-then {A} n f k row (leaf q us) h = go (r.isIdent q)
     where
-      go : (t : Bool) → Placed (after row (cond t (took (found (q .text) row) (n ∷ []) us) (took missing [] (leaf q us))) f)
+      go : (t : Bool) → Placed (after row (cond t (took (found (q .text) row) (n ∷ []) us)
+          (took missing [] (leaf q us))) f)
       go true = onward-placed (n ∷ []) (k (found (q .text) row) (omega arith) (row + 1) us (omega arith))
       go false = onward-placed [] (k missing tt (row + 0) (leaf q us) (omega arith))
   word-then {A} n f k row (group d ts us) h = go (r.lone r.isIdent ts)
     where
-      go : (t : Bool) → Placed (after row (cond t (took (found (r.textOf ts) (row + 1)) (r.copied n ts) us) (took missing [] (group d ts us))) f)
+      go : (t : Bool) → Placed (after row (cond t (took (found (r.textOf ts) (row + 1)) (r.copied n ts) us)
+          (took missing [] (group d ts us))) f)
       go true =
           onward-placed (r.copied n ts)
-          (k (found (r.textOf ts) (row + 1)) (omega arith) (row + length (r.copied n ts)) us (omega (arith, copied-length n ts)))
+          (k (found (r.textOf ts) (row + 1)) (omega arith) (row + length (r.copied n ts)) us
+          (omega (arith, copied-length n ts)))
       go false = onward-placed [] (k missing tt (row + 0) (group d ts us) (omega arith))
 
   dataType-placed : Placing r.dataType
@@ -187,7 +199,8 @@ module _ (b : ℕ) where
       go zero row ts l h = absurd (omega arith)
       go (suc n) row ts l h = turn (go n) (rd row ts) (p row ts h)
         where
-          turn : ((row : ℕ) (us : Trees) → size us < n → row + size us ≤ b → Placed (rounds n m row us)) → {t : Took (Maybe A)} → Round ts t → Placed t
+          turn : ((row : ℕ) (us : Trees) → size us < n → row + size us ≤ b → Placed (rounds n m row us)) →
+              {t : Took (Maybe A)} → Round ts t → Placed t
               → Placed (after row t (more (rounds n m)))
           turn ih (another {a = a} rs us e g) takes =
               onward-placed rs (last (ih (row + length rs) us (omega arith) (omega (arith, e .rows))))
@@ -207,7 +220,8 @@ module _ (b : ℕ) where
 
   marked-run-placed : (x : ℕ) → Placing (r.marked-run x)
   marked-run-placed x =
-      bind (c.punctIf-conserving x role.separator) (punctIf-placed x role.separator) (λ t. runIf-placed t r.parameterStops role.bound)
+      bind (c.punctIf-conserving x role.separator) (punctIf-placed x role.separator)
+      (λ t. runIf-placed t r.parameterStops role.bound)
 
   parameterName-placed : (n p : ℕ) → Placed {A = List ℕ} (refuse n p) → Placing (r.parameterName n p)
   parameterName-placed n p k row end h = k
@@ -221,7 +235,8 @@ module _ (b : ℕ) where
       choice (r.isPunct 39 q) (from-placed _ row q us h (bind (c.lifetimeAfter-conserving row) lifetime comma-placed))
       (choice (r.isPunct 62 q) takes
       (choice (r.isWord r.CONST q) (from-placed _ row q us h (bind c.constantAfter-conserving constant comma-placed))
-      (choice (r.isIdent q) (from-placed _ row q us h (bind (c.typeAfter-conserving (q .text)) type comma-placed)) (at-row {p = row} (omega arith)))))
+      (choice (r.isIdent q) (from-placed _ row q us h (bind (c.typeAfter-conserving (q .text)) type comma-placed))
+      (at-row {p = row} (omega arith)))))
     where
       lifetime : Placing (r.lifetimeAfter row)
       lifetime =
@@ -234,7 +249,8 @@ module _ (b : ℕ) where
           (λ n. bind (c.marked-run-conserving 58) (marked-run-placed 58) (λ x. none _))
 
       runs : (n : List ℕ) (t : Bool) → Placing (r.typeRuns n t)
-      runs n true = bind (c.run-conserving r.parameterStops role.bound) (run-placed r.parameterStops role.bound) (λ x. none _)
+      runs n true =
+          bind (c.run-conserving r.parameterStops role.bound) (run-placed r.parameterStops role.bound) (λ x. none _)
       runs n false = bind (c.marked-run-conserving 61) (marked-run-placed 61) (λ x. none _)
 
       type : Placing (r.typeAfter (q .text))
@@ -246,14 +262,16 @@ module _ (b : ℕ) where
   generics-placed row (leaf q us) h =
       choice (r.isPunct 60 q)
       (from-placed _ row q us h
-      (bind (c.every-conserving (r.parameter row) (c.parameter-round row)) (every-placed (c.parameter-round row) (parameter-placed row (omega arith)))
+      (bind (c.every-conserving (r.parameter row) (c.parameter-round row))
+      (every-placed (c.parameter-round row) (parameter-placed row (omega arith)))
       (λ ps. none _)))
       takes
 
   clause-placed : Placing r.clause
   clause-placed row end h = takes
   clause-placed row (group d ts us) h = takes
-  clause-placed row (leaf q us) h = choice (r.isWord r.WHERE q) (from-placed _ row q us h (run-placed r.clauseStops role.where-run)) takes
+  clause-placed row (leaf q us) h =
+      choice (r.isWord r.WHERE q) (from-placed _ row q us h (run-placed r.clauseStops role.where-run)) takes
 
   -- ## Fields
 
@@ -270,11 +288,13 @@ module _ (b : ℕ) where
   fieldStart-placed : Placing r.fieldStart
   fieldStart-placed row end h = takes
   fieldStart-placed row (group d ts us) h = at-row {p = row} (omega arith)
-  fieldStart-placed row (leaf q us) h = choice (r.isIdent q) (from-placed _ row q us h (fieldAfter-placed (q .text))) (at-row {p = row} (omega arith))
+  fieldStart-placed row (leaf q us) h =
+      choice (r.isIdent q) (from-placed _ row q us h (fieldAfter-placed (q .text))) (at-row {p = row} (omega arith))
 
   namedField-placed : Placing r.namedField
   namedField-placed =
-      bind c.attributes-conserving attributes-placed (λ a. bind c.visibility-conserving visibility-placed (λ v. fieldStart-placed))
+      bind c.attributes-conserving attributes-placed (λ a. bind c.visibility-conserving visibility-placed
+      (λ v. fieldStart-placed))
 
   tupleType-placed : Placing r.tupleType
   tupleType-placed =
@@ -288,13 +308,16 @@ module _ (b : ℕ) where
   tupleField-placed row (group d ts us) h = tupleType-placed row (group d ts us) h
 
   namedFields-placed : Placing r.namedFields
-  namedFields-placed = bind (c.every-conserving r.namedField c.namedField-round) (every-placed c.namedField-round namedField-placed) (λ fs. none _)
+  namedFields-placed = bind (c.every-conserving r.namedField c.namedField-round)
+      (every-placed c.namedField-round namedField-placed) (λ fs. none _)
 
   tupleFields-placed : Placing r.tupleFields
-  tupleFields-placed = bind (c.every-conserving r.tupleField c.tupleField-round) (every-placed c.tupleField-round tupleField-placed) (λ ts. none _)
+  tupleFields-placed = bind (c.every-conserving r.tupleField c.tupleField-round)
+      (every-placed c.tupleField-round tupleField-placed) (λ ts. none _)
 
   -- the inside of a group
-  enclosed-placed : {A : Type 0} {m : Reader A} (row d : ℕ) (ts us : Trees) → row + size (group d ts us) ≤ b → Placing m → Placed (r.enclosed m row ts us)
+  enclosed-placed : {A : Type 0} {m : Reader A} (row d : ℕ) (ts us : Trees) → row + size (group d ts us) ≤ b →
+      Placing m → Placed (r.enclosed m row ts us)
   enclosed-placed row d ts us h k = closed (k (row + 1) ts (omega arith))
     where
       closed : {A : Type 0} {t : Took A} → Placed t → Placed (r.closing us t)
@@ -315,19 +338,22 @@ module _ (b : ℕ) where
   negativeValue-placed row end h = at-end
   negativeValue-placed row (group d ts us) h = at-row {p = row} (omega arith)
   negativeValue-placed row (leaf q us) h =
-      choice (r.isLiteral q) (choice (r.negatable (q .text)) takes (at-row {p = row} (omega arith))) (at-row {p = row} (omega arith))
+      choice (r.isLiteral q) (choice (r.negatable (q .text)) takes (at-row {p = row} (omega arith)))
+      (at-row {p = row} (omega arith))
 
   discriminant-placed : Placing r.discriminant
   discriminant-placed row end h = at-end
   discriminant-placed row (group d ts us) h = at-row {p = row} (omega arith)
   discriminant-placed row (leaf q us) h =
-      choice (r.isLiteral q) takes (choice (r.isPunct 45 q) (from-placed _ row q us h negativeValue-placed) (at-row {p = row} (omega arith)))
+      choice (r.isLiteral q) takes (choice (r.isPunct 45 q) (from-placed _ row q us h negativeValue-placed)
+      (at-row {p = row} (omega arith)))
 
   valueIf-placed : Placing r.valueIf
   valueIf-placed row end h = takes
   valueIf-placed row (group d ts us) h = at-row {p = row} (omega arith)
   valueIf-placed row (leaf q us) h =
-      choice (r.isPunct 61 q) (from-placed _ row q us h discriminant-placed) (choice (r.isPunct 44 q) takes (at-row {p = row} (omega arith)))
+      choice (r.isPunct 61 q) (from-placed _ row q us h discriminant-placed)
+      (choice (r.isPunct 44 q) takes (at-row {p = row} (omega arith)))
 
   variantHere-placed : Placing r.variantHere
   variantHere-placed =
@@ -346,14 +372,17 @@ module _ (b : ℕ) where
   structBody-placed row end h = at-end
   structBody-placed row (leaf q us) h = choice (r.isPunct 59 q) takes (at-row {p = row} (omega arith))
   structBody-placed row (group d ts us) h =
-      choice (eqb d 123) (enclosed-placed row d ts us h (bind c.namedFields-conserving namedFields-placed (λ f. none _)))
-      (choice (eqb d 40) (enclosed-placed row d ts us h (bind c.tupleFields-conserving tupleFields-placed (λ f. none _))) (at-row {p = row} (omega arith)))
+      choice (eqb d 123) (enclosed-placed row d ts us h
+      (bind c.namedFields-conserving namedFields-placed (λ f. none _)))
+      (choice (eqb d 40) (enclosed-placed row d ts us h
+      (bind c.tupleFields-conserving tupleFields-placed (λ f. none _))) (at-row {p = row} (omega arith)))
 
   enumBody-placed : Placing r.enumBody
   enumBody-placed row end h = at-end
   enumBody-placed row (leaf q us) h = choice (r.isPunct 59 q) takes (at-row {p = row} (omega arith))
   enumBody-placed row (group d ts us) h =
-      enclosed-placed row d ts us h (bind (c.every-conserving r.variant c.variant-round) (every-placed c.variant-round variant-placed) (λ vs. none _))
+      enclosed-placed row d ts us h (bind (c.every-conserving r.variant c.variant-round)
+      (every-placed c.variant-round variant-placed) (λ vs. none _))
 
   bodyOf-placed : (k : Kind) → Placing (r.bodyOf k)
   bodyOf-placed struct = structBody-placed
@@ -397,22 +426,37 @@ module _ (s : List ℕ) where
   pub short-read : OneRefusal readNumber s 8 END
   short-read = record { one = refl; stands = inl refl }
 
-  pub item-read : (rows n p : ℕ) → list.check s ≡ list.Answer.passed rows → r.item 0 (at s 10 .here) ≡ refuse n p → OneRefusal readNumber s n p
+  pub item-read : (rows n p : ℕ) → list.check s ≡ list.Answer.passed rows → r.item 0 (at s 10 .here) ≡ refuse n p →
+      OneRefusal readNumber s n p
   item-read rows n p e q =
       let k = bounds s e in
       let own = refusal-number (subst (Conserved (at s 10 .here)) q (c.item-conserving 0 (at s 10 .here))) in
       let row : p < size (at s 10 .here) → RowOf s p =
-      λ l. record { begins = omega (arith, passed-list s rows e .size, k .begun, l); low = omega (arith, passed-list s rows e .size, k .rows, l) } in
-      record { one = or-second (between 1 8 n) own; stands = ⊎-elim inl (λ l. inr (row l)) (item-place (at s 10 .here) q) }
+      λ l. record {
+        begins = omega (arith, passed-list s rows e .size, k .begun, l);
+        low = omega (
+          arith,
+          passed-list s rows e .size,
+          k .rows,
+          l,
+        );
+      } in
+      record {
+        one = or-second (between 1 8 n) own;
+        stands = ⊎-elim inl (λ l. inr (row l)) (item-place (at s 10 .here)
+            q);
+      }
 
   -- of every answer that tells a refusal as it is
   pub refusals : {A : Type 0} (denied : ℕ → ℕ → A) (short : ℕ → Bool) (made : Took Declaration → A)
-      → ((n p m o : ℕ) → denied m o ≡ denied n p → (m ≡ n) × (o ≡ p)) → ((n p : ℕ) (t : Took Declaration) → made t ≡ denied n p → t ≡ refuse n p)
+      → ((n p m o : ℕ) → denied m o ≡ denied n p → (m ≡ n) × (o ≡ p)) →
+      ((n p : ℕ) (t : Took Declaration) → made t ≡ denied n p → t ≡ refuse n p)
       → (n p : ℕ) → framed denied short made s (list.check s) ≡ denied n p → OneRefusal readNumber s n p
   refusals {A} denied short made told plain n p =
       framed-cases (λ (a : A). a ≡ denied n p → OneRefusal readNumber s n p) denied short made s
       (λ m o e q. check-read n p (e ∙ (λ j. list.Answer.refused (told n p m o q .0 j) (told n p m o q .1 j))))
-      (λ rows e h q. subst (λ (m : ℕ). OneRefusal readNumber s m p) (told n p 8 END q .0) (subst (OneRefusal readNumber s 8) (told n p 8 END q .1) short-read))
+      (λ rows e h q. subst (λ (m : ℕ). OneRefusal readNumber s m p) (told n p 8 END q .0)
+      (subst (OneRefusal readNumber s 8) (told n p 8 END q .1) short-read))
       (λ rows e h t i q. item-read rows n p e (i ∙ plain n p t q))
 
   pub answer-read : (room n p : ℕ) → answer s room ≡ refused-at n p → OneRefusal readNumber s n p

@@ -30,7 +30,8 @@ obeys-unique rs qs h k = go (obeys-complete h) (obeys-complete k)
   where
     go : {ts : Trees} → Read ts rs → Read ts qs → rs ≡ qs
     go a b =
-        let same : took (a .declaration) (a .taken) (a .rest) ≡ took (b .declaration) (b .taken) (b .rest) = sym (a .reading) ∙ b .reading in
+        let same : took (a .declaration) (a .taken) (a .rest) ≡ took (b .declaration) (b .taken) (b .rest) =
+        sym (a .reading) ∙ b .reading in
         let t : a .taken ≡ b .taken = cc same in
         let u : a .rest ≡ b .rest = cc same in
         a .roles ∙ (λ i. t i ++ replicate (size (u i)) role.left-over) ∙ sym (b .roles)
@@ -39,7 +40,11 @@ pub obeys-length : {ts : Trees} (rs : List ℕ) → Obeys everything ts rs → l
 obeys-length {ts} rs h =
     let a = obeys-complete h in
     let k = conserved (subst (Conserved ts) (a .reading) (item-conserving 0 ts)) in
-    ap length (a .roles) ∙ omega (arith, length-append (a .taken) (replicate (size (a .rest)) role.left-over), length-replicate (size (a .rest)) role.left-over)
+    ap length (a .roles) ∙ omega (
+      arith,
+      length-append (a .taken) (replicate (size (a .rest)) role.left-over),
+      length-replicate (size (a .rest)) role.left-over,
+    )
 
 never : {d : Declaration} {rs : List ℕ} {us : Trees} {n p : ℕ} → took d rs us ≡ refuse n p → ⊥
 never e = let z : _≡_ {A = ℕ} 0 1 = cc in omega arith
@@ -53,7 +58,8 @@ module _ (s : List ℕ) where
 
   module _ (n : ℕ) where
     -- nothing is accepted
-    refusing : (m p : ℕ) → ((k : ℕ) → list.check s ≡ list.Answer.passed k → k ≤ n → (roles : List ℕ) → Assignment s roles → ⊥)
+    refusing : (m p : ℕ) → ((k : ℕ) → list.check s ≡ list.Answer.passed k → k ≤ n → (roles : List ℕ) →
+        Assignment s roles → ⊥)
         → SingleAssignment s n (accepts (refused m p)) (buffer n (refused m p))
     refusing m p h =
         record {
@@ -79,17 +85,21 @@ module _ (s : List ℕ) where
     by-item : (k : ℕ) → list.check s ≡ list.Answer.passed k → k ≤ n → (t : Took Declaration) → item 0 (stream s) ≡ t
         → SingleAssignment s n (accepts (itemAnswer t)) (buffer n (itemAnswer t))
     by-item k e l (took d rs us) i = accepting k d (rs ++ replicate (size us) role.left-over) e l (obeys-sound i)
-    by-item k e l (refuse m p) i = refusing m p (λ j f g roles o. let a = obeys-complete o in never (sym (a .reading) ∙ i))
+    by-item k e l (refuse m p) i =
+        refusing m p (λ j f g roles o. let a = obeys-complete o in never (sym (a .reading) ∙ i))
 
     -- the whole answer and the whole buffer, as they are defined
     pub promise : SingleAssignment s n (accepts (answer s n)) (buffer n (answer s n))
     unfolding answer
     promise =
-        framed-cases (λ (a : Answer). SingleAssignment s n (accepts a) (buffer n a)) refused (λ rows. ltb n rows) itemAnswer s
+        framed-cases (λ (a : Answer). SingleAssignment s n (accepts a) (buffer n a)) refused (λ rows. ltb n rows)
+        itemAnswer s
         (λ m p e. refusing m p (λ j f i roles o. let q = sym f ∙ e in let z : _≡_ {A = ℕ} 0 1 = cc in omega arith))
-        (λ k e l. refusing 8 list.END (λ j f i roles o. let q : j ≡ k = cc (sym f ∙ e) in omega (arith, ltb-true n k l)))
+        (λ k e l. refusing 8 list.END (λ j f i roles o. let q : j ≡ k =
+        cc (sym f ∙ e) in omega (arith, ltb-true n k l)))
         (λ k e l. by-item k e (ltb-false n k l))
 
     -- the same, of a Bool and bytes that are equal to these
-    pub promise-of : (accepted : Bool) (after : List ℕ) → accepted ≡ accepts (answer s n) → after ≡ buffer n (answer s n) → SingleAssignment s n accepted after
+    pub promise-of : (accepted : Bool) (after : List ℕ) → accepted ≡ accepts (answer s n) →
+        after ≡ buffer n (answer s n) → SingleAssignment s n accepted after
     promise-of accepted after e f = rw (e, f) promise

@@ -1,6 +1,6 @@
--- Rows that readers take: the roles and the rows that are left make up the stream, and what is left has no more texts than
--- it; a refusal has a number of the reader's own. A reader that goes round takes a row each time, so that its fuel does not
--- matter.
+-- Rows that readers take: the roles and the rows that are left make up the stream, and what is left has no more texts
+-- than it; a refusal has a number of the reader's own. A reader that goes round takes a row each time, so that its fuel
+-- does not matter.
 use mathlib.Core.Path.{_≡_, refl, ap}
 use mathlib.Core.Bool.{Bool, true, false, cond, _&&_}
 use mathlib.Core.List.{List, [], _∷_, _++_}
@@ -33,7 +33,8 @@ copied-length n ts = length-replicate (1 + size ts + 1) n
 pub past-group : (n d : ℕ) (ts us : Trees) → Parted (length (r.copied n ts)) us (group d ts us)
 past-group n d ts us = record { rows = omega (arith, copied-length n ts); lighter = omega arith }
 
-pub past-both : {ts us vs : Trees} (rs qs : List ℕ) → Parted (length rs) us ts → Parted (length qs) vs us → Parted (length (rs ++ qs)) vs ts
+pub past-both : {ts us vs : Trees} (rs qs : List ℕ) → Parted (length rs) us ts → Parted (length qs) vs us →
+    Parted (length (rs ++ qs)) vs ts
 past-both rs qs e f = record { rows = omega (arith, length-append rs qs); lighter = omega arith }
 
 -- the numbers of the reader's refusals
@@ -48,7 +49,8 @@ pub data Conserved {A : Type 0} (ts : Trees) : Took A → Type 0 where
 abbrev pub Conserving : {A : Type 0} → Reader A → Type 0
 Conserving m = (row : ℕ) (ts : Trees) → Conserved ts (m row ts)
 
-pub conserved : {A : Type 0} {ts : Trees} {a : A} {rs : List ℕ} {us : Trees} → Conserved ts (took a rs us) → Parted (length rs) us ts
+pub conserved : {A : Type 0} {ts : Trees} {a : A} {rs : List ℕ} {us : Trees} → Conserved ts (took a rs us) →
+    Parted (length rs) us ts
 conserved (taken rs us e) = e
 
 pub refusal-number : {A : Type 0} {ts : Trees} {n p : ℕ} → Conserved {A = A} ts (refuse n p) → ownNumber n ≡ true
@@ -56,22 +58,26 @@ refusal-number (refused n) = n
 
 -- ## Sequences and choices
 
-pub onward-conserved : {A : Type 0} {ts us : Trees} {t : Took A} (rs : List ℕ) → Parted (length rs) us ts → Conserved us t → Conserved ts (onward rs t)
+pub onward-conserved : {A : Type 0} {ts us : Trees} {t : Took A} (rs : List ℕ) → Parted (length rs) us ts →
+    Conserved us t → Conserved ts (onward rs t)
 onward-conserved rs e (taken qs vs f) = taken (rs ++ qs) vs (past-both rs qs e f)
 onward-conserved rs e (refused n) = refused n
 
-pub after-conserved : {A B : Type 0} {ts : Trees} {t : Took A} (row : ℕ) (f : A → Reader B) → Conserved ts t → ((a : A) → Conserving (f a))
+pub after-conserved : {A B : Type 0} {ts : Trees} {t : Took A} (row : ℕ) (f : A → Reader B) → Conserved ts t →
+    ((a : A) → Conserving (f a))
     → Conserved ts (after row t f)
 after-conserved row f (taken {a = a} rs us e) k = onward-conserved rs e (k a _ us)
 after-conserved row f (refused n) k = refused n
 
-pub bind : {A B : Type 0} {m : Reader A} {f : A → Reader B} → Conserving m → ((a : A) → Conserving (f a)) → Conserving (m >>= f)
+pub bind : {A B : Type 0} {m : Reader A} {f : A → Reader B} → Conserving m → ((a : A) → Conserving (f a)) →
+    Conserving (m >>= f)
 bind {f = f} c k row ts = after-conserved row f (c row ts) k
 
 pub pure-conserving : {A : Type 0} (a : A) → Conserving (pure a)
 pure-conserving a row ts = taken [] ts (past-none ts)
 
-pub choice : {A : Type 0} {ts : Trees} (b : Bool) {t u : Took A} → Conserved ts t → Conserved ts u → Conserved ts (cond b t u)
+pub choice : {A : Type 0} {ts : Trees} (b : Bool) {t u : Took A} → Conserved ts t → Conserved ts u →
+    Conserved ts (cond b t u)
 choice true c d = c
 choice false c d = d
 
@@ -82,13 +88,16 @@ reader-choice false c d = d
 pub nothing-taken : {A : Type 0} {a : A} {ts : Trees} → Conserved ts (took a [] ts)
 nothing-taken {ts = ts} = taken [] ts (past-none ts)
 
-pub from-conserved : {A : Type 0} {m : Reader A} (n row : ℕ) (q : Row) (us : Trees) → Conserving m → Conserved (leaf q us) (r.from n row us m)
+pub from-conserved : {A : Type 0} {m : Reader A} (n row : ℕ) (q : Row) (us : Trees) → Conserving m →
+    Conserved (leaf q us) (r.from n row us m)
 from-conserved n row q us c = onward-conserved (n ∷ []) (past-leaf q us) (c _ us)
 
-pub copied-conserved : {A : Type 0} {t : Took A} (n d : ℕ) (ts us : Trees) → Conserved us t → Conserved (group d ts us) (onward (r.copied n ts) t)
+pub copied-conserved : {A : Type 0} {t : Took A} (n d : ℕ) (ts us : Trees) → Conserved us t →
+    Conserved (group d ts us) (onward (r.copied n ts) t)
 copied-conserved n d ts us c = onward-conserved (r.copied n ts) (past-group n d ts us) c
 
-pub copied-alone : {A : Type 0} {a : A} (n d : ℕ) (ts us : Trees) → Conserved (group d ts us) (took a (r.copied n ts) us)
+pub copied-alone : {A : Type 0} {a : A} (n d : ℕ) (ts us : Trees) →
+    Conserved (group d ts us) (took a (r.copied n ts) us)
 copied-alone n d ts us = taken (r.copied n ts) us (past-group n d ts us)
 
 pub one-row : {A : Type 0} {a : A} (n : ℕ) (q : Row) (us : Trees) → Conserved (leaf q us) (took a (n ∷ []) us)
@@ -100,17 +109,20 @@ pub data Shorter {A : Type 0} (b : ℕ) (ts : Trees) : Took A → Type 0 where
   shorter : {a : A} (rs : List ℕ) (us : Trees) → Parted (length rs) us ts → size us < b → Shorter b ts (took a rs us)
   refused : {n p : ℕ} → ownNumber n ≡ true → Shorter b ts (refuse n p)
 
-pub onward-shorter : {A : Type 0} {b : ℕ} {ts us : Trees} {t : Took A} (rs : List ℕ) → Parted (length rs) us ts → size us < b → Conserved us t
+pub onward-shorter : {A : Type 0} {b : ℕ} {ts us : Trees} {t : Took A} (rs : List ℕ) → Parted (length rs) us ts →
+    size us < b → Conserved us t
     → Shorter b ts (onward rs t)
 onward-shorter rs e h (taken qs vs f) = shorter (rs ++ qs) vs (past-both rs qs e f) (omega arith)
 onward-shorter rs e h (refused n) = refused n
 
-pub onward-still : {A : Type 0} {b c : ℕ} {ts us : Trees} {t : Took A} (rs : List ℕ) → Parted (length rs) us ts → c ≤ b → Shorter c us t
+pub onward-still : {A : Type 0} {b c : ℕ} {ts us : Trees} {t : Took A} (rs : List ℕ) → Parted (length rs) us ts →
+    c ≤ b → Shorter c us t
     → Shorter b ts (onward rs t)
 onward-still rs e h (shorter qs vs f g) = shorter (rs ++ qs) vs (past-both rs qs e f) (omega arith)
 onward-still rs e h (refused n) = refused n
 
-pub after-shorter : {A B : Type 0} {b : ℕ} {ts : Trees} {t : Took A} (row : ℕ) (f : A → Reader B) → Shorter b ts t → ((a : A) → Conserving (f a))
+pub after-shorter : {A B : Type 0} {b : ℕ} {ts : Trees} {t : Took A} (row : ℕ) (f : A → Reader B) → Shorter b ts t →
+    ((a : A) → Conserving (f a))
     → Shorter b ts (after row t f)
 after-shorter row f (shorter {a = a} rs us e h) k = onward-shorter rs e h (k a _ us)
 after-shorter row f (refused n) k = refused n
@@ -124,18 +136,21 @@ pub after-still : {A B : Type 0} {ts : Trees} {t : Took A} (row : ℕ) (f : A �
 after-still row f (taken {a = a} rs us e) k = onward-still rs e (omega arith) (k a _ us)
 after-still row f (refused n) k = refused n
 
-pub shorter-choice : {A : Type 0} {n : ℕ} {ts : Trees} (b : Bool) {t u : Took A} → Shorter n ts t → Shorter n ts u → Shorter n ts (cond b t u)
+pub shorter-choice : {A : Type 0} {n : ℕ} {ts : Trees} (b : Bool) {t u : Took A} → Shorter n ts t → Shorter n ts u →
+    Shorter n ts (cond b t u)
 shorter-choice true c d = c
 shorter-choice false c d = d
 
-pub from-shorter : {A : Type 0} {m : Reader A} (n row : ℕ) (q : Row) (us : Trees) → Conserving m → Shorter (size (leaf q us)) (leaf q us) (r.from n row us m)
+pub from-shorter : {A : Type 0} {m : Reader A} (n row : ℕ) (q : Row) (us : Trees) → Conserving m →
+    Shorter (size (leaf q us)) (leaf q us) (r.from n row us m)
 from-shorter n row q us c = onward-shorter (n ∷ []) (past-leaf q us) (omega arith) (c _ us)
 
 -- ## Going round
 
 -- a round takes a row at least, or it is the last
 pub data Round {A : Type 0} (ts : Trees) : Took (Maybe A) → Type 0 where
-  another : {a : A} (rs : List ℕ) (us : Trees) → Parted (length rs) us ts → size us < size ts → Round ts (took (one a) rs us)
+  another : {a : A} (rs : List ℕ) (us : Trees) → Parted (length rs) us ts → size us < size ts →
+      Round ts (took (one a) rs us)
   finished : (rs : List ℕ) (us : Trees) → Parted (length rs) us ts → Round ts (took done rs us)
   refused : {n p : ℕ} → ownNumber n ≡ true → Round ts (refuse n p)
 
@@ -152,16 +167,19 @@ shorter-round h (shorter {a = one a} rs us e g) = another rs us e (omega arith)
 shorter-round h (shorter {a = done} rs us e g) = finished rs us e
 shorter-round h (refused n) = refused n
 
-pub round-choice : {A : Type 0} {ts : Trees} (b : Bool) {t u : Took (Maybe A)} → Round ts t → Round ts u → Round ts (cond b t u)
+pub round-choice : {A : Type 0} {ts : Trees} (b : Bool) {t u : Took (Maybe A)} → Round ts t → Round ts u →
+    Round ts (cond b t u)
 round-choice true c d = c
 round-choice false c d = d
 
-pub onward-round : {A : Type 0} {ts us : Trees} {t : Took (Maybe A)} (rs : List ℕ) → Parted (length rs) us ts → Round us t → Round ts (onward rs t)
+pub onward-round : {A : Type 0} {ts us : Trees} {t : Took (Maybe A)} (rs : List ℕ) → Parted (length rs) us ts →
+    Round us t → Round ts (onward rs t)
 onward-round rs e (another qs vs f g) = another (rs ++ qs) vs (past-both rs qs e f) (omega arith)
 onward-round rs e (finished qs vs f) = finished (rs ++ qs) vs (past-both rs qs e f)
 onward-round rs e (refused n) = refused n
 
-pub after-round : {A B : Type 0} {ts : Trees} {t : Took A} (row : ℕ) (f : A → Reader (Maybe B)) → Conserved ts t → ((a : A) → Rounding (f a))
+pub after-round : {A B : Type 0} {ts : Trees} {t : Took A} (row : ℕ) (f : A → Reader (Maybe B)) → Conserved ts t →
+    ((a : A) → Rounding (f a))
     → Round ts (after row t f)
 after-round row f (taken {a = a} rs us e) k = onward-round rs e (k a _ us)
 after-round row f (refused n) k = refused n
@@ -178,19 +196,23 @@ module _ {A : Type 0} (m : Reader (Maybe A)) (rd : Rounding m) where
   pub fuel : (n k row : ℕ) (ts : Trees) → size ts < n → size ts < k → rounds n m row ts ≡ rounds k m row ts
   fuel zero k row ts h i = absurd (omega arith)
   fuel (suc n) zero row ts h i = absurd (omega arith)
-  fuel (suc n) (suc k) row ts h i = after-same (rounds n m) (rounds k m) row ts (m row ts) (rd row ts) (λ row us l. fuel n k row us (omega arith) (omega arith))
+  fuel (suc n) (suc k) row ts h i = after-same (rounds n m) (rounds k m) row ts (m row ts) (rd row ts)
+      (λ row us l. fuel n k row us (omega arith) (omega arith))
 
   pub every-step : (row : ℕ) (ts : Trees) → every m row ts ≡ after row (m row ts) (more (every m))
   every-step row ts =
-      after-same (rounds (size ts) m) (every m) row ts (m row ts) (rd row ts) (λ row us l. fuel (size ts) (suc (size us)) row us l (omega arith))
+      after-same (rounds (size ts) m) (every m) row ts (m row ts) (rd row ts)
+      (λ row us l. fuel (size ts) (suc (size us)) row us l (omega arith))
 
   rounds-conserved : (n row : ℕ) (ts : Trees) → size ts < n → Conserved ts (rounds n m row ts)
   rounds-conserved zero row ts h = absurd (omega arith)
   rounds-conserved (suc n) row ts h = go (rounds-conserved n) (rd row ts)
     where
-      go : ((row : ℕ) (us : Trees) → size us < n → Conserved us (rounds n m row us)) → {t : Took (Maybe A)} → Round ts t → Conserved ts (after row t (more (rounds n m)))
+      go : ((row : ℕ) (us : Trees) → size us < n → Conserved us (rounds n m row us)) → {t : Took (Maybe A)} →
+          Round ts t → Conserved ts (after row t (more (rounds n m)))
       go ih (another {a = a} rs us e l) =
-          onward-conserved rs e (after-conserved (row + length rs) (λ xs. pure (a ∷ xs)) (ih (row + length rs) us (omega arith)) (λ xs. pure-conserving (a ∷ xs)))
+          onward-conserved rs e (after-conserved (row + length rs) (λ xs. pure (a ∷ xs))
+          (ih (row + length rs) us (omega arith)) (λ xs. pure-conserving (a ∷ xs)))
       go ih (finished rs us e) = onward-conserved rs e (pure-conserving [] (row + length rs) us)
       go ih (refused n) = refused n
 
@@ -224,7 +246,8 @@ onward-last rs (last qs) = last (rs ++ qs)
 onward-last rs (another qs us) = another (rs ++ qs) us
 onward-last rs refused = refused
 
-pub after-last : {A B : Type 0} (row : ℕ) (t : Took A) (f : A → Reader (Maybe B)) → ((a : A) → Lasting (f a)) → Last (after row t f)
+pub after-last : {A B : Type 0} (row : ℕ) (t : Took A) (f : A → Reader (Maybe B)) → ((a : A) → Lasting (f a)) →
+    Last (after row t f)
 after-last row (took a rs us) f k = onward-last rs (k a _ us)
 after-last row (refuse n p) f k = refused
 
@@ -248,7 +271,8 @@ module _ {A : Type 0} (m : Reader (Maybe A)) (l : Lasting m) where
   rounds-ended zero row ts = refused
   rounds-ended (suc n) row ts = go (rounds-ended n) (l row ts)
     where
-      go : ((row : ℕ) (ts : Trees) → Ended (rounds n m row ts)) → {t : Took (Maybe A)} → Last t → Ended (after row t (more (rounds n m)))
+      go : ((row : ℕ) (ts : Trees) → Ended (rounds n m row ts)) → {t : Took (Maybe A)} → Last t →
+          Ended (after row t (more (rounds n m)))
       go ih (last rs) = ended (rs ++ [])
       go ih (another {a = a} rs us) = onward-ended rs (pure-ended (row + length rs) a (ih (row + length rs) us))
       go ih refused = refused
@@ -256,11 +280,14 @@ module _ {A : Type 0} (m : Reader (Maybe A)) (l : Lasting m) where
   pub every-ended : (row : ℕ) (ts : Trees) → Ended (every m row ts)
   every-ended row ts = rounds-ended (suc (size ts)) row ts
 
-pub closing-conserved : {A : Type 0} {t : Took A} (d : ℕ) (ts us : Trees) → Ended t → Conserved ts t → Conserved (group d ts us) (r.closing us t)
+pub closing-conserved : {A : Type 0} {t : Took A} (d : ℕ) (ts us : Trees) → Ended t → Conserved ts t →
+    Conserved (group d ts us) (r.closing us t)
 closing-conserved d ts us (ended qs) (taken rs vs e) =
-    taken (role.delimiter ∷ rs ++ role.delimiter ∷ []) us (record { rows = omega (arith, length-append rs (role.delimiter ∷ [])); lighter = omega arith })
+    taken (role.delimiter ∷ rs ++ role.delimiter ∷ []) us
+    (record { rows = omega (arith, length-append rs (role.delimiter ∷ [])); lighter = omega arith })
 closing-conserved d ts us refused (refused n) = refused n
 
-pub pure-after-ended : {A B : Type 0} {t : Took A} (row : ℕ) (f : A → B) → Ended t → Ended (after row t (λ a. pure (f a)))
+pub pure-after-ended : {A B : Type 0} {t : Took A} (row : ℕ) (f : A → B) → Ended t →
+    Ended (after row t (λ a. pure (f a)))
 pure-after-ended row f (ended rs) = ended (rs ++ [])
 pure-after-ended row f refused = refused

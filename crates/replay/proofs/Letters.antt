@@ -16,7 +16,8 @@ use Rattle.replay.specs.Answer.{letterFits, lettersFit, acceptedFits, AC
 
 module _ (every : Bool) (s rs : List ℕ) (e : ℕ) (fits : e ≤ length s) where
   step : (i j : ℕ) → i < e → j < length rs
-      → lettersFit every (slice i e s) (drop j rs) ≡ (letterFits every (getD s i 0) (getD rs j 0) && lettersFit every (slice (i + 1) e s) (drop (j + 1) rs))
+      → lettersFit every (slice i e s) (drop j rs) ≡ (letterFits every (getD s i 0) (getD rs j 0) && lettersFit every
+      (slice (i + 1) e s) (drop (j + 1) rs))
   step i j h k = rw (slice-next s i e h fits, drop-next rs j k)
 
   pub fits-next : (i j : ℕ) → i < e → j < length rs → letterFits every (getD s i 0) (getD rs j 0) ≡ true
@@ -46,15 +47,18 @@ take-part s zero i e h f = sym (slice-none s i (i + 0) (omega arith))
 take-part s (suc k) i e h f =
     let a : i + 1 + k ≡ i + suc k = omega arith in
     ap (take (suc k)) (slice-next s i e (omega arith) f)
-    ∙ ap (λ (l : List ℕ). getD s i 0 ∷ l) (take-part s k (i + 1) e (omega arith) f ∙ ap (λ (n : ℕ). slice (i + 1) n s) a)
+    ∙ ap (λ (l : List ℕ). getD s i 0 ∷ l) (take-part s k (i + 1) e (omega arith) f ∙
+    ap (λ (n : ℕ). slice (i + 1) n s) a)
     ∙ sym (slice-next s i (i + suc k) (omega arith) (omega arith))
 
 module _ (s rs : List ℕ) (i e : ℕ) (order : i ≤ e) (fits : e ≤ length s) where
   pub accepted-short : e - i < 9 → acceptedFits (slice i e s) rs ≡ false
   unfolding acceptedFits
-  accepted-short h = let l : length (slice i e s) < 9 = omega (arith, length-slice i e s fits) in rw (lt-ltb (length (slice i e s)) 9 l)
+  accepted-short h = let l : length (slice i e s) < 9 =
+      omega (arith, length-slice i e s fits) in rw (lt-ltb (length (slice i e s)) 9 l)
 
-  pub accepted-parts : 9 ≤ e - i → acceptedFits (slice i e s) rs ≡ (same (slice i (i + 9) s) ACCEPTED && lettersFit false (slice (i + 9) e s) rs)
+  pub accepted-parts : 9 ≤ e - i → acceptedFits (slice i e s) rs ≡
+      (same (slice i (i + 9) s) ACCEPTED && lettersFit false (slice (i + 9) e s) rs)
   unfolding acceptedFits
   accepted-parts h =
       let l : 9 ≤ length (slice i e s) = omega (arith, length-slice i e s fits) in

@@ -35,12 +35,14 @@ use Rattle.report.specs.declared.roles.Roles.{Roles}
 use Rattle.report.specs.declared.roles.Roles.the-variants.{Rows, Refused}
 
 -- one more line
-pub lines-more : (row : ℕ) (rs : List ℕ) (r : ℕ) → roleLines row (rs ++ r ∷ []) ≡ roleLines row rs ++ roleLine (row + length rs) r
+pub lines-more : (row : ℕ) (rs : List ℕ) (r : ℕ) → roleLines row (rs ++ r ∷ []) ≡
+    roleLines row rs ++ roleLine (row + length rs) r
 lines-more row [] r = append-nil _ ∙ ap (λ (k : ℕ). roleLine k r) (sym (add-zero row))
 lines-more row (q ∷ rs) r =
     ap (λ (l : List ℕ). roleLine row q ++ l) (lines-more (suc row) rs r)
     ∙ sym (append-assoc (roleLine row q) (roleLines (suc row) rs) (roleLine (suc row + length rs) r))
-    ∙ ap (λ (k : ℕ). (roleLine row q ++ roleLines (suc row) rs) ++ roleLine k r) (suc-add row (length rs) ∙ sym (add-suc row (length rs)))
+    ∙ ap (λ (k : ℕ). (roleLine row q ++ roleLines (suc row) rs) ++ roleLine k r)
+    (suc-add row (length rs) ∙ sym (add-suc row (length rs)))
 
 -- ## The bytes before the first 255
 
@@ -48,7 +50,8 @@ module _ (s : List ℕ) where
   pub assigned-here : (i : ℕ) → i < length s → getD s i 0 ≡ 255 → assigned (drop i s) ≡ 0
   assigned-here i h e = rw (drop-next s i h, eq-eqb _ 255 e)
 
-  pub assigned-next : (i : ℕ) → i < length s → (getD s i 0 ≡ 255 → ⊥) → assigned (drop i s) ≡ suc (assigned (drop (i + 1) s))
+  pub assigned-next : (i : ℕ) → i < length s → (getD s i 0 ≡ 255 → ⊥) →
+      assigned (drop i s) ≡ suc (assigned (drop (i + 1) s))
   assigned-next i h e = rw (drop-next s i h, ne-eqb _ 255 e)
 
   pub assigned-end : (i : ℕ) → length s ≤ i → assigned (drop i s) ≡ 0
@@ -77,10 +80,13 @@ module _ (s : List ℕ) (n : ℕ) (d : Declaration) (rs : List ℕ) where
 
   -- what holds of the roles of every item holds of the answer's
   module _ (P : List ℕ → Type 0)
-      (of-item : (k : ℕ) → list.check s ≡ list.Answer.passed k → (f : Declaration) (qs : List ℕ) (us : Trees) → item 0 (at s 10 .here) ≡ took f qs us
+      (of-item : (k : ℕ) → list.check s ≡ list.Answer.passed k → (f : Declaration) (qs : List ℕ) (us : Trees) →
+      item 0 (at s 10 .here) ≡ took f qs us
       → P (qs ++ replicate (size us) left-over)) where
-    by-item : (k : ℕ) → list.check s ≡ list.Answer.passed k → (t : Took Declaration) → item 0 (at s 10 .here) ≡ t → itemAnswer t ≡ declared d rs → P rs
-    by-item k c (took f qs us) i e = let q : qs ++ replicate (size us) left-over ≡ rs = cc in subst P q (of-item k c f qs us i)
+    by-item : (k : ℕ) → list.check s ≡ list.Answer.passed k → (t : Took Declaration) → item 0 (at s 10 .here) ≡ t →
+        itemAnswer t ≡ declared d rs → P rs
+    by-item k c (took f qs us) i e =
+        let q : qs ++ replicate (size us) left-over ≡ rs = cc in subst P q (of-item k c f qs us i)
     by-item k c (refuse m p) i e = absurd (never e)
 
     by-answer : answer s n ≡ declared d rs → P rs
@@ -98,23 +104,33 @@ module _ (s : List ℕ) (n : ℕ) (d : Declaration) (rs : List ℕ) where
       by-answer (λ (qs : List ℕ). length qs ≤ 4096)
       (λ k c f qs us i.
       let taken = conserved (subst (Conserved (at s 10 .here)) i (item-conserving 0 (at s 10 .here))) in
-      omega
-      (arith, length-append qs (replicate (size us) left-over), length-replicate {A = ℕ} (size us) left-over, taken .rows, passed-list s k c .size, bounds s c .rows))
+      omega (
+        arith,
+        length-append qs (replicate (size us) left-over),
+        length-replicate {A = ℕ} (size us) left-over,
+        taken .rows,
+        passed-list s k c .size,
+        bounds s c .rows,
+      ))
 
 module _ (s b0 : List ℕ) {b1 : List ℕ} where
-  pub rows-read : {p : Parse} → Answered s p b0 b1 → accepted p ≡ true → (n : ℕ) → n ≡ assigned b1 → readAs (Rows n) b1 (answer s (length b0))
+  pub rows-read : {p : Parse} → Answered s p b0 b1 → accepted p ≡ true → (n : ℕ) → n ≡ assigned b1 →
+      readAs (Rows n) b1 (answer s (length b0))
   rows-read {p} h t n e = go (answer s (length b0)) refl
     where
       go : (a : Answer) → answer s (length b0) ≡ a → readAs (Rows n) b1 a
       go (declared d rs) q =
           let rest : List ℕ = replicate (length b0 - length rs) 255 in
           let b : b1 ≡ rs ++ rest = h .buffer ∙ ap (buffer (length b0)) q in
-          let c : n ≡ length rs = e ∙ ap assigned b ∙ assigned-all rs (length b0 - length rs) (named s (length b0) d rs q) in
+          let c : n ≡ length rs = e ∙ ap assigned b ∙ assigned-all rs (length b0 - length rs)
+          (named s (length b0) d rs q) in
           (omega (arith, ap length b, length-append rs rest), ap (take n) b ∙ take-at rs rest n (sym c))
       go (refused m r) q = absurd (true≢false (sym t ∙ accepted-as h ∙ ap accepts q))
 
-  pub refusal-read : (r : Refusal) {p : Parse} → p ≡ parses.Refused r → Answered s p b0 b1 → readAs (Refused r) b1 (answer s (length b0))
-  refusal-read r {p} e h = go (answer s (length b0)) (subst (λ (x : Parse). ParsedAs s x (answer s (length b0))) e (h .answer))
+  pub refusal-read : (r : Refusal) {p : Parse} → p ≡ parses.Refused r → Answered s p b0 b1 →
+      readAs (Refused r) b1 (answer s (length b0))
+  refusal-read r {p} e h =
+      go (answer s (length b0)) (subst (λ (x : Parse). ParsedAs s x (answer s (length b0))) e (h .answer))
     where
       go : (a : Answer) → ParsedAs s (parses.Refused r) a → readAs (Refused r) b1 a
       go (declared d rs) k = absurd k
@@ -135,7 +151,8 @@ found {after} n a e h = go a (subst (λ (x : Roles). readAs x after a) e h)
     go (declared d rs) k = record { within = k .0; declaration = d; same = ap (declared d) (sym (k .1)) }
     go (refused m p) k = absurd k
 
-pub not-found : (after : List ℕ) (r : Refusal) (a : Answer) {x : Roles} → x ≡ Refused r → readAs x after a → a ≡ refused (r .number) (r .place)
+pub not-found : (after : List ℕ) (r : Refusal) (a : Answer) {x : Roles} → x ≡ Refused r → readAs x after a →
+    a ≡ refused (r .number) (r .place)
 not-found after r a e h = go a (subst (λ (x : Roles). readAs x after a) e h)
   where
     go : (a : Answer) → readAs (Refused r) after a → a ≡ refused (r .number) (r .place)

@@ -1,5 +1,5 @@
--- How much a list that passes the check may hold: its bytes, its rows, and the texts of its stream; the numbers and places of
--- refusals.
+-- How much a list that passes the check may hold: its bytes, its rows, and the texts of its stream; the numbers and
+-- places of refusals.
 use mathlib.Core.Path.{_≡_, refl, ap, _∙_, sym, subst}
 use mathlib.Core.Logic.{inl, inr}
 use mathlib.Core.Bool.{Bool, true, false, cond}
@@ -57,19 +57,23 @@ step-limited : {b : ℕ} (r : ℕ) (gs : List Open) (f : Form) (go : List Open �
     → ((hs : List Open) → Below (r + 1) hs → Limited b (go hs)) → Limited b (step r gs f go)
 step-limited r gs wrong go l h o k = low refl l h
 step-limited r gs plain go l h o k = k gs (below-next r gs o)
-step-limited r gs (opens d) go l h o k = choice (leb 32 (length gs)) (low refl l h) (k _ (omega arith, below-next r gs o))
+step-limited r gs (opens d) go l h o k =
+    choice (leb 32 (length gs)) (low refl l h) (k _ (omega arith, below-next r gs o))
 step-limited r [] (closed d) go l h o k = low refl l h
-step-limited r (g ∷ gs) (closed d) go l h o k = choice (eqb (closer (g .delimiter)) d) (k gs (below-next r gs (o .1))) (low refl l h)
+step-limited r (g ∷ gs) (closed d) go l h o k =
+    choice (eqb (closer (g .delimiter)) d) (k gs (below-next r gs (o .1))) (low refl l h)
 
 -- row r begins: at most 4,096 rows stand before it, and a further one is refused
-begin-limited : {b : ℕ} (r : ℕ) (a : Answer) → r ≤ 4096 → r < b → (r < 4096 → Limited b a) → Limited b (cond (leb 4096 r) (refused 4 4096) a)
+begin-limited : {b : ℕ} (r : ℕ) (a : Answer) → r ≤ 4096 → r < b → (r < 4096 → Limited b a) →
+    Limited b (cond (leb 4096 r) (refused 4 4096) a)
 begin-limited {b} r a h l k = go (leb 4096 r) refl
   where
     go : (t : Bool) → leb 4096 r ≡ t → Limited b (cond t (refused 4 4096) a)
     go true e = low {p = 4096} refl (omega (arith, leb-true 4096 r e)) (omega arith)
     go false e = k (omega (arith, leb-false 4096 r e))
 
-walk-limited : {b : ℕ} (ls : Lines) (r : ℕ) (gs : List Open) → r ≤ 4096 → Below r gs → r + begun ls ≡ b → Limited b (walk r gs ls)
+walk-limited : {b : ℕ} (ls : Lines) (r : ℕ) (gs : List Open) → r ≤ 4096 → Below r gs → r + begun ls ≡ b →
+    Limited b (walk r gs ls)
 walk-limited (tail []) r [] h o e = few {n = r} (omega arith) h
 walk-limited (tail []) r (g ∷ gs) h o e = low {p = g .row} refl (omega (arith, o .0)) (omega (arith, o .0))
 walk-limited (tail (x ∷ xs)) r gs h o e = begin-limited r _ h (omega arith) (λ i. low {p = r} refl (omega arith) h)
@@ -82,7 +86,8 @@ check-limited : (s : List ℕ) → Limited (begun (lines (drop 10 s))) (check s)
 unfolding check
 check-limited s =
     choice (ltb 65536 (length s)) (ended refl)
-    (choice (same (take 10 s) NAMES) (walk-limited (lines (drop 10 s)) 0 [] (omega arith) tt (omega arith)) (ended refl))
+    (choice (same (take 10 s) NAMES) (walk-limited (lines (drop 10 s)) 0 [] (omega arith) tt (omega arith))
+    (ended refl))
 
 pub check-refusal : (s : List ℕ) (n p : ℕ) → check s ≡ refused n p → OneRefusal checkNumber s n p
 check-refusal s n p e = go refl (rw e at (check-limited s))
@@ -96,7 +101,13 @@ check-refusal s n p e = go refl (rw e at (check-limited s))
     go q (low {n = m} {p = o} k l h) =
         let number : m ≡ n = cc in
         let place : o ≡ p = cc in
-        record { one = subst (λ (i : ℕ). checkNumber i ≡ true) number k; stands = inr (record { begins = omega (arith, place); low = omega (arith, place) }) }
+        record {
+          one = subst (λ (i : ℕ). checkNumber i ≡ true) number k;
+          stands = inr (record {
+            begins = omega (arith, place);
+            low = omega (arith, place);
+          });
+        }
 
 pub checked-as : (s : List ℕ) (r : Checked) → checked r ≡ check s → CheckedAs s r
 checked-as s r e = record { answer = e; refusal = λ n p q. check-refusal s n p (sym e ∙ q) }
@@ -124,11 +135,13 @@ streams-texts (r ∷ rs) = kind (streams-texts rs) (eqb (r .kind) 111) (eqb (r .
     long : length (written (r ∷ rs)) ≡ length (r .text) + length (written rs) + 3
     long = omega (arith, length-append (r .text) (LF ∷ written rs))
 
-    within : {st : Streams} → before r (streams rs) ≡ st → total st ≤ length (r .text) + total (streams rs) → total (streams rs) ≤ length (written rs)
+    within : {st : Streams} → before r (streams rs) ≡ st → total st ≤ length (r .text) + total (streams rs) →
+        total (streams rs) ≤ length (written rs)
         → total (before r (streams rs)) ≤ length (written (r ∷ rs))
     within e h ih = let same = ap total e in omega (arith, long)
 
-    kind : total (streams rs) ≤ length (written rs) → (o c : Bool) → eqb (r .kind) 111 ≡ o → eqb (r .kind) 99 ≡ c → total (before r (streams rs)) ≤ length (written (r ∷ rs))
+    kind : total (streams rs) ≤ length (written rs) → (o c : Bool) → eqb (r .kind) 111 ≡ o → eqb (r .kind) 99 ≡ c →
+        total (before r (streams rs)) ≤ length (written (r ∷ rs))
     kind ih true c a b = within (before-open r (streams rs) (eqb-true _ _ a))
         (omega (arith, around-parts (streams rs .outer))) ih
     kind ih false true a b = within (before-close r (streams rs) (eqb-true _ _ b)) (omega arith) ih

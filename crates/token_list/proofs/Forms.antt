@@ -49,7 +49,8 @@ member-passes : (p : ℕ → Bool) (b : ℕ) (xs : List ℕ) → all p xs ≡ tr
 member-passes p b [] a m = absurd (false≢true m)
 member-passes p b (x ∷ xs) a m = go (eqb b x) refl (p x) refl a m (member-passes p b xs)
   where
-    go : (t : Bool) → eqb b x ≡ t → (u : Bool) → p x ≡ u → (u && all p xs) ≡ true → (t || member b xs) ≡ true → (all p xs ≡ true → member b xs ≡ true → p b ≡ true) → p b ≡ true
+    go : (t : Bool) → eqb b x ≡ t → (u : Bool) → p x ≡ u → (u && all p xs) ≡ true → (t || member b xs) ≡ true →
+        (all p xs ≡ true → member b xs ≡ true → p b ≡ true) → p b ≡ true
     go t e false f a m k = absurd (false≢true a)
     go true e true f a m k = ap p (eqb-true b x e) ∙ f
     go false e true f a m k = k a m
@@ -59,7 +60,8 @@ pub literal-shown : (b : ℕ) → literalStart b ≡ true → printable b ≡ tr
 literal-shown b e = go (digit b) refl e
   where
     go : (x : Bool) → digit b ≡ x → (x || member b (34 ∷ 39 ∷ 98 ∷ 99 ∷ 114 ∷ [])) ≡ true → printable b ≡ true
-    go true d q = let h = and-parts (leb 48 b) (leb b 57) d in and-both _ _ (le-leb 32 b (omega (arith, leb-true 48 b (h .0)))) (le-leb b 126 (omega (arith, leb-true b 57 (h .1))))
+    go true d q = let h = and-parts (leb 48 b) (leb b 57) d in and-both _ _
+        (le-leb 32 b (omega (arith, leb-true 48 b (h .0)))) (le-leb b 126 (omega (arith, leb-true b 57 (h .1))))
     go false d q = member-passes printable b (34 ∷ 39 ∷ 98 ∷ 99 ∷ 114 ∷ []) refl q
 
 pub name-byte : (b : ℕ) → name (b ∷ []) ≡ nameStart b
@@ -101,20 +103,25 @@ module _ (s : List ℕ) (i e : ℕ) (fits : e ≤ length s) where
   pub form-long : i + 1 < e → getD s (i + 1) 0 ≡ 32 → 255 < e - (i + 2) → form (slice i e s) ≡ wrong
   form-long h q k =
       form-parts h
-      ∙ passed-over _ _ _ (and-last _ _ (eq-eqb _ _ q) ∙ ap (λ (n : ℕ). leb n 255) (length-slice (i + 2) e s fits) ∙ lt-leb _ _ k)
+      ∙ passed-over _ _ _ (and-last _ _ (eq-eqb _ _ q) ∙ ap (λ (n : ℕ). leb n 255) (length-slice (i + 2) e s fits) ∙
+      lt-leb _ _ k)
 
-  pub form-right : i + 1 < e → getD s (i + 1) 0 ≡ 32 → e - (i + 2) ≤ 255 → form (slice i e s) ≡ formOf (getD s i 0) (slice (i + 2) e s)
+  pub form-right : i + 1 < e → getD s (i + 1) 0 ≡ 32 → e - (i + 2) ≤ 255 →
+      form (slice i e s) ≡ formOf (getD s i 0) (slice (i + 2) e s)
   form-right h q k =
       form-parts h
-      ∙ chosen _ _ _ (and-both _ _ (eq-eqb _ _ q) (ap (λ (n : ℕ). leb n 255) (length-slice (i + 2) e s fits) ∙ le-leb _ _ k))
+      ∙ chosen _ _ _ (and-both _ _ (eq-eqb _ _ q) (ap (λ (n : ℕ). leb n 255) (length-slice (i + 2) e s fits) ∙
+      le-leb _ _ k))
 
 -- ## Rows of which one look at each byte tells the form
 
-pub name-fits : (k b : ℕ) (t : List ℕ) → k ≡ 105 → nameStart b ≡ true → all namePart (b ∷ t) ≡ true → formOf k (b ∷ t) ≡ plain
+pub name-fits : (k b : ℕ) (t : List ℕ) → k ≡ 105 → nameStart b ≡ true → all namePart (b ∷ t) ≡ true →
+    formOf k (b ∷ t) ≡ plain
 name-fits k b t e n f =
     ident-form k (b ∷ t) e ∙ chosen _ _ _ (or-holds _ _ (and-both _ _ n (sym (and-last _ _ (or-holds _ _ n)) ∙ f)))
 
-pub literal-fits : (k b : ℕ) (t : List ℕ) → k ≡ 108 → literalStart b ≡ true → all printable (b ∷ t) ≡ true → formOf k (b ∷ t) ≡ plain
+pub literal-fits : (k b : ℕ) (t : List ℕ) → k ≡ 108 → literalStart b ≡ true → all printable (b ∷ t) ≡ true →
+    formOf k (b ∷ t) ≡ plain
 literal-fits k b t e n f = literal-form k (b ∷ t) e ∙ chosen _ _ _ (and-both _ _ n f)
 
 -- a row's form is not wrong
@@ -131,7 +138,8 @@ unfolding formOf
 zero-kind k t e = rw e
 
 -- nor is a text's first byte
-chosen-wrong : (x y z u v : Bool) → cond x wrong (cond y wrong (cond z wrong (cond u wrong (cond v wrong wrong)))) ≡ wrong
+chosen-wrong : (x y z u v : Bool) → cond x wrong (cond y wrong (cond z wrong (cond u wrong (cond v wrong wrong)))) ≡
+    wrong
 chosen-wrong true y z u v = refl
 chosen-wrong false true z u v = refl
 chosen-wrong false false true u v = refl
@@ -153,27 +161,32 @@ pub mark-wrong : (k : ℕ) (t : List ℕ) → (k ≡ 105 → ⊥) → (k ≡ 108
 mark-wrong k t a b e =
     mark-form k t a b ∙ ap (markForm k) (sym e) ∙ chosen-wrong false false (eqb k 112) (eqb k 111) (eqb k 99)
 
-pub one-byte-parts : (s : List ℕ) (i : ℕ) → oneByte s i ≡ true → (i + 3 < length s) × (getD s (i + 1) 0 ≡ 32) × (getD s (i + 3) 0 ≡ 10)
+pub one-byte-parts : (s : List ℕ) (i : ℕ) → oneByte s i ≡ true → (i + 3 < length s) × (getD s (i + 1) 0 ≡ 32) ×
+    (getD s (i + 3) 0 ≡ 10)
 one-byte-parts s i e =
     let p = and-parts (ltb (i + 3) (length s)) _ e in
     let q = and-parts (eqb (getD s (i + 1) 0) 32) _ (p .1) in
     (ltb-true _ _ (p .0), eqb-true _ _ (q .0), eqb-true _ _ (q .1))
 
 -- a line whose text is not of one byte
-pub not-one-byte : (s : List ℕ) (i e : ℕ) → oneByte s i ≡ false → getD s (i + 1) 0 ≡ 32 → e < length s → getD s e 0 ≡ 10 → i + 2 + 1 ≡ e → ⊥
+pub not-one-byte : (s : List ℕ) (i e : ℕ) → oneByte s i ≡ false → getD s (i + 1) 0 ≡ 32 → e < length s →
+    getD s e 0 ≡ 10 → i + 2 + 1 ≡ e → ⊥
 not-one-byte s i e o space h q n =
     let m : e ≡ i + 3 = omega (arith, n) in
     false≢true
     (sym o
-    ∙ and-both _ _ (lt-ltb (i + 3) (length s) (omega (arith, h, m))) (and-both _ _ (eq-eqb _ _ space) (eq-eqb _ _ (ap (λ (k : ℕ). getD s k 0) (sym m) ∙ q))))
+    ∙ and-both _ _ (lt-ltb (i + 3) (length s) (omega (arith, h, m)))
+    (and-both _ _ (eq-eqb _ _ space) (eq-eqb _ _ (ap (λ (k : ℕ). getD s k 0) (sym m) ∙ q))))
 
 module _ (s : List ℕ) (at : ℕ) (space : getD s (at + 1) 0 ≡ 32) where
   -- a line from `at` to e, whose text starts two bytes on
-  quick-line : (e : ℕ) → at + 2 ≤ e → e < length s → (getD s at 0 ≡ LF → ⊥) → lines (drop (at + 2) s) ≡ line (slice (at + 2) e s) (lines (drop (e + 1) s))
+  quick-line : (e : ℕ) → at + 2 ≤ e → e < length s → (getD s at 0 ≡ LF → ⊥) →
+      lines (drop (at + 2) s) ≡ line (slice (at + 2) e s) (lines (drop (e + 1) s))
       → lines (drop at s) ≡ line (slice at e s) (lines (drop (e + 1) s))
   quick-line e h k p l = line-from s at e h (omega arith) p (λ q. absurd (omega (arith, space, q))) l
 
-  quick-form : (e : ℕ) → at + 2 ≤ e → e < length s → (getD s at 0 ≡ LF → ⊥) → lines (drop (at + 2) s) ≡ line (slice (at + 2) e s) (lines (drop (e + 1) s))
+  quick-form : (e : ℕ) → at + 2 ≤ e → e < length s → (getD s at 0 ≡ LF → ⊥) →
+      lines (drop (at + 2) s) ≡ line (slice (at + 2) e s) (lines (drop (e + 1) s))
       → e - (at + 2) ≤ 255 → formed (lines (drop at s)) ≡ formOf (getD s at 0) (slice (at + 2) e s)
   quick-form e h k p l few = ap formed (quick-line e h k p l) ∙ form-right s at e (omega arith) (omega arith) space few
 
@@ -191,7 +204,8 @@ module _ (s : List ℕ) (at : ℕ) (r : Line) (space : getD s (at + 1) 0 ≡ 32)
       }
 
   -- a text of one byte
-  pub quick-byte : at + 3 < length s → getD s (at + 3) 0 ≡ LF → r .next ≡ at + 4 → shape (r .shape) ≡ formOf (getD s at 0) (getD s (at + 2) 0 ∷ []) → Shaped s at r
+  pub quick-byte : at + 3 < length s → getD s (at + 3) 0 ≡ LF → r .next ≡ at + 4 →
+      shape (r .shape) ≡ formOf (getD s at 0) (getD s (at + 2) 0 ∷ []) → Shaped s at r
   quick-byte h q n f = kind (eqb (getD s at 0) LF) refl
     where
       no-row : shape (r .shape) ≡ wrong → formed (lines (drop at s)) ≡ wrong → Shaped s at r
@@ -206,7 +220,8 @@ module _ (s : List ℕ) (at : ℕ) (r : Line) (space : getD s (at + 1) 0 ≡ 32)
       mark true e p =
           let b = eqb-true _ _ e in
           let l : lines (drop (at + 2) s) ≡ line (slice (at + 2) (at + 2) s) (lines (drop (at + 2 + 1) s)) =
-          lines-end s (at + 2) (omega arith) b ∙ ap (λ (x : List ℕ). line x (lines (drop (at + 2 + 1) s))) (sym (slice-empty (at + 2) s)) in
+          lines-end s (at + 2) (omega arith) b ∙ ap (λ (x : List ℕ). line x (lines (drop (at + 2 + 1) s)))
+          (sym (slice-empty (at + 2) s)) in
           no-row (f ∙ lf-text (getD s at 0) _ [] b)
           (quick-form s at space (at + 2) (omega arith) (omega arith) p l (omega arith) ∙ ap (formOf (getD s at 0))
           (slice-empty (at + 2) s) ∙ no-text (getD s at 0))
@@ -216,7 +231,8 @@ module _ (s : List ℕ) (at : ℕ) (r : Line) (space : getD s (at + 1) 0 ≡ 32)
           lines-byte s (at + 2) (omega arith) (eqb-false _ _ e)
           ∙ ap (λ (m : ℕ). front (getD s (at + 2) 0) (lines (drop m s))) three
           ∙ ap (front (getD s (at + 2) 0)) (lines-end s (at + 3) h q) in
-          quick-row (at + 3) (omega arith) h p (l ∙ ap (λ (x : List ℕ). line x (lines (drop (at + 3 + 1) s))) (sym text)) (omega arith) (omega (arith, n))
+          quick-row (at + 3) (omega arith) h p (l ∙ ap (λ (x : List ℕ). line x (lines (drop (at + 3 + 1) s)))
+          (sym text)) (omega arith) (omega (arith, n))
           (f ∙ ap (formOf (getD s at 0)) (sym text))
 
       kind : (b : Bool) → eqb (getD s at 0) LF ≡ b → Shaped s at r
@@ -226,7 +242,8 @@ module _ (s : List ℕ) (at : ℕ) (r : Line) (space : getD s (at + 1) 0 ≡ 32)
 
   -- a token that is found by its text's end
   pub quick-token : (names : Bool) → (getD s at 0 ≡ LF → ⊥) → inText names (getD s (at + 2) 0) ≡ true
-      → ((t : List ℕ) → all (inText names) (getD s (at + 2) 0 ∷ t) ≡ true → formOf (getD s at 0) (getD s (at + 2) 0 ∷ t) ≡ plain)
+      → ((t : List ℕ) → all (inText names) (getD s (at + 2) 0 ∷ t) ≡ true →
+      formOf (getD s at 0) (getD s (at + 2) 0 ∷ t) ≡ plain)
       → TokenLine s names (at + 2) r → ShapedUnlessWrong s at r
   quick-token names p fit form tl w =
       let x = tl .whole w in

@@ -26,10 +26,12 @@ prepend-front l b (tail t) = simp append-assoc
 prepend-front l b (line m ls) = simp append-assoc
 
 -- the line that starts at i, one byte at a time
-pub lines-byte : (s : List ℕ) (i : ℕ) → i < length s → (getD s i 0 ≡ LF → ⊥) → lines (drop i s) ≡ front (getD s i 0) (lines (drop (i + 1) s))
+pub lines-byte : (s : List ℕ) (i : ℕ) → i < length s → (getD s i 0 ≡ LF → ⊥) →
+    lines (drop i s) ≡ front (getD s i 0) (lines (drop (i + 1) s))
 lines-byte s i h q = ap lines (drop-next s i h) ∙ simp (ne-eqb _ _ q)
 
-pub lines-end : (s : List ℕ) (i : ℕ) → i < length s → getD s i 0 ≡ LF → lines (drop i s) ≡ line [] (lines (drop (i + 1) s))
+pub lines-end : (s : List ℕ) (i : ℕ) → i < length s → getD s i 0 ≡ LF →
+    lines (drop i s) ≡ line [] (lines (drop (i + 1) s))
 lines-end s i h q = ap lines (drop-next s i h) ∙ simp (eq-eqb _ _ q)
 
 -- A scan for the LF: at its start, while none was met, and at its end.
@@ -73,4 +75,5 @@ line-from s i e h k p q l =
     ∙ sym
     (ap (λ (x : List ℕ). line x (lines (drop (e + 1) s)))
     (slice-next s i e (omega arith) k
-    ∙ ap (λ (x : List ℕ). getD s i 0 ∷ x) (slice-next s (i + 1) e (omega arith) k ∙ ap (λ (n : ℕ). getD s (i + 1) 0 ∷ slice n e s) two)))
+    ∙ ap (λ (x : List ℕ). getD s i 0 ∷ x) (slice-next s (i + 1) e (omega arith) k ∙
+    ap (λ (n : ℕ). getD s (i + 1) 0 ∷ slice n e s) two)))

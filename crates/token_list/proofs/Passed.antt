@@ -50,7 +50,8 @@ close-form : (k : ℕ) (t : List ℕ) → eqb k 99 ≡ true → formOf k t ≡ c
 unfolding formOf
 close-form k t e = rw (eqb-true k 99 e)
 
-plain-form : (k : ℕ) (t : List ℕ) → eqb k 111 ≡ false → eqb k 99 ≡ false → (b : Bool) × (formOf k t ≡ cond b plain wrong)
+plain-form : (k : ℕ) (t : List ℕ) → eqb k 111 ≡ false → eqb k 99 ≡ false → (b : Bool) ×
+    (formOf k t ≡ cond b plain wrong)
 unfolding formOf
 plain-form k t o c = go (eqb k 105) (eqb k 108) (eqb k 112)
   where
@@ -59,7 +60,8 @@ plain-form k t o c = go (eqb k 105) (eqb k 108) (eqb k 112)
         × (cond x (cond (name t) plain wrong)
         (cond y (cond (literal t) plain wrong)
         (cond z (cond (single punctuation t) plain wrong)
-        (cond (eqb k 111) (cond (single opening t) (opens (first t)) wrong) (cond (eqb k 99) (cond (single closing t) (closed (first t)) wrong) wrong))))
+        (cond (eqb k 111) (cond (single opening t) (opens (first t)) wrong)
+        (cond (eqb k 99) (cond (single closing t) (closed (first t)) wrong) wrong))))
         ≡ cond b plain wrong)
     go true y z = (name t, refl)
     go false true z = (literal t, refl)
@@ -82,7 +84,8 @@ record Seen (ls : Lines) (r : ℕ) (gs : List Open) (n : ℕ) : Type 0 where
   count : r + length (rows ls) ≡ n
   nests : nested (delimiters gs) (rows ls) ≡ true
 
-module _ (ls : Lines) (ih : (r : ℕ) (gs : List Open) (n : ℕ) → walk r gs ls ≡ passed n → Seen ls r gs n) (r n : ℕ) (gs : List Open) (k s : ℕ) (t : List ℕ)
+module _ (ls : Lines) (ih : (r : ℕ) (gs : List Open) (n : ℕ) → walk r gs ls ≡ passed n → Seen ls r gs n) (r n : ℕ)
+    (gs : List Open) (k s : ℕ) (t : List ℕ)
     (space : eqb s 32 ≡ true) (short : leb (length t) 255 ≡ true) where
   theLine : Lines
   theLine = line (k ∷ s ∷ t) ls
@@ -97,7 +100,8 @@ module _ (ls : Lines) (ih : (r : ℕ) (gs : List Open) (n : ℕ) → walk r gs l
   unfolding joined theLine
   row-seen f hs sn q =
       record {
-        whole = ap (λ (x : ℕ). k ∷ x ∷ t ++ LF ∷ joined ls) (eqb-true s 32 space) ∙ ap (λ (bs : List ℕ). k ∷ 32 ∷ t ++ LF ∷ bs) (sn .whole);
+        whole = ap (λ (x : ℕ). k ∷ x ∷ t ++ LF ∷ joined ls) (eqb-true s 32 space) ∙
+            ap (λ (bs : List ℕ). k ∷ 32 ∷ t ++ LF ∷ bs) (sn .whole);
         count = omega (arith, sn .count);
         nests = and-both _ _ (and-both _ _ f short) q;
       }
@@ -110,7 +114,8 @@ module _ (ls : Lines) (ih : (r : ℕ) (gs : List Open) (n : ℕ) → walk r gs l
   open-seen o e = pick (single opening t) refl
     where
       pick : (b : Bool) → single opening t ≡ b → Seen theLine r gs n
-      pick false q = absurd (never _ _ _ (sym (ap (λ (f : Form). step r gs f go) (open-form k t o ∙ passed-over _ _ _ q)) ∙ e))
+      pick false q =
+          absurd (never _ _ _ (sym (ap (λ (f : Form). step r gs f go) (open-form k t o ∙ passed-over _ _ _ q)) ∙ e))
       pick true q = deep (leb 32 (length gs)) refl
         where
           f : formOf k t ≡ opens (first t)
@@ -119,7 +124,8 @@ module _ (ls : Lines) (ih : (r : ℕ) (gs : List Open) (n : ℕ) → walk r gs l
           deep : (b : Bool) → leb 32 (length gs) ≡ b → Seen theLine r gs n
           deep true d = absurd (never _ _ _ (sym (ap (λ (g : Form). step r gs g go) f ∙ chosen _ _ _ d) ∙ e))
           deep false d =
-              let sn = ih (r + 1) (record { delimiter = first t; row = r } ∷ gs) n (sym (ap (λ (g : Form). step r gs g go) f ∙ passed-over _ _ _ d) ∙ e) in
+              let sn = ih (r + 1) (record { delimiter = first t; row = r } ∷ gs) n
+              (sym (ap (λ (g : Form). step r gs g go) f ∙ passed-over _ _ _ d) ∙ e) in
               row-seen (ap isRow f) _ sn
               (chosen _ _ _ o ∙ and-both _ _
               (lt-ltb (length (delimiters gs)) 32 (omega (arith, leb-false 32 (length gs) d, delimiters-length gs)))
@@ -138,22 +144,27 @@ module _ (ls : Lines) (ih : (r : ℕ) (gs : List Open) (n : ℕ) → walk r gs l
               row-seen (ap isRow q) gs sn (passed-over _ _ _ o ∙ passed-over _ _ _ c ∙ sn .nests)
 
 -- the closing row, by the groups that are open
-close-seen : (ls : Lines) (ih : (r : ℕ) (gs : List Open) (n : ℕ) → walk r gs ls ≡ passed n → Seen ls r gs n) (r n : ℕ) (gs : List Open) (k s : ℕ) (t : List ℕ)
+close-seen : (ls : Lines) (ih : (r : ℕ) (gs : List Open) (n : ℕ) → walk r gs ls ≡ passed n → Seen ls r gs n) (r n : ℕ)
+    (gs : List Open) (k s : ℕ) (t : List ℕ)
     (space : eqb s 32 ≡ true) (short : leb (length t) 255 ≡ true) → eqb k 111 ≡ false → eqb k 99 ≡ true
     → step r gs (formOf k t) (λ hs. walk (r + 1) hs ls) ≡ passed n → Seen (line (k ∷ s ∷ t) ls) r gs n
 unfolding delimiters theLine
 close-seen ls ih r n gs k s t space short o c e = pick (single closing t) refl
   where
     pick : (b : Bool) → single closing t ≡ b → Seen (line (k ∷ s ∷ t) ls) r gs n
-    pick false q = absurd (never _ _ _ (sym (ap (λ (f : Form). step r gs f (λ hs. walk (r + 1) hs ls)) (close-form k t c ∙ passed-over _ _ _ q)) ∙ e))
+    pick false q = absurd (never _ _ _ (sym (ap (λ (f : Form). step r gs f (λ hs. walk (r + 1) hs ls))
+        (close-form k t c ∙ passed-over _ _ _ q)) ∙ e))
     pick true q = under gs refl (sym (ap (λ (f : Form). step r gs f (λ hs. walk (r + 1) hs ls)) f) ∙ e)
       where
         f : formOf k t ≡ closed (first t)
         f = close-form k t c ∙ chosen _ _ _ q
 
-        under : (hs : List Open) → gs ≡ hs → close r (first t) gs (λ hs. walk (r + 1) hs ls) ≡ passed n → Seen (line (k ∷ s ∷ t) ls) r gs n
-        under [] g x = absurd (never _ _ _ (sym (ap (λ (hs : List Open). close r (first t) hs (λ hs. walk (r + 1) hs ls)) g) ∙ x))
-        under (h ∷ hs) g x = match (eqb (closer (h .delimiter)) (first t)) refl (sym (ap (λ (hs : List Open). close r (first t) hs (λ hs. walk (r + 1) hs ls)) g) ∙ x)
+        under : (hs : List Open) → gs ≡ hs → close r (first t) gs (λ hs. walk (r + 1) hs ls) ≡ passed n →
+            Seen (line (k ∷ s ∷ t) ls) r gs n
+        under [] g x =
+            absurd (never _ _ _ (sym (ap (λ (hs : List Open). close r (first t) hs (λ hs. walk (r + 1) hs ls)) g) ∙ x))
+        under (h ∷ hs) g x = match (eqb (closer (h .delimiter)) (first t)) refl
+            (sym (ap (λ (hs : List Open). close r (first t) hs (λ hs. walk (r + 1) hs ls)) g) ∙ x)
           where
             match : (b : Bool) → eqb (closer (h .delimiter)) (first t) ≡ b
                 → cond (eqb (closer (h .delimiter)) (first t)) (walk (r + 1) hs ls) (refused 5 r) ≡ passed n → Seen
@@ -163,10 +174,12 @@ close-seen ls ih r n gs k s t space short o c e = pick (single closing t) refl
                 let sn = ih (r + 1) hs n (sym (chosen _ _ _ m) ∙ y) in
                 row-seen ls ih r n gs k s t space short (ap isRow f) hs sn
                 (passed-over _ _ _ o ∙ chosen _ _ _ c
-                ∙ ap (λ (gs : List Open). closedBy (delimiters gs) (first t) && nested (enclosing (delimiters gs)) (rows ls)) g
+                ∙ ap (λ (gs : List Open). closedBy (delimiters gs) (first t) && nested (enclosing (delimiters gs))
+                (rows ls)) g
                 ∙ and-both _ _ m (sn .nests))
 
-line-seen : (ls : Lines) (ih : (r : ℕ) (gs : List Open) (n : ℕ) → walk r gs ls ≡ passed n → Seen ls r gs n) (l : List ℕ) (r n : ℕ) (gs : List Open)
+line-seen : (ls : Lines) (ih : (r : ℕ) (gs : List Open) (n : ℕ) → walk r gs ls ≡ passed n → Seen ls r gs n) (l : List ℕ)
+    (r n : ℕ) (gs : List Open)
     → step r gs (form l) (λ hs. walk (r + 1) hs ls) ≡ passed n → Seen (line l ls) r gs n
 unfolding theLine
 line-seen ls ih [] r n gs e = absurd (never _ _ _ e)
@@ -174,7 +187,8 @@ line-seen ls ih (k ∷ []) r n gs e = absurd (never _ _ _ e)
 line-seen ls ih (k ∷ s ∷ t) r n gs e = pick (eqb s 32 && leb (length t) 255) refl
   where
     pick : (b : Bool) → (eqb s 32 && leb (length t) 255) ≡ b → Seen (line (k ∷ s ∷ t) ls) r gs n
-    pick false q = absurd (never _ _ _ (sym (ap (λ (f : Form). step r gs f (λ hs. walk (r + 1) hs ls)) (passed-over _ _ _ q)) ∙ e))
+    pick false q =
+        absurd (never _ _ _ (sym (ap (λ (f : Form). step r gs f (λ hs. walk (r + 1) hs ls)) (passed-over _ _ _ q)) ∙ e))
     pick true q = kind (eqb k 111) (eqb k 99) refl refl
       where
         p : (eqb s 32 ≡ true) × (leb (length t) 255 ≡ true)
@@ -230,7 +244,8 @@ record Balanced (rs : List Row) (ds : List ℕ) : Type 0 where
   whole : allClosed rs ≡ true
   right : allRight rs ≡ true
 
-balanced-row : (r : Row) (rs : List Row) (ds : List ℕ) → ((es : List ℕ) → nested es rs ≡ true → Balanced rs es) → nested ds (r ∷ rs) ≡ true → Balanced (r ∷ rs) ds
+balanced-row : (r : Row) (rs : List Row) (ds : List ℕ) → ((es : List ℕ) → nested es rs ≡ true → Balanced rs es) →
+    nested ds (r ∷ rs) ≡ true → Balanced (r ∷ rs) ds
 balanced-row r rs ds ih e = kind (eqb (r .kind) 111) (eqb (r .kind) 99) refl refl
   where
     forms : {es : List ℕ} → Balanced rs es → allRight (r ∷ rs) ≡ true
@@ -238,25 +253,30 @@ balanced-row r rs ds ih e = kind (eqb (r .kind) 111) (eqb (r .kind) 99) refl ref
 
     kind : (o c : Bool) → eqb (r .kind) 111 ≡ o → eqb (r .kind) 99 ≡ c → Balanced (r ∷ rs) ds
     kind true c a b =
-        let bl = ih (first (r .text) ∷ ds) (and-parts (ltb (length ds) 32) _ (sym (chosen _ _ _ a) ∙ nest-rest r rs ds e) .1) in
+        let bl = ih (first (r .text) ∷ ds) (and-parts (ltb (length ds) 32) _
+        (sym (chosen _ _ _ a) ∙ nest-rest r rs ds e) .1) in
         record {
-          outer = ap (λ (st : Streams). length (st .outer)) (before-open r (streams rs) (eqb-true _ _ a)) ∙ others-length (streams rs .outer) (length ds) (bl .outer);
+          outer = ap (λ (st : Streams). length (st .outer)) (before-open r (streams rs) (eqb-true _ _ a)) ∙
+              others-length (streams rs .outer) (length ds) (bl .outer);
           whole = and-both _ _ (bl .whole)
               (chosen _ (follows (streams rs .outer)) true a ∙ follows-of (streams rs .outer) (length ds) (bl .outer));
           right = forms bl;
         }
     kind false true a b =
-        let p = and-parts (closedBy ds (first (r .text))) _ (sym (passed-over _ _ _ a ∙ chosen _ _ _ b) ∙ nest-rest r rs ds e) in
+        let p = and-parts (closedBy ds (first (r .text))) _
+        (sym (passed-over _ _ _ a ∙ chosen _ _ _ b) ∙ nest-rest r rs ds e) in
         let bl = ih (enclosing ds) (p .1) in
         record {
-          outer = ap (λ (st : Streams). length (st .outer)) (before-close r (streams rs) (eqb-true _ _ b)) ∙ ap suc (bl .outer) ∙ sym (enclosed ds (first (r .text)) (p .0));
+          outer = ap (λ (st : Streams). length (st .outer)) (before-close r (streams rs) (eqb-true _ _ b)) ∙
+              ap suc (bl .outer) ∙ sym (enclosed ds (first (r .text)) (p .0));
           whole = and-both _ _ (bl .whole) (passed-over _ (follows (streams rs .outer)) true a);
           right = forms bl;
         }
     kind false false a b =
         let bl = ih ds (sym (passed-over _ _ _ a ∙ passed-over _ _ _ b) ∙ nest-rest r rs ds e) in
         record {
-          outer = ap (λ (st : Streams). length (st .outer)) (before-leaf r (streams rs) (eqb-false _ _ a) (eqb-false _ _ b)) ∙ bl .outer;
+          outer = ap (λ (st : Streams). length (st .outer))
+              (before-leaf r (streams rs) (eqb-false _ _ a) (eqb-false _ _ b)) ∙ bl .outer;
           whole = and-both _ _ (bl .whole) (passed-over _ (follows (streams rs .outer)) true a);
           right = forms bl;
         }
@@ -276,7 +296,8 @@ unfolding around
 around-parts [] e = absurd (false≢true e)
 around-parts (t ∷ ts) e = refl
 
-counted-row : (r : Row) (rs : List Row) → allClosed (r ∷ rs) ≡ true → size (streams rs .here) + around (streams rs .outer) ≡ length rs
+counted-row : (r : Row) (rs : List Row) → allClosed (r ∷ rs) ≡ true →
+    size (streams rs .here) + around (streams rs .outer) ≡ length rs
     → size (streams (r ∷ rs) .here) + around (streams (r ∷ rs) .outer) ≡ length (r ∷ rs)
 unfolding around
 counted-row r rs w ih = kind (eqb (r .kind) 111) (eqb (r .kind) 99) refl refl
@@ -329,10 +350,12 @@ passed-list s n e = long (ltb 65536 (length s)) e
           size = omega (arith, counted (rowsAt s 10) (bl .whole), ap around o);
         }
 
-    long : (b : Bool) → cond b (refused 1 65535) (cond (same (take 10 s) NAMES) (walk 0 [] (lines (drop 10 s))) (refused 2 65535)) ≡ passed n → PassedList s n
+    long : (b : Bool) → cond b (refused 1 65535) (cond (same (take 10 s) NAMES) (walk 0 [] (lines (drop 10 s)))
+        (refused 2 65535)) ≡ passed n → PassedList s n
     long true e = absurd (never _ _ _ e)
     long false e = names (same (take 10 s) NAMES) refl e
       where
-        names : (b : Bool) → same (take 10 s) NAMES ≡ b → cond b (walk 0 [] (lines (drop 10 s))) (refused 2 65535) ≡ passed n → PassedList s n
+        names : (b : Bool) → same (take 10 s) NAMES ≡ b →
+            cond b (walk 0 [] (lines (drop 10 s))) (refused 2 65535) ≡ passed n → PassedList s n
         names true q w = rest q w
         names false q w = absurd (never _ _ _ w)

@@ -81,11 +81,13 @@ module _ (s : List ℕ) (i : ℕ) (f : FirstRow s i) where
       let three : i + 1 + 1 + 1 ≡ i + 3 = omega arith in
       let space : getD s (i + 1) 0 ≡ LF → ⊥ = λ q. absurd (omega (arith, byte-at 1, q)) in
       let mark : getD s (i + 1 + 1) 0 ≡ LF → ⊥ =
-      λ q. no-wrong (lf-text (f .row .kind) (f .mark) (f .text) (sym (byte-at 2) ∙ ap (λ (n : ℕ). getD s n 0) (sym two) ∙ q)) (f .right) in
+      λ q. no-wrong (lf-text (f .row .kind) (f .mark) (f .text)
+      (sym (byte-at 2) ∙ ap (λ (n : ℕ). getD s n 0) (sym two) ∙ q)) (f .right) in
       subst (Scanned s i) three
       (scan-more s i (i + 1 + 1) (omega arith) mark
       (scan-more s i (i + 1) (omega arith) space
-      (scan-more s i i (omega arith) (λ q. no-wrong (lf-kind (f .row .kind) _ (first-kind ∙ q)) (f .right)) (scan-start s i))))
+      (scan-more s i i (omega arith) (λ q. no-wrong (lf-kind (f .row .kind) _ (first-kind ∙ q)) (f .right))
+      (scan-start s i))))
 
   -- where the row ends
   last : ℕ
@@ -156,7 +158,10 @@ module _ (s : List ℕ) (i : ℕ) where
 pub closed-next : (r : Row) (rs : List Row) → allClosed (r ∷ rs) ≡ true → allClosed rs ≡ true
 closed-next r rs w = and-parts (allClosed rs) _ w .0
 
-pub whole-next : (s : List ℕ) (i e : ℕ) → i + 2 ≤ e → e < length s → Whole s i → {k : ℕ} → rowsAt s i ≡ record { kind = k; text = slice (i + 2) e s } ∷ rowsAt s (e + 1)
+pub whole-next : (s : List ℕ) (i e : ℕ) → i + 2 ≤ e → e < length s → Whole s i → {k : ℕ} → rowsAt s i ≡ record {
+  kind = k;
+  text = slice (i + 2) e s;
+} ∷ rowsAt s (e + 1)
     → Whole s (e + 1)
 whole-next s i e h g w {k} r =
     let text = slice (i + 2) e s in

@@ -27,7 +27,8 @@ lines-cut : (bs l : List ℕ) (ls : Lines) → lines bs ≡ line l ls → lines 
 lines-cut [] l ls e = tail-no-line e
 lines-cut (b ∷ bs) l ls e = go (lines-cut bs) (eqb b LF) (lines bs) refl e
   where
-    go : ((k : List ℕ) (ks : Lines) → lines bs ≡ line k ks → lines (drop (length k + 1) bs) ≡ ks) → (lf : Bool) (ms : Lines)
+    go : ((k : List ℕ) (ks : Lines) → lines bs ≡ line k ks → lines (drop (length k + 1) bs) ≡ ks) →
+        (lf : Bool) (ms : Lines)
         → lines bs ≡ ms → byte lf b ms ≡ line l ls → lines (drop (length l + 1) (b ∷ bs)) ≡ ls
     go ih true ms m q =
         let none : [] ≡ l = cc in
@@ -45,7 +46,8 @@ lines-from : (r : ℕ) (bs : List ℕ) → lines (drop (bytesBefore r (lines bs)
 lines-from zero bs = refl
 lines-from (suc r) bs = go (lines-from r) (lines bs) refl
   where
-    go : ((cs : List ℕ) → lines (drop (bytesBefore r (lines cs)) cs) ≡ linesFrom r (lines cs)) → (ls : Lines) → lines bs ≡ ls
+    go : ((cs : List ℕ) → lines (drop (bytesBefore r (lines cs)) cs) ≡ linesFrom r (lines cs)) → (ls : Lines) →
+        lines bs ≡ ls
         → lines (drop (bytesBefore (suc r) ls) bs) ≡ linesFrom (suc r) ls
     go ih (tail t) e = e
     go ih (line l ls) e =
@@ -55,7 +57,8 @@ lines-from (suc r) bs = go (lines-from r) (lines bs) refl
         ∙ ih (drop (length l + 1) bs)
         ∙ ap (linesFrom r) cut
 
-before-next : (r : ℕ) (ls : Lines) (l : List ℕ) (ms : Lines) → linesFrom r ls ≡ line l ms → bytesBefore (suc r) ls ≡ bytesBefore r ls + length l + 1
+before-next : (r : ℕ) (ls : Lines) (l : List ℕ) (ms : Lines) → linesFrom r ls ≡ line l ms →
+    bytesBefore (suc r) ls ≡ bytesBefore r ls + length l + 1
 before-next zero (tail t) l ms e = tail-no-line e
 before-next zero (line k ks) l ms e =
     let same : k ≡ l = cc in

@@ -19,7 +19,10 @@ use Rattle.token_list.proofs.Rows.{rows-none, FirstRow, first-row, firs
 
 -- ## The row at an offset
 
-pub row-at : (s : List ℕ) (i e : ℕ) → RowEnd s i e → rowsAt s i ≡ record { kind = getD s i 0; text = slice (i + 2) e s } ∷ rowsAt s (e + 1)
+pub row-at : (s : List ℕ) (i e : ℕ) → RowEnd s i e → rowsAt s i ≡ record {
+  kind = getD s i 0;
+  text = slice (i + 2) e s;
+} ∷ rowsAt s (e + 1)
 row-at s i e l =
     let h = l .within in
     let k = l .text in
@@ -42,17 +45,24 @@ module _ (r : Row) (st : Streams) where
   unfolding before
   before-close e = rw e
 
-  pub before-open : r .kind ≡ 111 → before r st ≡ record { here = group (first (r .text)) (st .here) (head (st .outer)); outer = others (st .outer) }
+  pub before-open : r .kind ≡ 111 → before r st ≡ record {
+    here = group (first (r .text)) (st .here) (head (st .outer));
+    outer = others (st .outer);
+  }
   unfolding before
   before-open e = chosen _ _ _ (eq-eqb _ _ e)
 
-  pub before-leaf : (r .kind ≡ 111 → ⊥) → (r .kind ≡ 99 → ⊥) → before r st ≡ record { here = leaf r (st .here); outer = st .outer }
+  pub before-leaf : (r .kind ≡ 111 → ⊥) → (r .kind ≡ 99 → ⊥) → before r st ≡ record {
+    here = leaf r (st .here);
+    outer = st .outer;
+  }
   unfolding before
   before-leaf o c = passed-over _ _ _ (ne-eqb _ _ o) ∙ passed-over _ _ _ (ne-eqb _ _ c)
 
 -- ## Groups that are closed
 
-pub closed-open : (r : Row) (rs : List Row) → allClosed (r ∷ rs) ≡ true → r .kind ≡ 111 → follows (streams rs .outer) ≡ true
+pub closed-open : (r : Row) (rs : List Row) → allClosed (r ∷ rs) ≡ true → r .kind ≡ 111 →
+    follows (streams rs .outer) ≡ true
 closed-open r rs w e = sym (chosen _ _ _ (eq-eqb _ _ e)) ∙ and-parts (allClosed rs) _ w .1
 
 pub followed : (ts : List Trees) → follows ts ≡ true → ts ≡ head ts ∷ others ts
@@ -69,12 +79,14 @@ module _ (s : List ℕ) (c : Cursor) (inList : InList s c) where
   unfolding at
   close-here h q =
       let f = first-row s (c .at) (inList .whole) h in
-      ap (λ (t : Streams). t .here) (ap streams (f .here) ∙ before-close _ (streams (f .rest)) (first-kind s (c .at) f ∙ q))
+      ap (λ (t : Streams). t .here) (ap streams (f .here) ∙
+      before-close _ (streams (f .rest)) (first-kind s (c .at) f ∙ q))
 
   pub look-none : at s (c .at) .here ≡ end → Looked s (c .at) (record { kind = 0; mark = 0 })
   look-none e = record { kind = sym (ap firstKind e); mark = sym (ap firstMark e); none = λ q. e }
 
-  pub look-here : c .at < length s → (getD s (c .at) 0 ≡ 99 → ⊥) → Looked s (c .at) (record { kind = getD s (c .at) 0; mark = getD s (c .at + 2) 0 })
+  pub look-here : c .at < length s → (getD s (c .at) 0 ≡ 99 → ⊥) →
+      Looked s (c .at) (record { kind = getD s (c .at) 0; mark = getD s (c .at + 2) 0 })
   unfolding at
   look-here h x = go (eqb (f .row .kind) 111) refl
     where
@@ -87,16 +99,19 @@ module _ (s : List ℕ) (c : Cursor) (inList : InList s c) where
       m : first (f .row .text) ≡ getD s (c .at + 2) 0
       m = ap first (f .texts) ∙ first-mark s (c .at) f
 
-      go : (b : Bool) → eqb (f .row .kind) 111 ≡ b → Looked s (c .at) (record { kind = getD s (c .at) 0; mark = getD s (c .at + 2) 0 })
+      go : (b : Bool) → eqb (f .row .kind) 111 ≡ b → Looked s (c .at)
+          (record { kind = getD s (c .at) 0; mark = getD s (c .at + 2) 0 })
       go true e =
-          let b = ap (λ (t : Streams). t .here) (ap streams (f .here) ∙ before-open (f .row) (streams (f .rest)) (eqb-true _ _ e)) in
+          let b = ap (λ (t : Streams). t .here) (ap streams (f .here) ∙
+          before-open (f .row) (streams (f .rest)) (eqb-true _ _ e)) in
           record {
             kind = sym k ∙ eqb-true _ _ e ∙ sym (ap firstKind b);
             mark = sym m ∙ sym (ap firstMark b);
             none = λ q. absurd (some-kind s (c .at) f (k ∙ q));
           }
       go false e =
-          let b = ap (λ (t : Streams). t .here) (ap streams (f .here) ∙ before-leaf (f .row) (streams (f .rest)) (eqb-false _ _ e) (λ q. x (sym k ∙ q))) in
+          let b = ap (λ (t : Streams). t .here) (ap streams (f .here) ∙
+          before-leaf (f .row) (streams (f .rest)) (eqb-false _ _ e) (λ q. x (sym k ∙ q))) in
           record {
             kind = sym k ∙ sym (ap firstKind b);
             mark = sym m ∙ sym (ap firstMark b);
@@ -148,8 +163,10 @@ module _ (s : List ℕ) (c : Cursor) (inList : InList s c) (e : ℕ) (l : RowEnd
       record {
         token = token-at;
         after = head ts;
-        here = ap (λ (t : Streams). t .here) b ∙ ap (λ (d : ℕ). group d (at s (e + 1) .here) (head ts)) (sym first-byte);
-        outer = followed ts (closed-open theRow (rowsAt s (e + 1)) whole o) ∙ ap (λ (us : List Trees). head ts ∷ us) (sym (ap (λ (t : Streams). t .outer) b));
+        here =
+            ap (λ (t : Streams). t .here) b ∙ ap (λ (d : ℕ). group d (at s (e + 1) .here) (head ts)) (sym first-byte);
+        outer = followed ts (closed-open theRow (rowsAt s (e + 1)) whole o) ∙
+            ap (λ (us : List Trees). head ts ∷ us) (sym (ap (λ (t : Streams). t .outer) b));
       }
 
 -- ## The way past a group
@@ -226,9 +243,11 @@ module _ (s : List ℕ) (c : Cursor) (i row : ℕ) where
     step-open o =
         let w = followed (T .outer) (closed-open theStep (rowsAt s (e + 1)) step-whole o) in
         let g = b ∙ before-open theStep T o in
-        let p : pending (suc (suc k)) (stack T) ≡ size (T .here) + 1 + (size (head (T .outer)) + 1 + pending k (others (T .outer))) =
+        let p : pending (suc (suc k)) (stack T) ≡ size
+        (T .here) + 1 + (size (head (T .outer)) + 1 + pending k (others (T .outer))) =
         ap (λ (ts : List Trees). size (T .here) + 1 + pending (suc k) ts) w in
-        let q : pending (suc k) (stack (at s i)) ≡ 1 + size (T .here) + 1 + size (head (T .outer)) + 1 + pending k (others (T .outer)) =
+        let q : pending (suc k) (stack (at s i)) ≡ 1 + size (T .here) + 1 + size (head (T .outer)) + 1 + pending k
+        (others (T .outer)) =
         ap (λ (t : Streams). pending (suc k) (stack t)) g in
         let up : suc k + 1 ≡ suc (suc k) = omega arith in
         stepped-to (suc k + 1) (omega arith) (omega arith)
@@ -239,7 +258,8 @@ module _ (s : List ℕ) (c : Cursor) (i row : ℕ) where
     step-close o =
         let g = b ∙ before-close theStep T o in
         let down : suc k - 1 ≡ k = omega arith in
-        let q : pending (suc k) (stack (at s i)) ≡ 0 + 1 + pending k (stack T) = ap (λ (t : Streams). pending (suc k) (stack t)) g in
+        let q : pending (suc k) (stack (at s i)) ≡ 0 + 1 + pending k (stack T) =
+        ap (λ (t : Streams). pending (suc k) (stack t)) g in
         stepped-to (suc k - 1) (omega arith) (omega arith)
         (rw down (sym (ap (λ (t : Streams). drop (suc k) (stack t)) g) ∙ n .left))
         (rw down (omega (arith, q)))
@@ -259,7 +279,8 @@ module _ (s : List ℕ) (c : Cursor) (i row : ℕ) where
     step-any false true p q = step-close (eqb-true _ _ q)
     step-any false false p q = step-leaf (eqb-false _ _ p) (eqb-false _ _ q)
 
-  pub inside-step : (depth e : ℕ) → 0 < depth → Inside s c i row depth → RowEnd s i e → Inside s c (e + 1) (row + 1) (deeper (getD s i 0) depth)
+  pub inside-step : (depth e : ℕ) → 0 < depth → Inside s c i row depth → RowEnd s i e →
+      Inside s c (e + 1) (row + 1) (deeper (getD s i 0) depth)
   inside-step zero e h n l = absurd (omega arith)
   inside-step (suc k) e h n l = step-any k e n l (eqb (getD s i 0) 111) (eqb (getD s i 0) 99) refl refl
 
@@ -272,16 +293,27 @@ module _ (s : List ℕ) (c : Cursor) (i row : ℕ) where
   pub inside-done : (depth : ℕ) → depth ≤ 0 → Inside s c i row depth → skipped (at s (c .at) .outer) s c there
   inside-done zero h n =
       subst (λ (ts : List Trees). skipped ts s c there) (n .left)
-      (record { inList = there-in n; forth = omega (arith, n .forth, n .rows); row = omega (arith, n .rows); streams = sym (n .left) })
+      (record {
+        inList = there-in n;
+        forth = omega (arith, n .forth, n .rows);
+        row = omega (
+          arith,
+          n .rows,
+        );
+        streams = sym (n .left);
+      })
   inside-done (suc k) h n = absurd (omega arith)
 
   -- the rows end before the group is closed, so it is none
-  pub inside-none : (depth : ℕ) → 0 < depth → length s ≤ i → Inside s c i row depth → skipped (at s (c .at) .outer) s c there
+  pub inside-none : (depth : ℕ) → 0 < depth → length s ≤ i → Inside s c i row depth →
+      skipped (at s (c .at) .outer) s c there
   inside-none zero h g n = absurd (omega arith)
   inside-none (suc k) h g n =
       let e = at-none s i (rows-none s i g) in
-      let left : [] ≡ at s (c .at) .outer = sym (drop-nil k) ∙ ap (λ (t : Streams). drop (suc k) (stack t)) (sym e) ∙ n .left in
-      let p : pending (suc k) (stack (at s i)) ≡ 1 = ap (λ (t : Streams). pending (suc k) (stack t)) e ∙ none-pending k in
+      let left : [] ≡ at s (c .at) .outer = sym (drop-nil k) ∙ ap (λ (t : Streams). drop (suc k) (stack t)) (sym e) ∙
+      n .left in
+      let p : pending (suc k) (stack (at s i)) ≡ 1 = ap (λ (t : Streams). pending (suc k) (stack t)) e ∙
+      none-pending k in
       subst (λ (ts : List Trees). skipped ts s c there) left
       (record {
         inList = there-in n;
@@ -296,7 +328,8 @@ module _ (s : List ℕ) (c : Cursor) (i row : ℕ) where
       none-pending (suc k) = refl
 
 -- where a group is open
-pub skipped-open : (s : List ℕ) (c d : Cursor) → follows (at s (c .at) .outer) ≡ true → skipped (at s (c .at) .outer) s c d → Skipped s c d
+pub skipped-open : (s : List ℕ) (c d : Cursor) → follows (at s (c .at) .outer) ≡ true →
+    skipped (at s (c .at) .outer) s c d → Skipped s c d
 skipped-open s c d f k = go (at s (c .at) .outer) f k
   where
     go : (ts : List Trees) → follows ts ≡ true → skipped ts s c d → Skipped s c d

@@ -60,7 +60,8 @@ pub all-none : (p : ℕ → Bool) (s : List ℕ) (i e : ℕ) → e ≤ i → all
 all-none p s i e h = ap (all p) (slice-none s i e h)
 
 -- a part that goes on by one byte
-pub slice-more : (s : List ℕ) (from i : ℕ) → from ≤ i → i < length s → slice from (i + 1) s ≡ slice from i s ++ getD s i 0 ∷ []
+pub slice-more : (s : List ℕ) (from i : ℕ) → from ≤ i → i < length s →
+    slice from (i + 1) s ≡ slice from i s ++ getD s i 0 ∷ []
 slice-more s from i h k =
     let e : from ≤ length (take i s) = rw (length-take-le i s (omega arith)) h in
     rw (add-one, take-suc s i 0, drop-append-le from (take i s))
@@ -69,11 +70,13 @@ all-last : (p : ℕ → Bool) (xs : List ℕ) (b : ℕ) → all p xs ≡ true �
 all-last p [] b e q = and-both _ _ q refl
 all-last p (x ∷ xs) b e q = go (p x) (λ f. all-last p xs b f q) e
   where
-    go : (t : Bool) → (all p xs ≡ true → all p (xs ++ b ∷ []) ≡ true) → (t && all p xs) ≡ true → (t && all p (xs ++ b ∷ [])) ≡ true
+    go : (t : Bool) → (all p xs ≡ true → all p (xs ++ b ∷ []) ≡ true) → (t && all p xs) ≡ true →
+        (t && all p (xs ++ b ∷ [])) ≡ true
     go true k f = k f
     go false k f = f
 
-pub all-more : (p : ℕ → Bool) (s : List ℕ) (from i : ℕ) → from ≤ i → i < length s → all p (slice from i s) ≡ true → p (getD s i 0) ≡ true
+pub all-more : (p : ℕ → Bool) (s : List ℕ) (from i : ℕ) → from ≤ i → i < length s → all p (slice from i s) ≡ true →
+    p (getD s i 0) ≡ true
     → all p (slice from (i + 1) s) ≡ true
 all-more p s from i h k e q = ap (all p) (slice-more s from i h k) ∙ all-last p (slice from i s) (getD s i 0) e q
 
@@ -86,7 +89,8 @@ module _ (s n : List ℕ) (e : ℕ) (fits : e ≤ length s) where
       → same (slice i e s) (drop j n) ≡ same (slice (i + 1) e s) (drop (j + 1) n)
   same-next i j h k q = same-step i j h k ∙ and-last _ _ (eq-eqb _ _ q)
 
-  pub same-fails : (i j : ℕ) → i < e → j < length n → (getD s i 0 ≡ getD n j 0 → ⊥) → same (slice i e s) (drop j n) ≡ false
+  pub same-fails : (i j : ℕ) → i < e → j < length n → (getD s i 0 ≡ getD n j 0 → ⊥) →
+      same (slice i e s) (drop j n) ≡ false
   same-fails i j h k q = same-step i j h k ∙ and-fails _ _ (ne-eqb _ _ q)
 
   -- nothing is left of the part, and something of the name
@@ -119,7 +123,8 @@ same-none (b ∷ y) = sym (ne-eqb (suc (length y)) 0 (λ e. absurd (omega (arith
 -- the test for a raw name, where two bytes at least are there
 pub raw-parts : (s : List ℕ) (i e : ℕ) → i + 1 < e → e ≤ length s
     → rawName (slice i e s)
-    ≡ ((eqb (getD s i 0) 114 && eqb (getD s (i + 1) 0) 35) && (plainName (slice (i + 1 + 1) e s) && not (neverRaw (slice (i + 1 + 1) e s))))
+    ≡ ((eqb (getD s i 0) 114 && eqb (getD s (i + 1) 0) 35) && (plainName (slice (i + 1 + 1) e s) && not
+    (neverRaw (slice (i + 1 + 1) e s))))
 raw-parts s i e h k = rw (slice-next s i e (omega arith) k, slice-next s (i + 1) e h k)
 
 pub raw-short : (s : List ℕ) (i e : ℕ) → e ≤ i + 1 → e ≤ length s → rawName (slice i e s) ≡ false
@@ -155,7 +160,8 @@ single-only p (b ∷ c ∷ t) e = sym e
 pub first-only : (p : ℕ → Bool) (t : List ℕ) → p 0 ≡ false → p (only t) ≡ true → first t ≡ only t
 first-only p [] e q = refl
 first-only p (b ∷ []) e q = refl
-first-only p (b ∷ c ∷ t) e q = let z : _≡_ {A = Bool} false true = sym e ∙ q in absurd (subst (λ (x : Bool). T (not x)) z tt)
+first-only p (b ∷ c ∷ t) e q =
+    let z : _≡_ {A = Bool} false true = sym e ∙ q in absurd (subst (λ (x : Bool). T (not x)) z tt)
 
 module _ (s : List ℕ) (i e : ℕ) (fits : e ≤ length s) where
   pub only-one : i < e → i + 1 ≡ e → getD s i 0 ≡ only (slice i e s)
@@ -175,7 +181,8 @@ module _ (s : List ℕ) (i e : ℕ) (fits : e ≤ length s) where
       go false h = only-more (leb-false e i h) q
 
 -- the test for a literal, where a byte is there
-pub literal-parts : (s : List ℕ) (i e : ℕ) → i < e → e ≤ length s → literal (slice i e s) ≡ (literalStart (getD s i 0) && all printable (slice i e s))
+pub literal-parts : (s : List ℕ) (i e : ℕ) → i < e → e ≤ length s →
+    literal (slice i e s) ≡ (literalStart (getD s i 0) && all printable (slice i e s))
 literal-parts s i e h k =
     let n = slice-next s i e h k in
     ap literal n ∙ ap (λ (t : List ℕ). literalStart (getD s i 0) && all printable t) (sym n)

@@ -37,22 +37,26 @@ limit r gs (tail []) n h = absurd (n refl)
 limit r gs (tail (b ∷ bs)) n h = chosen _ _ _ (le-leb _ _ h)
 limit r gs (line l ls) n h = chosen _ _ _ (le-leb _ _ h)
 
-no-row : (r : ℕ) (gs : List Open) (ls : Lines) → (ls ≡ tail [] → ⊥) → r < 4096 → formed ls ≡ wrong → walk r gs ls ≡ refused 3 r
+no-row : (r : ℕ) (gs : List Open) (ls : Lines) → (ls ≡ tail [] → ⊥) → r < 4096 → formed ls ≡ wrong →
+    walk r gs ls ≡ refused 3 r
 no-row r gs (tail []) n h e = absurd (n refl)
 no-row r gs (tail (b ∷ bs)) n h e = passed-over _ _ _ (lt-leb _ _ h)
-no-row r gs (line l ls) n h e = passed-over _ _ _ (lt-leb _ _ h) ∙ ap (λ (f : Form). step r gs f (λ hs. walk (r + 1) hs ls)) e
+no-row r gs (line l ls) n h e =
+    passed-over _ _ _ (lt-leb _ _ h) ∙ ap (λ (f : Form). step r gs f (λ hs. walk (r + 1) hs ls)) e
 
 row : (r : ℕ) (gs : List Open) (f : Form) {l : List ℕ} {ls ms : Lines} → ms ≡ line l ls → formed ms ≡ f → r < 4096
     → walk r gs ms ≡ step r gs f (λ hs. walk (r + 1) hs ls)
 row r gs f {l} {ls} e q h =
-    ap (walk r gs) e ∙ passed-over _ _ _ (lt-leb _ _ h) ∙ ap (λ (g : Form). step r gs g (λ hs. walk (r + 1) hs ls)) (sym (ap formed e) ∙ q)
+    ap (walk r gs) e ∙ passed-over _ _ _ (lt-leb _ _ h) ∙
+    ap (λ (g : Form). step r gs g (λ hs. walk (r + 1) hs ls)) (sym (ap formed e) ∙ q)
 
 -- the walk came from the row at₀ to the row at, at one level
 pub record Reached (s : List ℕ) (levels at₀ row₀ at row : ℕ) : Type 0 where
   pub counted : row ≤ at
   pub within : at ≤ length s
   pub from : at₀ ≤ at
-  pub same : (gs : List Open) → length gs + levels ≡ 32 → walk row₀ gs (lines (drop at₀ s)) ≡ walk row gs (lines (drop at s))
+  pub same : (gs : List Open) → length gs + levels ≡ 32 →
+      walk row₀ gs (lines (drop at₀ s)) ≡ walk row gs (lines (drop at s))
 
 -- ## What the walk of a level answers, by the row that it reached
 
@@ -61,7 +65,11 @@ stopped n p = Stopped (record { number = n; place = p })
 
 module _ (s : List ℕ) (levels : ℕ) (c : Cursor) (at r : ℕ) (re : Reached s levels (c .at) (c .row) at r) where
   pub at-end : length s ≤ at → Walked s c levels (End r)
-  at-end h = record { right = λ gs e. re .same gs e ∙ ap (λ (t : List ℕ). walk r gs (lines t)) (drop-of-length-le s {i = at} h); past = tt }
+  at-end h = record {
+    right = λ gs e. re .same gs e ∙ ap (λ (t : List ℕ). walk r gs (lines t)) (drop-of-length-le s
+        {i = at} h);
+    past = tt;
+  }
 
   pub at-limit : at < length s → 4096 ≤ r → Walked s c levels (stopped 4 4096)
   at-limit h k = record { right = λ gs e. re .same gs e ∙ limit r gs (lines (drop at s)) (begun s at h) k; past = tt }
@@ -101,7 +109,14 @@ module _ (s : List ℕ) (levels : ℕ) (c : Cursor) (at r : ℕ) (re : Reached s
     at-close d e =
         let n : closed d ≡ wrong → ⊥ = λ q. let z : _≡_ {A = ℕ} 0 1 = cc in omega arith in
         let p = sh .past (is-row (Closed d) e n) in
-        record { right = stepped (Closed d) e n; past = (omega (arith, re .counted, p .0), omega (arith, re .from, p .0), p .1) }
+        record {
+          right = stepped (Closed d) e n;
+          past = (
+            omega (arith, re .counted, p .0),
+            omega (arith, re .from, p .0),
+            p .1,
+          );
+        }
 
     module _ (d : ℕ) (e : line .shape ≡ Opens d) where
       opened : (gs : List Open) → length gs + levels ≡ 32
@@ -117,7 +132,8 @@ module _ (s : List ℕ) (levels : ℕ) (c : Cursor) (at r : ℕ) (re : Reached s
       too-deep z = record
           { right = λ gs q. opened gs q ∙ chosen _ _ _ (le-leb 32 (length gs) (omega arith)); past = tt }
 
-      module _ (z : levels ≡ 0 → ⊥) (inner : LevelEnd) (w : Walked s (record { at = line .next; row = r + 1 }) (levels - 1) inner) where
+      module _ (z : levels ≡ 0 → ⊥) (inner : LevelEnd)
+          (w : Walked s (record { at = line .next; row = r + 1 }) (levels - 1) inner) where
         entered : (gs : List Open) → length gs + levels ≡ 32
             → walk (c .row) gs (lines (drop (c .at) s)) ≡ resumed s (record { delimiter = d; row = r } ∷ gs) inner
         entered gs q =

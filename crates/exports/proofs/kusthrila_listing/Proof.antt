@@ -35,7 +35,8 @@ returns c =
     let room = rw (n .given .1) at (listed .ensures .0 .room) in
     let long = sym (length-take-le (n .given .0 .0) (listed .last .1 .0) room) in
     record {
-      coded = coded-as (listed-told (args .list .now) (length (args .out .now))) (long ∙ ap (λ a. code (listingCase a)) answer);
+      coded = coded-as (listed-told (args .list .now) (length (args .out .now)))
+          (long ∙ ap (λ a. code (listingCase a)) answer);
       output = listed .ensures .0 .output;
     }
 
@@ -46,9 +47,11 @@ returns-2 : tie.Need-returns-2
 returns-2 c =
     let args = c .before .before .before .before .before .before .before .before .before .before .args in
     let listed = c .before .before .before .before .before .before .write-listing in
-    let answer = sym (ap (listedAs (listed .last .1 .0)) (c .before .before .r .given .1)) ∙ listed .ensures .0 .answer in
+    let answer =
+    sym (ap (listedAs (listed .last .1 .0)) (c .before .before .r .given .1)) ∙ listed .ensures .0 .answer in
     record {
-      coded = coded-as (listed-told (args .list .now) (length (args .out .now))) (c .coded .ensures ∙ ap (λ a. code (listingCase a)) answer);
+      coded = coded-as (listed-told (args .list .now) (length (args .out .now)))
+          (c .coded .ensures ∙ ap (λ a. code (listingCase a)) answer);
       output = listed .ensures .0 .output;
     }
 

@@ -37,7 +37,8 @@ coded-requires : tie.Need-coded-requires
 coded-requires c κs =
     let args = c .before .before .before .before .before .before .before .before .before .args in
     let placed = c .before .before .before .before .before .value-of .ensures in
-    value-low (args .list .now) (args .position) (args .scratch .now) _ (placed .0) (placed .1) _ (c .before .r .given .1)
+    value-low (args .list .now) (args .position) (args .scratch .now) _ (placed .0) (placed .1) _
+    (c .before .r .given .1)
 
 same-length : tie.Need-same-length
 same-length c = search needs
@@ -46,7 +47,8 @@ returns : tie.Need-returns
 returns c =
     let args = c .before .before .before .before .before .before .before .before .args in
     let placed = c .before .before .before .before .value-of .ensures in
-    value-into (args .list .now) (args .position) (args .scratch .now) _ (placed .0) (placed .1) (c .enum-told .given .1) (refl)
+    value-into (args .list .now) (args .position) (args .scratch .now) _ (placed .0) (placed .1)
+    (c .enum-told .given .1) (refl)
 
 same-length-2 : tie.Need-same-length-2
 same-length-2 c = search needs
@@ -55,7 +57,8 @@ returns-2 : tie.Need-returns-2
 returns-2 c =
     let args = c .before .before .before .before .before .before .before .before .before .args in
     let placed = c .before .before .before .before .before .value-of .ensures in
-    value-into (args .list .now) (args .position) (args .scratch .now) _ (placed .0) (placed .1) (c .before .n .given .1) (refl)
+    value-into (args .list .now) (args .position) (args .scratch .now) _ (placed .0) (placed .1)
+    (c .before .n .given .1) (refl)
 
 same-length-3 : tie.Need-same-length-3
 same-length-3 c = search needs
@@ -64,7 +67,8 @@ returns-3 : tie.Need-returns-3
 returns-3 c =
     let args = c .before .before .before .before .before .before .before .before .before .args in
     let placed = c .before .before .before .before .before .value-of .ensures in
-    value-into (args .list .now) (args .position) (args .scratch .now) _ (placed .0) (placed .1) (c .before .start .given .1) (refl)
+    value-into (args .list .now) (args .position) (args .scratch .now) _ (placed .0) (placed .1)
+    (c .before .start .given .1) (refl)
 
 same-length-4 : tie.Need-same-length-4
 same-length-4 c = search needs
@@ -73,7 +77,8 @@ returns-4 : tie.Need-returns-4
 returns-4 c =
     let args = c .before .before .before .before .before .before .before .before .before .before .args in
     let placed = c .before .before .before .before .before .before .value-of .ensures in
-    value-into (args .list .now) (args .position) (args .scratch .now) _ (placed .0) (placed .1) (c .before .before .r .given .1) (c .coded .ensures)
+    value-into (args .list .now) (args .position) (args .scratch .now) _ (placed .0) (placed .1)
+    (c .before .before .r .given .1) (c .coded .ensures)
 
 pub kusthrila-value-spec : {M : Type 1} → statement M
 kusthrila-value-spec =

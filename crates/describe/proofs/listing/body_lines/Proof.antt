@@ -87,8 +87,13 @@ returns-3 c =
     let t = c .before .before .before .before .before .before .before .before .before .before .before .t in
     let past = c .before .before .before .before .before .before .before .before .before .past in
     let enum-told3 = c .before .before .before .before .before .before .before .enum-told3 in
-    let struct-lines = c .before .before .before .before .struct-lines in
-    (λ b k. let g = struct-group (subst (λ kd. contract.InsideAt (reading.bodyOf (contract.kindOf kd)) (args .s .now) (args .d .body) b) (enum-told3 .given .1) k) _ _ (meeting.peeked _ _ (peek .ensures) (t .given .1)) (past .ensures) in put-as (ap bodyLines (g .1)) (struct-lines .ensures .0 (g .0) (g .2)), omega (arith, struct-lines .ensures .1))
+    let struct-lines = c .before .before .before .before .struct-lines in (
+      λ b k. let g = struct-group (subst (λ kd. contract.InsideAt (reading.bodyOf (contract.kindOf kd)) (args .s .now)
+          (args .d .body) b) (enum-told3 .given .1) k) _ _ (meeting.peeked _ _ (peek .ensures) (t .given .1))
+          (past .ensures) in put-as (ap bodyLines (g .1))
+          (struct-lines .ensures .0 (g .0) (g .2)),
+      omega (arith, struct-lines .ensures .1),
+    )
 
 same-length-3 : tie.Need-same-length-3
 same-length-3 c = search needs
@@ -103,8 +108,13 @@ returns-4 c =
     let t = c .before .before .before .before .before .before .before .before .before .before .before .t in
     let past = c .before .before .before .before .before .before .before .before .before .past in
     let enum-told4 = c .before .before .before .before .before .before .before .enum-told4 in
-    let variant-lines = c .before .before .before .before .variant-lines in
-    (λ b k. let g = enum-group (subst (λ kd. contract.InsideAt (reading.bodyOf (contract.kindOf kd)) (args .s .now) (args .d .body) b) (enum-told4 .given .1) k) _ _ (meeting.peeked _ _ (peek .ensures) (t .given .1)) (past .ensures) in put-as (ap bodyLines (g .1)) (variant-lines .ensures .0 (g .0) (g .2)), omega (arith, variant-lines .ensures .1))
+    let variant-lines = c .before .before .before .before .variant-lines in (
+      λ b k. let g = enum-group (subst (λ kd. contract.InsideAt (reading.bodyOf (contract.kindOf kd)) (args .s .now)
+          (args .d .body) b) (enum-told4 .given .1) k) _ _ (meeting.peeked _ _ (peek .ensures) (t .given .1))
+          (past .ensures) in put-as (ap bodyLines (g .1))
+          (variant-lines .ensures .0 (g .0) (g .2)),
+      omega (arith, variant-lines .ensures .1),
+    )
 
 pub body-lines-spec : {M : Type 1} → statement M
 body-lines-spec =

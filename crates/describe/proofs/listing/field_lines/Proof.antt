@@ -54,8 +54,11 @@ returns-2 : tie.Need-returns-2
 returns-2 c =
     let args = c .before .before .before .before .before .before .before .before .before .before .before .before .before .args in
     let fields = c .before .before .before .before .before .before .before .before .fields in
-    let named-lines = c .before .before .before .before .named-lines in
-    (λ f k. let a = subst (λ v. contract.FieldsOf (args .s .now) v f) (fields .given .1) k in put-as (ap fieldLines (a .1)) (named-lines .ensures .0 (a .0) (a .2)), named-lines .ensures .1)
+    let named-lines = c .before .before .before .before .named-lines in (
+      λ f k. let a = subst (λ v. contract.FieldsOf (args .s .now) v f) (fields .given .1) k in put-as (ap fieldLines
+          (a .1)) (named-lines .ensures .0 (a .0) (a .2)),
+      named-lines .ensures .1,
+    )
 
 same-length-3 : tie.Need-same-length-3
 same-length-3 c = search needs
@@ -67,8 +70,11 @@ returns-3 : tie.Need-returns-3
 returns-3 c =
     let args = c .before .before .before .before .before .before .before .before .before .before .before .before .before .args in
     let fields2 = c .before .before .before .before .before .before .before .before .fields2 in
-    let tuple-lines = c .before .before .before .before .tuple-lines in
-    (λ f k. let a = subst (λ v. contract.FieldsOf (args .s .now) v f) (fields2 .given .1) k in put-as (ap fieldLines (a .1)) (tuple-lines .ensures .0 (a .0) (a .2)), tuple-lines .ensures .1)
+    let tuple-lines = c .before .before .before .before .tuple-lines in (
+      λ f k. let a = subst (λ v. contract.FieldsOf (args .s .now) v f) (fields2 .given .1) k in put-as (ap fieldLines
+          (a .1)) (tuple-lines .ensures .0 (a .0) (a .2)),
+      tuple-lines .ensures .1,
+    )
 
 pub field-lines-spec : {M : Type 1} → statement M
 field-lines-spec =

@@ -30,7 +30,8 @@ same-length-3 c = search needs
 
 returns-2 : tie.Need-returns-2
 returns-2 c =
-    let put-listing = c .before .before .before .before .before .before .before .before .before .before .before .put-listing in
+    let put-listing =
+    c .before .before .before .before .before .before .before .before .before .before .before .put-listing in
     let put-listing2 = c .before .before .before .before .put-listing2 in
     λ x k.
     fits (listing x) (put-listing .result) (omega (arith, put-listing .ensures x k .next)) (omega arith)

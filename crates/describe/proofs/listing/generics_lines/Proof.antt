@@ -29,8 +29,13 @@ is-punct-requires c κs = search needs
 returns : tie.Need-returns
 returns c =
     let peek = c .before .before .before .before .before .peek in
-    let t = c .before .before .before .t in
-    (λ ps k. put-as (ap (λ (g : Generics). numbered parameterLine 0 (parametersOf g)) (generics-other k _ (meeting.peeked _ _ (peek .ensures) (t .given .1)) (meeting.punct-of _ _ _ _ ((meeting.peeked _ _ (peek .ensures) (t .given .1)) .token) ∙ sym ((c .before .is-punct) .ensures) ∙ not-true _ ((c .if1) .taken)))) (nothing _ _), omega arith)
+    let t = c .before .before .before .t in (
+      λ ps k. put-as (ap (λ (g : Generics). numbered parameterLine 0 (parametersOf g))
+          (generics-other k _ (meeting.peeked _ _ (peek .ensures) (t .given .1))
+          (meeting.punct-of _ _ _ _ ((meeting.peeked _ _ (peek .ensures) (t .given .1)) .token) ∙
+          sym ((c .before .is-punct) .ensures) ∙ not-true _ ((c .if1) .taken)))) (nothing _ _),
+      omega arith,
+    )
 
 past-requires : tie.Need-past-requires
 past-requires c κs =
@@ -49,10 +54,20 @@ parameter-lines-requires c κs =
     )
 
 returns-2 : tie.Need-returns-2
-returns-2 c = (λ ps k. put-as (ap (λ (g : Generics). numbered parameterLine 0 (parametersOf g)) (generics-end k (meeting.peeked _ _ ((c .before .before .peek) .ensures) ((c .enum-told) .given .1)))) (nothing _ _), omega arith)
+returns-2 c = (
+  λ ps k. put-as (ap (λ (g : Generics). numbered parameterLine 0 (parametersOf g))
+      (generics-end k (meeting.peeked _ _ ((c .before .before .peek) .ensures) ((c .enum-told) .given .1))))
+      (nothing _ _),
+  omega arith,
+)
 
 returns-3 : tie.Need-returns-3
-returns-3 c = (λ ps k. put-as (ap (λ (g : Generics). numbered parameterLine 0 (parametersOf g)) (generics-group k _ (meeting.peeked _ _ ((c .before .before .peek) .ensures) ((c .enum-told2) .given .1)))) (nothing _ _), omega arith)
+returns-3 c = (
+  λ ps k. put-as (ap (λ (g : Generics). numbered parameterLine 0 (parametersOf g))
+      (generics-group k _ (meeting.peeked _ _ ((c .before .before .peek) .ensures) ((c .enum-told2) .given .1))))
+      (nothing _ _),
+  omega arith,
+)
 
 same-length : tie.Need-same-length
 same-length c = search needs
@@ -70,7 +85,9 @@ returns-4 c =
     let parameter-lines = c .before .before .before .before .parameter-lines in (
       λ ps k.
           parameter-lines .ensures .0 (parametersOf ps)
-          (generics-angle k _ _ (meeting.peeked _ _ (peek .ensures) (t .given .1)) (past .ensures) (meeting.punct-of _ _ _ _ ((meeting.peeked _ _ (peek .ensures) (t .given .1)) .token) ∙ sym (is-punct .ensures) ∙ not-false _ (if1 .left))),
+          (generics-angle k _ _ (meeting.peeked _ _ (peek .ensures) (t .given .1)) (past .ensures)
+          (meeting.punct-of _ _ _ _ ((meeting.peeked _ _ (peek .ensures) (t .given .1)) .token) ∙
+          sym (is-punct .ensures) ∙ not-false _ (if1 .left))),
       parameter-lines .ensures .1,
     )
 

@@ -46,7 +46,8 @@ put-named-requires c κs =
     let loop = c .before .before .before .before .before .before .before .before .before .loop in
     let named-field = c .before .before .before .before .before .before .before .named-field in (
       meets-tells
-          (meeting.say (contract.fieldShown (args .s .now) (loop .c)) contract.fieldSaid ((c .before .before .before .f) .given .1) (named-field .ensures)) .4 .2 .within,
+          (meeting.say (contract.fieldShown (args .s .now) (loop .c)) contract.fieldSaid
+          ((c .before .before .before .f) .given .1) (named-field .ensures)) .4 .2 .within,
       (pre .1 .0, omega (arith, loop .inv .1, loop .inv .0 .few, loop .inv .0 .inList .within, pre .1 .0, pre .1 .1)),
     )
 
@@ -59,20 +60,26 @@ loop-less : tie.Need-loop-less Inv-loop μ-loop
 loop-less c =
     let args = c .before .before .before .before .before .before .before .before .before .before .before .before .before .before .before .before .before .args in
     let loop = c .before .before .before .before .before .before .before .before .before .before .before .before .before .loop in
-    let named-field = c .before .before .before .before .before .before .before .before .before .before .before .named-field in
+    let named-field =
+    c .before .before .before .before .before .before .before .before .before .before .before .named-field in
     let f = c .before .before .before .before .before .before .before .f in
-    let n = forward reading.namedField conserved.namedField-round (meeting.say (contract.fieldShown (args .s .now) (loop .c)) contract.fieldSaid (f .given .1) (named-field .ensures)) (λ v h. (h .0, h .1, h .2)) in omega (arith, n .0, n .1 .within)
+    let n = forward reading.namedField conserved.namedField-round
+    (meeting.say (contract.fieldShown (args .s .now) (loop .c)) contract.fieldSaid (f .given .1)
+    (named-field .ensures)) (λ v h. (h .0, h .1, h .2)) in omega (arith, n .0, n .1 .within)
 
 loop-again : tie.Need-loop-again Inv-loop μ-loop
 loop-again c =
     let args = c .before .before .before .before .before .before .before .before .before .before .before .before .before .before .before .before .before .args in
     let loop = c .before .before .before .before .before .before .before .before .before .before .before .before .before .loop in
-    let named-field = c .before .before .before .before .before .before .before .before .before .before .before .named-field in
+    let named-field =
+    c .before .before .before .before .before .before .before .before .before .before .before .named-field in
     let f = c .before .before .before .before .before .before .before .f in
     let put-named = c .before .before .before .put-named in (
       lined-more namedLine reading.namedField conserved.namedField-round (loop .inv .0)
-          (meeting.say (contract.fieldShown (args .s .now) (loop .c)) contract.fieldSaid (f .given .1) (named-field .ensures))
-          (λ v h. (h .0, h .1, h .2)) (λ a t. put-as (ap (λ n. line FIELD n (decimal (loop .count))) (t .bytes)) (put-named .ensures .0)),
+          (meeting.say (contract.fieldShown (args .s .now) (loop .c)) contract.fieldSaid (f .given .1)
+          (named-field .ensures))
+          (λ v h. (h .0, h .1, h .2)) (λ a t. put-as (ap (λ n. line FIELD n (decimal (loop .count))) (t .bytes))
+          (put-named .ensures .0)),
       omega (arith, put-named .ensures .1, loop .inv .1),
       named-field .kept .1 .1 .0 ∙ loop .inv .2,
       put-named .kept .1 .1 .0 ∙ loop .inv .3,

@@ -16,7 +16,9 @@ use Rattle.describe.proofs.listing.parameter_lines.Statement.{statement
 use Rattle.describe.proofs.listing.parameter_lines.Tie as tie
 
 abbrev Inv-loop : tie.InvT-loop
-Inv-loop s roles₀ angle out₀ start c₀ at₀ roles out c at = (n : ℕ) × Lined parameterLine (reading.parameter angle) s c₀ c out₀ out start at n × (at ≤ start + 65566 * n) × (length roles ≡ length roles₀) × (length out ≡ length out₀)
+Inv-loop s roles₀ angle out₀ start c₀ at₀ roles out c at = (n : ℕ) ×
+    Lined parameterLine (reading.parameter angle) s c₀ c out₀ out start at n × (at ≤ start + 65566 * n) ×
+    (length roles ≡ length roles₀) × (length out ≡ length out₀)
 
 abbrev μ-loop : tie.MeasureT-loop
 μ-loop s roles₀ angle out₀ start c₀ at₀ roles out c at = length s - c .at
@@ -40,34 +42,49 @@ enum-known-p c = search needs
 
 put-parameter-requires : tie.Need-put-parameter-requires Inv-loop μ-loop
 put-parameter-requires c κs =
-    let args = c .before .before .before .before .before .before .before .before .before .before .before .before .args in
+    let args =
+    c .before .before .before .before .before .before .before .before .before .before .before .before .args in
     let pre = c .before .before .before .before .before .before .before .before .before .before .before .before .pre in
     let loop = c .before .before .before .before .before .before .before .before .loop in
     let parameter = c .before .before .before .before .before .before .parameter in
     let p = c .before .before .p in (
-      (meets-tells (meeting.say (contract.parameterShown (args .s .now) (parameterNameRow (contract.point (args .s .now) (loop .c)))) contract.parameterSaid (p .given .1) (parameter .ensures)) .4 .0, meets-tells (meeting.say (contract.parameterShown (args .s .now) (parameterNameRow (contract.point (args .s .now) (loop .c)))) contract.parameterSaid (p .given .1) (parameter .ensures)) .4 .2),
+      (
+        meets-tells (meeting.say (contract.parameterShown (args .s .now)
+            (parameterNameRow (contract.point (args .s .now) (loop .c)))) contract.parameterSaid (p .given .1)
+            (parameter .ensures)) .4 .0,
+        meets-tells (meeting.say
+            (contract.parameterShown (args .s .now) (parameterNameRow (contract.point (args .s .now) (loop .c))))
+            contract.parameterSaid (p .given .1) (parameter .ensures)) .4 .2,
+      ),
       (pre .1 .0, omega (arith, loop .inv .2, loop .inv .1 .few, loop .inv .1 .inList .within, pre .1 .0, pre .1 .1)),
     )
 
 loop-less : tie.Need-loop-less Inv-loop μ-loop
 loop-less c =
     let args = c .before .before .before .before .before .before .before .before .before .before .before .before .before .before .before .before .args in
-    let loop = c .before .before .before .before .before .before .before .before .before .before .before .before .loop in
+    let loop =
+    c .before .before .before .before .before .before .before .before .before .before .before .before .loop in
     let parameter = c .before .before .before .before .before .before .before .before .before .before .parameter in
     let p = c .before .before .before .before .before .before .p in
-    let n = forward (reading.parameter (args .angle)) (conserved.parameter-round (args .angle)) (meeting.say (contract.parameterShown (args .s .now) (parameterNameRow (contract.point (args .s .now) (loop .c)))) contract.parameterSaid (p .given .1) (parameter .ensures)) (λ v h. (h .0, h .1, h .2)) in omega (arith, n .0, n .1 .within)
+    let n = forward (reading.parameter (args .angle)) (conserved.parameter-round (args .angle))
+    (meeting.say (contract.parameterShown (args .s .now)
+    (parameterNameRow (contract.point (args .s .now) (loop .c)))) contract.parameterSaid (p .given .1)
+    (parameter .ensures)) (λ v h. (h .0, h .1, h .2)) in omega (arith, n .0, n .1 .within)
 
 loop-again : tie.Need-loop-again Inv-loop μ-loop
 loop-again c =
     let args = c .before .before .before .before .before .before .before .before .before .before .before .before .before .before .before .before .args in
-    let loop = c .before .before .before .before .before .before .before .before .before .before .before .before .loop in
+    let loop =
+    c .before .before .before .before .before .before .before .before .before .before .before .before .loop in
     let parameter = c .before .before .before .before .before .before .before .before .before .before .parameter in
     let p = c .before .before .before .before .before .before .p in
     let put-parameter = c .before .before .before .put-parameter in (
       loop .inv .0 + 1,
       lined-more parameterLine (reading.parameter (args .angle))
           (conserved.parameter-round (args .angle)) (loop .inv .1)
-          (meeting.say (contract.parameterShown (args .s .now) (parameterNameRow (contract.point (args .s .now) (loop .c)))) contract.parameterSaid (p .given .1) (parameter .ensures))
+          (meeting.say (contract.parameterShown (args .s .now)
+          (parameterNameRow (contract.point (args .s .now) (loop .c)))) contract.parameterSaid (p .given .1)
+          (parameter .ensures))
           (λ v h. (h .0, h .1, h .2)) (λ a t. put-parameter .ensures .0 a t),
       omega (arith, put-parameter .ensures .1, loop .inv .2),
       parameter .kept .1 .1 .0 ∙ loop .inv .3,
@@ -97,7 +114,9 @@ returns c =
       λ xs k.
           lined-done parameterLine (reading.parameter (args .angle)) (conserved.parameter-round (args .angle))
           (loop .inv .1)
-          (meeting.say (contract.parameterShown (args .s .now) (parameterNameRow (contract.point (args .s .now) (loop .c)))) contract.parameterSaid ((c .enum-told) .given .1)
+          (meeting.say (contract.parameterShown (args .s .now)
+          (parameterNameRow (contract.point (args .s .now) (loop .c)))) contract.parameterSaid
+          ((c .enum-told) .given .1)
           (parameter .ensures))
           (λ v h. h) xs k,
       omega (arith, loop .inv .2, loop .inv .1 .few, loop .inv .1 .inList .within, pre .1 .0),
@@ -126,7 +145,9 @@ returns-2 c =
       λ xs k.
           lined-refused parameterLine (reading.parameter (args .angle)) (conserved.parameter-round (args .angle))
           (loop .inv .1)
-          (meeting.say (contract.parameterShown (args .s .now) (parameterNameRow (contract.point (args .s .now) (loop .c)))) contract.parameterSaid ((c .enum-told2) .given .1)
+          (meeting.say (contract.parameterShown (args .s .now)
+          (parameterNameRow (contract.point (args .s .now) (loop .c)))) contract.parameterSaid
+          ((c .enum-told2) .given .1)
           (parameter .ensures))
           xs k,
       omega (arith, loop .inv .2, loop .inv .1 .few, loop .inv .1 .inList .within, pre .1 .0),

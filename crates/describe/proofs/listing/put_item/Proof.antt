@@ -29,12 +29,16 @@ same-length c = search needs
 returns : tie.Need-returns
 returns c =
     let args = c .before .before .before .before .before .before .before .before .before .before .before .before .before .before .before .before .args in
-    let put-bytes = c .before .before .before .before .before .before .before .before .before .before .before .put-bytes in
+    let put-bytes =
+    c .before .before .before .before .before .before .before .before .before .before .before .put-bytes in
     let put-kind = c .before .before .before .before .before .before .put-kind in
     let put-position = c .before .before .put-position in (
       λ x k.
           joined (put-bytes .ensures)
-          (put-as (λ i. line (kindText (k .kind i)) (k .name .bytes i) (decimal (sym (k .count) i))) (put-line (kindText (contract.kindOf (args .d .kind))) (slice (args .d .name .start) (args .d .name .end) (args .s .now)) (decimal (args .d .count)) (put-kind .ensures .0) (put-position .ensures .0))),
+          (put-as (λ i. line (kindText (k .kind i)) (k .name .bytes i) (decimal (sym (k .count) i)))
+          (put-line (kindText (contract.kindOf (args .d .kind)))
+          (slice (args .d .name .start) (args .d .name .end) (args .s .now)) (decimal (args .d .count))
+          (put-kind .ensures .0) (put-position .ensures .0))),
       omega (arith, put-bytes .ensures .next, put-kind .ensures .1, put-position .ensures .1),
     )
 

@@ -16,7 +16,8 @@ generics-lines-requires c κs =
 body-lines-requires : tie.Need-body-lines-requires
 body-lines-requires c κs =
     let pre = c .before .before .before .before .before .before .before .before .before .before .before .before .before .before .before .before .before .pre in
-    let put-item = c .before .before .before .before .before .before .before .before .before .before .before .before .put-item in
+    let put-item =
+    c .before .before .before .before .before .before .before .before .before .before .before .before .put-item in
     let generics-lines = c .before .before .before .before .before .before .generics-lines in
     (pre .0 .1 .body .inList, (pre .1, omega (arith, put-item .ensures .1, generics-lines .ensures .1)))
 
@@ -29,7 +30,8 @@ same-length-2 c = search needs
 returns : tie.Need-returns
 returns c =
     let put-item = c .before .before .before .before .before .before .before .before .before .before .before .before .before .before .before .before .before .put-item in
-    let generics-lines = c .before .before .before .before .before .before .before .before .before .before .before .generics-lines in
+    let generics-lines =
+    c .before .before .before .before .before .before .before .before .before .before .before .generics-lines in
     let body-lines = c .before .before .before .before .body-lines in
     λ x k.
     put-listing x (put-item .ensures .0 x k) (generics-lines .ensures .0 (x .generics) (k .generics))

@@ -31,8 +31,10 @@ returns c =
     let put-head = c .before .before .before .before .before .before .before .put-head in
     let put-bytes = c .before .before .put-bytes in (
       λ a k.
-          put-as (ap (λ n. line PARAM n DASH) (quoted a (sym (k .kind) ∙ if1 .taken) ∙ ap (λ n. 39 ∷ n) (k .text .bytes)))
-          (put-line PARAM (39 ∷ slice (args .p .name .start) (args .p .name .end) (args .s .now)) DASH (put-head .ensures .0) (put-bytes .ensures)),
+          put-as (ap (λ n. line PARAM n DASH) (quoted a (sym (k .kind) ∙ if1 .taken) ∙
+          ap (λ n. 39 ∷ n) (k .text .bytes)))
+          (put-line PARAM (39 ∷ slice (args .p .name .start) (args .p .name .end) (args .s .now)) DASH
+          (put-head .ensures .0) (put-bytes .ensures)),
       omega (arith, put-head .ensures .1, put-bytes .ensures .next),
     )
 
@@ -59,7 +61,8 @@ returns-2 c =
     let put-bytes2 = c .before .before .put-bytes2 in (
       λ a k.
           put-as (ap (λ n. line PARAM n DASH) (unquoted a (sym (k .kind) ∙ if1 .left) ∙ k .text .bytes))
-          (put-line PARAM (slice (args .p .name .start) (args .p .name .end) (args .s .now)) DASH (put-head2 .ensures .0) (put-bytes2 .ensures)),
+          (put-line PARAM (slice (args .p .name .start) (args .p .name .end) (args .s .now)) DASH
+          (put-head2 .ensures .0) (put-bytes2 .ensures)),
       omega (arith, put-head2 .ensures .1, put-bytes2 .ensures .next),
     )
 

@@ -26,7 +26,11 @@ returns : tie.Need-returns
 returns c =
     let args = c .before .before .before .before .before .before .before .before .args in
     let pre = c .before .before .before .before .before .before .before .before .pre in
-    let p = put-as (drop-of-take (args .t .start) (args .t .end) (args .s .now)) ((c .before .before .put-bytes) .ensures) in (p, omega (arith, p .next, length-slice (args .t .start) (args .t .end) (args .s .now) (pre .0), pre .0, pre .1 .0))
+    let p = put-as (drop-of-take (args .t .start) (args .t .end) (args .s .now))
+    ((c .before .before .put-bytes) .ensures) in (
+      p,
+      omega (arith, p .next, length-slice (args .t .start) (args .t .end) (args .s .now) (pre .0), pre .0, pre .1 .0),
+    )
 
 returns-2 : tie.Need-returns-2
 returns-2 c =

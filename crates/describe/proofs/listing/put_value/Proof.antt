@@ -36,7 +36,8 @@ worth-requires : tie.Need-worth-requires
 worth-requires c κs =
     let args = c .before .before .before .before .before .args in
     let pre = c .before .before .before .before .before .pre in
-    let h = subst (λ v. contract.ValueOf (args .s .now) v (pre .0 .0)) ((c .before .v2) .given .1) (pre .0 .1) in (h .1 .within, ap negatable (sym (h .1 .bytes)) ∙ h .2)
+    let h = subst (λ v. contract.ValueOf (args .s .now) v (pre .0 .0)) ((c .before .v2) .given .1)
+    (pre .0 .1) in (h .1 .within, ap negatable (sym (h .1 .bytes)) ∙ h .2)
 
 put-negative-requires : tie.Need-put-negative-requires
 put-negative-requires c κs =
@@ -64,8 +65,11 @@ returns-2 : tie.Need-returns-2
 returns-2 c =
     let args = c .before .before .before .before .before .before .before .before .before .args in
     let v-2 = c .before .before .before .before .before .v in
-    let put-token = c .before .before .put-token in
-    (λ w k. let a = subst (λ v. contract.ValueOf (args .s .now) v w) (v-2 .given .1) k in put-as (ap (number (args .n)) (a .2) ∙ a .1 .bytes) (put-token .ensures .0), put-token .ensures .1)
+    let put-token = c .before .before .put-token in (
+      λ w k. let a = subst (λ v. contract.ValueOf (args .s .now) v w) (v-2 .given .1) k in put-as (ap (number (args .n))
+          (a .2) ∙ a .1 .bytes) (put-token .ensures .0),
+      put-token .ensures .1,
+    )
 
 same-length-3 : tie.Need-same-length-3
 same-length-3 c = search needs
@@ -75,8 +79,15 @@ returns-3 c =
     let args = c .before .before .before .before .before .before .before .before .before .before .args in
     let v2 = c .before .before .before .before .before .before .v2 in
     let worth-2 = c .before .before .before .before .worth in
-    let put-negative = c .before .before .put-negative in
-    (λ w k. let a = subst (λ v. contract.ValueOf (args .s .now) v w) (v2 .given .1) k in put-as (ap (number (args .n)) (a .3) ∙ ap (λ (x : List ℕ). negativeText (worth x)) (a .1 .bytes) ∙ ap negativeText (sym (worth-2 .ensures .0))) (put-negative .ensures .0), omega (arith, put-negative .ensures .1))
+    let put-negative = c .before .before .put-negative in (
+      λ w k. let a = subst (λ v. contract.ValueOf (args .s .now) v w) (v2 .given .1) k in put-as (ap (number (args .n))
+          (a .3) ∙ ap (λ (x : List ℕ). negativeText (worth x)) (a .1 .bytes) ∙
+          ap negativeText (sym (worth-2 .ensures .0))) (put-negative .ensures .0),
+      omega (
+        arith,
+        put-negative .ensures .1,
+      ),
+    )
 
 pub put-value-spec : {M : Type 1} → statement M
 put-value-spec =

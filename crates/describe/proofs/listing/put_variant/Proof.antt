@@ -41,7 +41,9 @@ returns c =
     let put-byte2 = c .before .before .put-byte2 in (
       λ a k.
           put-as (ap (λ n. line VARIANT n (number (args .n) (a .value))) (k .name .bytes))
-          (put-line VARIANT (slice (args .v .name .start) (args .v .name .end) (args .s .now)) (number (args .n) (a .value)) (put-head .ensures .0) (joined (put-byte .ensures) (joined (put-value .ensures .0 (a .value) (k .value)) (put-byte2 .ensures)))),
+          (put-line VARIANT (slice (args .v .name .start) (args .v .name .end) (args .s .now))
+          (number (args .n) (a .value)) (put-head .ensures .0)
+          (joined (put-byte .ensures) (joined (put-value .ensures .0 (a .value) (k .value)) (put-byte2 .ensures)))),
       omega (arith, put-head .ensures .1, put-byte .ensures .next, put-value .ensures .1, put-byte2 .ensures .next),
     )
 

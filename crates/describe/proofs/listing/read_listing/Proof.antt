@@ -20,10 +20,12 @@ enum-known-d c = search needs
 
 fit-listing-requires : tie.Need-fit-listing-requires
 fit-listing-requires c κs =
-    let args = c .before .before .before .before .before .before .before .before .before .before .before .before .args in
+    let args =
+    c .before .before .before .before .before .before .before .before .before .before .before .before .args in
     let pre = c .before .before .before .before .before .before .before .before .before .before .before .before .pre in
     let item = c .before .before .before .before .before .before .before .item in
-    let m = meets-tells (meeting.say (itemShown (args .s .now) first) itemSaid ((c .before .before .before .d) .given .1) (item .ensures)) in
+    let m = meets-tells (meeting.say (itemShown (args .s .now) first) itemSaid
+    ((c .before .before .before .d) .given .1) (item .ensures)) in
     ((m .0, m .4 .0), pre .1)
 
 same-length : tie.Need-same-length
@@ -33,7 +35,9 @@ returns : tie.Need-returns
 returns c =
     let args = c .before .before .before .before .before .before .before .before .before .before .args in
     let item = c .before .before .before .before .before .item in
-    let e = meets-refusal (meeting.say (itemShown (args .s .now) first) itemSaid ((c .before .r) .given .1) (item .ensures)) in listed-refused (sym (ap (λ t. fitted (length (args .out .now)) (itemAnswer t)) e)) (sym (ap (λ t. output (args .out .now) (fitted (length (args .out .now)) (itemAnswer t))) e))
+    let e = meets-refusal (meeting.say (itemShown (args .s .now) first) itemSaid ((c .before .r) .given .1)
+    (item .ensures)) in listed-refused (sym (ap (λ t. fitted (length (args .out .now)) (itemAnswer t)) e))
+    (sym (ap (λ t. output (args .out .now) (fitted (length (args .out .now)) (itemAnswer t))) e))
 
 same-length-2 : tie.Need-same-length-2
 same-length-2 c = search needs
@@ -44,10 +48,13 @@ same-length-3 c = search needs
 returns-2 : tie.Need-returns-2
 returns-2 c =
     let args = c .before .before .before .before .before .before .before .before .before .before .before .before .before .before .before .before .before .args in
-    let item = c .before .before .before .before .before .before .before .before .before .before .before .before .item in
+    let item =
+    c .before .before .before .before .before .before .before .before .before .before .before .before .item in
     let d = c .before .before .before .before .before .before .before .before .d in
     let fit-listing = c .before .before .before .before .fit-listing in
-    let m = meets-tells (meeting.say (itemShown (args .s .now) first) itemSaid (d .given .1) (item .ensures)) in listed-as (ap (λ t. fitted (length (args .out .now)) (itemAnswer t)) (m .3)) (fit-listing .ensures (m .0) (m .4 .0))
+    let m = meets-tells (meeting.say (itemShown (args .s .now) first) itemSaid (d .given .1)
+    (item .ensures)) in listed-as (ap (λ t. fitted (length (args .out .now)) (itemAnswer t)) (m .3))
+    (fit-listing .ensures (m .0) (m .4 .0))
 
 pub read-listing-spec : {M : Type 1} → statement M
 read-listing-spec =

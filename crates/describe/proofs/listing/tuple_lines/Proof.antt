@@ -51,7 +51,9 @@ loop-less : tie.Need-loop-less Inv-loop μ-loop
 loop-less c =
     let tuple-field = c .before .before .before .before .before .before .before .before .before .tuple-field in
     let next = c .before .before .before .before .before .next in
-    let n = forward reading.tupleField conserved.tupleField-round (meeting.say contract.typeShown contract.typeSaid (next .given .1) (tuple-field .ensures)) (λ v h. (h .0, h .1, tt {0})) in omega (arith, n .0, n .1 .within)
+    let n = forward reading.tupleField conserved.tupleField-round
+    (meeting.say contract.typeShown contract.typeSaid (next .given .1) (tuple-field .ensures))
+    (λ v h. (h .0, h .1, tt {0})) in omega (arith, n .0, n .1 .within)
 
 loop-again : tie.Need-loop-again Inv-loop μ-loop
 loop-again c =
@@ -89,7 +91,8 @@ returns c =
     let tuple-field = c .before .before .before .before .tuple-field in (
       λ xs k.
           lined-done tupleLine reading.tupleField conserved.tupleField-round (loop .inv .0)
-          (meeting.say contract.typeShown contract.typeSaid ((c .enum-told) .given .1) (tuple-field .ensures)) (λ v h. h)
+          (meeting.say contract.typeShown contract.typeSaid ((c .enum-told) .given .1) (tuple-field .ensures))
+          (λ v h. h)
           xs k,
       omega (arith, loop .inv .1, loop .inv .0 .few, loop .inv .0 .inList .within, pre .1 .0),
     )

@@ -40,12 +40,18 @@ enum-known-v c = search needs
 
 put-variant-requires : tie.Need-put-variant-requires Inv-loop μ-loop
 put-variant-requires c κs =
-    let args = c .before .before .before .before .before .before .before .before .before .before .before .before .args in
+    let args =
+    c .before .before .before .before .before .before .before .before .before .before .before .before .args in
     let pre = c .before .before .before .before .before .before .before .before .before .before .before .before .pre in
     let loop = c .before .before .before .before .before .before .before .before .loop in
     let variant = c .before .before .before .before .before .before .variant in
     let v = c .before .before .v in (
-      (meets-tells (meeting.say (contract.variantShown (args .s .now) (loop .c)) contract.variantSaid (v .given .1) (variant .ensures)) .4 .0, meets-tells (meeting.say (contract.variantShown (args .s .now) (loop .c)) contract.variantSaid (v .given .1) (variant .ensures)) .4 .2),
+      (
+        meets-tells (meeting.say (contract.variantShown (args .s .now) (loop .c)) contract.variantSaid (v .given .1)
+            (variant .ensures)) .4 .0,
+        meets-tells (meeting.say (contract.variantShown (args .s .now) (loop .c))
+            contract.variantSaid (v .given .1) (variant .ensures)) .4 .2,
+      ),
       (pre .1 .0, omega (arith, loop .inv .1, loop .inv .0 .few, loop .inv .0 .inList .within, pre .1 .0, pre .1 .1)),
     )
 
@@ -57,7 +63,13 @@ field-lines-requires c κs =
     let variant = c .before .before .before .before .before .before .before .before .before .before .before .variant in
     let v = c .before .before .before .before .before .before .before .v in
     let put-variant = c .before .before .before .before .put-variant in (
-      (meets-tells (meeting.say (contract.variantShown (args .s .now) (loop .c)) contract.variantSaid (v .given .1) (variant .ensures)) .4 .0 .fields, meets-tells (meeting.say (contract.variantShown (args .s .now) (loop .c)) contract.variantSaid (v .given .1) (variant .ensures)) .4 .2 .fields),
+      (
+        meets-tells (meeting.say (contract.variantShown (args .s .now) (loop .c)) contract.variantSaid (v .given .1)
+            (variant .ensures)) .4 .0 .fields,
+        meets-tells
+            (meeting.say (contract.variantShown (args .s .now) (loop .c)) contract.variantSaid (v .given .1)
+            (variant .ensures)) .4 .2 .fields,
+      ),
       (
         pre .1 .0,
         omega (
@@ -83,20 +95,26 @@ loop-less c =
     let args = c .before .before .before .before .before .before .before .before .before .before .before .before .before .before .before .before .before .before .before .before .before .before .before .args in
     let loop = c .before .before .before .before .before .before .before .before .before .before .before .before .before .before .before .before .before .before .before .loop in
     let variant = c .before .before .before .before .before .before .before .before .before .before .before .before .before .before .before .before .before .variant in
-    let v-2 = c .before .before .before .before .before .before .before .before .before .before .before .before .before .v in
-    let n = forward reading.variant conserved.variant-round (meeting.say (contract.variantShown (args .s .now) (loop .c)) contract.variantSaid (v-2 .given .1) (variant .ensures)) (λ v h. (h .0, h .1, h .2)) in omega (arith, n .0, n .1 .within)
+    let v-2 =
+    c .before .before .before .before .before .before .before .before .before .before .before .before .before .v in
+    let n = forward reading.variant conserved.variant-round
+    (meeting.say (contract.variantShown (args .s .now) (loop .c)) contract.variantSaid (v-2 .given .1)
+    (variant .ensures)) (λ v h. (h .0, h .1, h .2)) in omega (arith, n .0, n .1 .within)
 
 loop-again : tie.Need-loop-again Inv-loop μ-loop
 loop-again c =
     let args = c .before .before .before .before .before .before .before .before .before .before .before .before .before .before .before .before .before .before .before .before .before .before .before .args in
     let loop = c .before .before .before .before .before .before .before .before .before .before .before .before .before .before .before .before .before .before .before .loop in
     let variant = c .before .before .before .before .before .before .before .before .before .before .before .before .before .before .before .before .before .variant in
-    let v-2 = c .before .before .before .before .before .before .before .before .before .before .before .before .before .v in
+    let v-2 =
+    c .before .before .before .before .before .before .before .before .before .before .before .before .before .v in
     let put-variant = c .before .before .before .before .before .before .before .before .before .before .put-variant in
     let field-lines = c .before .before .before .before .before .field-lines in (
       lined-more variantLines reading.variant conserved.variant-round (loop .inv .0)
-          (meeting.say (contract.variantShown (args .s .now) (loop .c)) contract.variantSaid (v-2 .given .1) (variant .ensures))
-          (λ v h. (h .0, h .1, h .2)) (λ a t. joined (put-variant .ensures .0 a t) (field-lines .ensures .0 (a .fields) (t .fields))),
+          (meeting.say (contract.variantShown (args .s .now) (loop .c)) contract.variantSaid (v-2 .given .1)
+          (variant .ensures))
+          (λ v h. (h .0, h .1, h .2)) (λ a t. joined (put-variant .ensures .0 a t)
+          (field-lines .ensures .0 (a .fields) (t .fields))),
       omega
           (arith, put-variant .ensures .1, field-lines .ensures .1, loop .inv .1),
       field-lines .kept .1 .1 .0 ∙ variant .kept .1 .1 .0 ∙ loop .inv .2,

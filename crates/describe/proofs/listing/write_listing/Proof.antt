@@ -34,8 +34,11 @@ read-listing-requires c κs =
 returns : tie.Need-returns
 returns c =
     let args = c .before .before .before .before .before .before .args in
-    let e = listing-checked (args .list .now) (length (args .out .now)) (sym (c .before .before .before .check .ensures .answer) ∙ ap checked ((c .before .r) .given .1)) in
-    (listed-refused (sym e) (sym (ap (output (args .out .now)) e)), listing-refusal (args .list .now) (length (args .out .now)))
+    let e = listing-checked (args .list .now) (length (args .out .now))
+    (sym (c .before .before .before .check .ensures .answer) ∙ ap checked ((c .before .r) .given .1)) in (
+      listed-refused (sym e) (sym (ap (output (args .out .now)) e)),
+      listing-refusal (args .list .now) (length (args .out .now)),
+    )
 
 same-length : tie.Need-same-length
 same-length c = search needs
@@ -46,7 +49,8 @@ returns-2 c =
     let check = c .before .before .before .before .before .before .before .before .check in
     let enum-told = c .before .before .before .before .before .before .enum-told in (
       listed-as
-          (listing-read (args .list .now) (length (args .out .now)) (sym (check .ensures .answer) ∙ ap checked (enum-told .given .1)))
+          (listing-read (args .list .now) (length (args .out .now))
+          (sym (check .ensures .answer) ∙ ap checked (enum-told .given .1)))
           ((c .before .before .before .read-listing) .ensures),
       listing-refusal (args .list .now) (length (args .out .now)),
     )

@@ -22,12 +22,15 @@ use Rattle.describe.proofs.value.find.Tie as tie
 
 abbrev Inv-loop : tie.InvT-loop
 Inv-loop s roles₀ position c₀ left₀ roles c left =
-    InList s c × (length roles ≡ length roles₀) × (variantAt position (contract.point s c₀) ≡ variantAt left (contract.point s c))
+    InList s c × (length roles ≡ length roles₀) × (variantAt position (contract.point s c₀) ≡
+    variantAt left (contract.point s c))
     × ((vs : List declaration.Variant) → contract.InsideAt (reading.every reading.variant) s c₀ vs
-    → (ws : List declaration.Variant) × contract.InsideAt (reading.every reading.variant) s c ws × (valueAt position vs ≡ valueAt left ws))
+    → (ws : List declaration.Variant) × contract.InsideAt (reading.every reading.variant) s c ws ×
+    (valueAt position vs ≡ valueAt left ws))
 
 -- the same value from an equal point
-transport-row : (s : List ℕ) (r : ValueAt) {x y : Point} {v w : declaration.Value} → x ≡ y → v ≡ w → contract.ValueIn s (valueRow x v) r → contract.ValueIn s (valueRow y w) r
+transport-row : (s : List ℕ) (r : ValueAt) {x y : Point} {v w : declaration.Value} → x ≡ y → v ≡ w →
+    contract.ValueIn s (valueRow x v) r → contract.ValueIn s (valueRow y w) r
 transport-row s r p q h = subst (λ (n : ℕ). contract.ValueIn s n r) (λ i. valueRow (p i) (q i)) h
 
 abbrev μ-loop : tie.MeasureT-loop
@@ -54,12 +57,15 @@ returns c =
     let loop = c .before .before .before .before .before .before .before .before .loop in
     let variant = c .before .before .before .before .before .before .variant in
     let v-2 = c .before .before .v in
-    let read = meeting.say (contract.variantShown (args .s .now) (loop .c)) contract.variantSaid (v-2 .given .1) (variant .ensures) in
+    let read = meeting.say (contract.variantShown (args .s .now) (loop .c)) contract.variantSaid (v-2 .given .1)
+    (variant .ensures) in
     λ vs i.
     let o = loop .inv .3 vs i in
     let told : declaration.Variant → Type 0 =
-    λ a. contract.VariantOf (args .s .now) (v-2 .given .0 .0) a × contract.VariantPlaces (args .s .now) (contract.point (args .s .now) (loop .c)) (v-2 .given .0 .0) a in
-    let m = inside-more reading.variant conserved.variant-round {told = told} (o .1) read (λ v h. (h .0, h .1, (h .2, h .3))) in
+    λ a. contract.VariantOf (args .s .now) (v-2 .given .0 .0) a ×
+    contract.VariantPlaces (args .s .now) (contract.point (args .s .now) (loop .c)) (v-2 .given .0 .0) a in
+    let m = inside-more reading.variant conserved.variant-round {told = told} (o .1) read
+    (λ v h. (h .0, h .1, (h .2, h .3))) in
     let value = o .2 ∙ value-first {k = loop .left} (omega arith) (m .split) in
     let point = loop .inv .2 ∙ variant-first {k = loop .left} (contract.point (args .s .now) (loop .c)) (omega arith) in
     record {
@@ -72,18 +78,24 @@ sub-left c = omega arith
 
 loop-less : tie.Need-loop-less Inv-loop μ-loop
 loop-less c =
-    let args = c .before .before .before .before .before .before .before .before .before .before .before .before .args in
+    let args =
+    c .before .before .before .before .before .before .before .before .before .before .before .before .args in
     let loop = c .before .before .before .before .before .before .before .before .before .loop in
     let variant = c .before .before .before .before .before .before .before .variant in
-    let f = forward reading.variant conserved.variant-round (meeting.say (contract.variantShown (args .s .now) (loop .c)) contract.variantSaid ((c .before .before .before .v) .given .1) (variant .ensures)) (λ v h. (h .0, h .1, h .2)) in omega (arith, f .0, f .1 .within)
+    let f = forward reading.variant conserved.variant-round
+    (meeting.say (contract.variantShown (args .s .now) (loop .c)) contract.variantSaid
+    ((c .before .before .before .v) .given .1) (variant .ensures))
+    (λ v h. (h .0, h .1, h .2)) in omega (arith, f .0, f .1 .within)
 
 loop-again : tie.Need-loop-again Inv-loop μ-loop
 loop-again c =
-    let args = c .before .before .before .before .before .before .before .before .before .before .before .before .args in
+    let args =
+    c .before .before .before .before .before .before .before .before .before .before .before .before .args in
     let loop = c .before .before .before .before .before .before .before .before .before .loop in
     let variant = c .before .before .before .before .before .before .before .variant in
     let v-2 = c .before .before .before .v in
-    let read = meeting.say (contract.variantShown (args .s .now) (loop .c)) contract.variantSaid (v-2 .given .1) (variant .ensures) in (
+    let read = meeting.say (contract.variantShown (args .s .now) (loop .c)) contract.variantSaid (v-2 .given .1)
+    (variant .ensures) in (
       forward reading.variant conserved.variant-round read (λ v h. (h .0, h .1, h .2)) .1,
       variant .kept .1 .1 .0 ∙ loop .inv .1,
       loop .inv .2 ∙ variant-later (loop .left) _ _ (λ e. omega arith) (meets-beyond reading.variant read .here),
@@ -107,11 +119,13 @@ returns-2 c =
     let args = c .before .before .before .before .before .before .before .before .before .args in
     let loop = c .before .before .before .before .before .before .loop in
     let variant = c .before .before .before .before .variant in
-    let read = meeting.say (contract.variantShown (args .s .now) (loop .c)) contract.variantSaid ((c .enum-told) .given .1) (variant .ensures) in
+    let read = meeting.say (contract.variantShown (args .s .now) (loop .c)) contract.variantSaid
+    ((c .enum-told) .given .1) (variant .ensures) in
     λ vs i.
     let o = loop .inv .3 vs i in
     record {
-      value = o .2 ∙ ap (valueAt (loop .left)) (inside-done reading.variant conserved.variant-round (o .1) read (λ v h. h));
+      value =
+          o .2 ∙ ap (valueAt (loop .left)) (inside-done reading.variant conserved.variant-round (o .1) read (λ v h. h));
       place = tt;
     }
 

@@ -25,7 +25,8 @@ value-requires c κs =
     let args = c .before .before .before .before .before .before .before .before .before .before .before .args in
     let item = c .before .before .before .before .before .before .item in
     meets-tells
-    (meeting.say (itemShown (args .s .now) first) itemSaid ((c .before .before .d) .given .1) (item .ensures)) .4 .0 .body .inList
+    (meeting.say (itemShown (args .s .now) first) itemSaid ((c .before .before .d) .given .1)
+    (item .ensures)) .4 .0 .body .inList
 
 put-value-requires : tie.Need-put-value-requires
 put-value-requires c κs =
@@ -44,7 +45,8 @@ returns : tie.Need-returns
 returns c =
     let args = c .before .before .before .before .before .before .before .before .before .before .args in
     let item = c .before .before .before .before .before .item in
-    let e = meets-refusal (meeting.say (itemShown (args .s .now) first) itemSaid ((c .before .r) .given .1) (item .ensures)) in
+    let e = meets-refusal (meeting.say (itemShown (args .s .now) first) itemSaid ((c .before .r) .given .1)
+    (item .ensures)) in
     placed-refused _ (ap (itemAnswer (start (args .s .now)) (args .position)) e)
 
 same-length-2 : tie.Need-same-length-2
@@ -62,8 +64,10 @@ returns-2 c =
     let value = c .before .before .before .before .before .before .value in
     let m = meets-tells (meeting.say (itemShown (args .s .now) first) itemSaid (d .given .1) (item .ensures)) in
     let there = ap (λ (x : Point). variantAt (args .position) (inside x)) (m .4 .1 .body .here) in
-    let v = subst (λ (x : Point). ValueAs (args .s .now) x (value .result) (bodyValue (args .position) (m .0 .body))) there (value .ensures _ (m .4 .0 .body)) in
-    placed-as (ap (itemAnswer (start (args .s .now)) (args .position)) (m .3)) ((c .before .before .put-value) .ensures _ _ v (pre .1 .0))
+    let v = subst (λ (x : Point). ValueAs (args .s .now) x (value .result) (bodyValue (args .position) (m .0 .body)))
+    there (value .ensures _ (m .4 .0 .body)) in
+    placed-as (ap (itemAnswer (start (args .s .now)) (args .position)) (m .3))
+    ((c .before .before .put-value) .ensures _ _ v (pre .1 .0))
 
 pub read-value-spec : {M : Type 1} → statement M
 read-value-spec =

@@ -44,7 +44,8 @@ returns : tie.Need-returns
 returns c =
     let args = c .before .before .before .before .args in
     λ b i.
-    let body = subst (λ kd. contract.InsideAt (reading.bodyOf (contract.kindOf kd)) (args .s .now) (args .d .body) b) ((c .enum-told) .given .1) i in
+    let body = subst (λ kd. contract.InsideAt (reading.bodyOf (contract.kindOf kd)) (args .s .now) (args .d .body) b)
+    ((c .enum-told) .given .1) i in
     record { value = struct-value _ body; place = tt }
 
 returns-2 : tie.Need-returns-2
@@ -52,7 +53,8 @@ returns-2 c =
     let args = c .before .before .before .before .before .before .before .before .args in
     let enum-told2 = c .before .before .before .before .enum-told2 in
     λ b i.
-    let body = subst (λ kd. contract.InsideAt (reading.bodyOf (contract.kindOf kd)) (args .s .now) (args .d .body) b) (enum-told2 .given .1) i in
+    let body = subst (λ kd. contract.InsideAt (reading.bodyOf (contract.kindOf kd)) (args .s .now) (args .d .body) b)
+    (enum-told2 .given .1) i in
     enum-end body (meeting.peeked _ _ ((c .before .before .peek) .ensures) ((c .enum-told3) .given .1))
 
 returns-3 : tie.Need-returns-3
@@ -60,7 +62,8 @@ returns-3 c =
     let args = c .before .before .before .before .before .before .before .before .args in
     let enum-told2 = c .before .before .before .before .enum-told2 in
     λ b i.
-    let body = subst (λ kd. contract.InsideAt (reading.bodyOf (contract.kindOf kd)) (args .s .now) (args .d .body) b) (enum-told2 .given .1) i in
+    let body = subst (λ kd. contract.InsideAt (reading.bodyOf (contract.kindOf kd)) (args .s .now) (args .d .body) b)
+    (enum-told2 .given .1) i in
     let none = enum-leaf body _ (meeting.peeked _ _ ((c .before .before .peek) .ensures) ((c .enum-told4) .given .1)) in
     record { value = ap (bodyValue (args .position)) none; place = tt }
 
@@ -78,11 +81,13 @@ returns-4 c =
     let s = args .s .now in
     let group = meeting.peeked _ _ (peek .ensures) (t .given .1) in
     λ b i.
-    let body = subst (λ kd. contract.InsideAt (reading.bodyOf (contract.kindOf kd)) s (args .d .body) b) (enum-told2 .given .1) i in
+    let body = subst (λ kd. contract.InsideAt (reading.bodyOf (contract.kindOf kd)) s (args .d .body) b)
+    (enum-told2 .given .1) i in
     let g = enum-group body _ _ group (past .ensures) in
     let there = inside-point s (args .d .body) (past .result) _ group (past .ensures) in
     subst (λ x. ValueAs s (variantAt (args .position) x) (find .result) (bodyValue (args .position) b)) there
-    (subst⁻¹ (λ x. ValueAs s (variantAt (args .position) (contract.point s (past .result))) (find .result) (bodyValue (args .position) x)) (g .1)
+    (subst⁻¹ (λ x. ValueAs s (variantAt (args .position) (contract.point s (past .result))) (find .result)
+    (bodyValue (args .position) x)) (g .1)
     (find .ensures (g .0) (g .2)))
 
 pub value-spec : {M : Type 1} → statement M

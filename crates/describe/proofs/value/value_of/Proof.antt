@@ -21,7 +21,9 @@ enum-told c = search needs
 returns : tie.Need-returns
 returns c =
     let args = c .before .before .before .before .before .before .args in
-    let e = value-short (args .list .now) (args .position) (length (args .scratch .now)) (sym (c .before .before .before .check .ensures .answer) ∙ ap checked ((c .before .enum-told) .given .1)) (omega arith) in
+    let e = value-short (args .list .now) (args .position) (length (args .scratch .now))
+    (sym (c .before .before .before .check .ensures .answer) ∙ ap checked ((c .before .enum-told) .given .1))
+    (omega arith) in
     (placed-refused _ e, value-refusal (args .list .now) (args .position) (length (args .scratch .now)))
 
 slice-aggregate-read-value : tie.Need-slice-aggregate-read-value
@@ -37,7 +39,8 @@ read-value-requires c κs =
 returns-2 : tie.Need-returns-2
 returns-2 c =
     let args = c .before .before .before .before .before .before .args in
-    let e = value-checked (args .list .now) (args .position) (length (args .scratch .now)) (sym (c .before .before .before .check .ensures .answer) ∙ ap checked ((c .before .r) .given .1)) in
+    let e = value-checked (args .list .now) (args .position) (length (args .scratch .now))
+    (sym (c .before .before .before .check .ensures .answer) ∙ ap checked ((c .before .r) .given .1)) in
     (placed-refused _ e, value-refusal (args .list .now) (args .position) (length (args .scratch .now)))
 
 same-length : tie.Need-same-length
@@ -45,11 +48,13 @@ same-length c = search needs
 
 returns-3 : tie.Need-returns-3
 returns-3 c =
-    let args = c .before .before .before .before .before .before .before .before .before .before .before .before .args in
+    let args =
+    c .before .before .before .before .before .before .before .before .before .before .before .before .args in
     let check = c .before .before .before .before .before .before .before .before .before .check in
     let enum-told = c .before .before .before .before .before .before .before .enum-told in
     let passed = sym (check .ensures .answer) ∙ ap checked (enum-told .given .1) in (
-      placed-as (value-read (args .list .now) (args .position) (length (args .scratch .now)) passed (omega arith)) ((c .before .before .before .read-value) .ensures),
+      placed-as (value-read (args .list .now) (args .position) (length (args .scratch .now)) passed (omega arith))
+          ((c .before .before .before .read-value) .ensures),
       value-refusal (args .list .now) (args .position) (length (args .scratch .now)),
     )
 

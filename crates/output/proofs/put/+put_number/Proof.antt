@@ -107,7 +107,14 @@ put-number-put-byte-requires-2 t c κs =
     let a = d .before .before .before .before in
     let n = a .args .n in
     let more = ap length (decimal-more n (d .before .before .if1 .left)) in
-    omega (arith, a .pre .1, d .put-number .ensures .0 .next, more, length-append (decimal (n / 10)) ((48 + n % 10) ∷ []), decimal-few n (omega arith))
+    omega (
+      arith,
+      a .pre .1,
+      d .put-number .ensures .0 .next,
+      more,
+      length-append (decimal (n / 10)) ((48 + n % 10) ∷ []),
+      decimal-few n (omega arith),
+    )
 
 put-number-same-length-2 : (t : ℕ) → put-number-lts.Need-same-length-2 (
   put-byte-reads.Asked,

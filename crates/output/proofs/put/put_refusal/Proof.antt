@@ -38,8 +38,16 @@ returns c =
     let n = b .before .before .before .before in
     let t = n .before .before .before .before .before in (
       joined (t .put-bytes .ensures)
-          (joined (n .put-number .ensures .0) (joined (b .put-byte .ensures) (joined (d .put-place .ensures .0) (e .put-byte2 .ensures)))),
-      omega (arith, t .put-bytes .ensures .next, n .put-number .ensures .1, b .put-byte .ensures .next, d .put-place .ensures .1, e .put-byte2 .ensures .next),
+          (joined (n .put-number .ensures .0) (joined (b .put-byte .ensures)
+          (joined (d .put-place .ensures .0) (e .put-byte2 .ensures)))),
+      omega (
+        arith,
+        t .put-bytes .ensures .next,
+        n .put-number .ensures .1,
+        b .put-byte .ensures .next,
+        d .put-place .ensures .1,
+        e .put-byte2 .ensures .next,
+      ),
     )
 
 pub put-refusal-spec : {M : Type 1} → statement M

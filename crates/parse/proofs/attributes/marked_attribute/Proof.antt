@@ -31,7 +31,8 @@ returns c =
     let peek = c .before .before .before .before .before .peek in
     let t = c .before .before .before .t in (
       marks.no-mark _ _ pre _ (meeting.peeked _ _ (peek .ensures) (t .given .1))
-          (meeting.punct-of _ _ _ _ ((meeting.peeked _ _ (peek .ensures) (t .given .1)) .token) ∙ sym ((c .before .is-punct) .ensures) ∙ not-true _ ((c .if1) .taken)),
+          (meeting.punct-of _ _ _ _ ((meeting.peeked _ _ (peek .ensures) (t .given .1)) .token) ∙
+          sym ((c .before .is-punct) .ensures) ∙ not-true _ ((c .if1) .taken)),
       refl,
     )
 
@@ -60,7 +61,8 @@ is-punct-requires-2 c κs = search needs
 returns-2 : tie.Need-returns-2
 returns-2 c =
     let pre = c .before .before .before .before .before .before .before .before .before .before .before .before .before .before .before .pre in
-    let peek = c .before .before .before .before .before .before .before .before .before .before .before .before .peek in
+    let peek =
+    c .before .before .before .before .before .before .before .before .before .before .before .before .peek in
     let t = c .before .before .before .before .before .before .before .before .before .before .t in
     let is-punct = c .before .before .before .before .before .before .before .before .is-punct in
     let if1 = c .before .before .before .before .before .before .before .if1 in
@@ -85,7 +87,8 @@ enum-known-g c = search needs
 returns-3 : tie.Need-returns-3
 returns-3 c =
     let pre = c .before .before .before .before .before .before .before .before .before .before .before .before .before .before .before .pre in
-    let peek = c .before .before .before .before .before .before .before .before .before .before .before .before .peek in
+    let peek =
+    c .before .before .before .before .before .before .before .before .before .before .before .before .peek in
     let t = c .before .before .before .before .before .before .before .before .before .before .t in
     let is-punct = c .before .before .before .before .before .before .before .before .is-punct in
     let if1 = c .before .before .before .before .before .before .before .if1 in
@@ -151,7 +154,8 @@ returns-7 c =
     let pre = c .before .before .before .before .before .before .before .before .before .before .before .before .before .before .before .before .before .before .before .pre in
     let peek = c .before .before .before .before .before .before .before .before .before .before .before .before .before .before .before .before .peek in
     let t = c .before .before .before .before .before .before .before .before .before .before .before .before .before .before .t in
-    let is-punct = c .before .before .before .before .before .before .before .before .before .before .before .before .is-punct in
+    let is-punct =
+    c .before .before .before .before .before .before .before .before .before .before .before .before .is-punct in
     let if1 = c .before .before .before .before .before .before .before .before .before .before .before .if1 in
     let past = c .before .before .before .before .before .before .before .before .before .before .past in
     let peek2 = c .before .before .before .before .before .before .before .before .before .peek2 in

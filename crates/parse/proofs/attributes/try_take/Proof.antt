@@ -13,7 +13,8 @@ use mathlib.Core.Path.{_≡_, _∙_, subst}
 use Rattle.parse.proofs.attributes.try_take.Statement.{statement}
 use Rattle.parse.proofs.attributes.try_take.Tie as tie
 
-told : (s : List ℕ) (c : Cursor) (b0 b1 : List ℕ) {t u : Marked} → contract.AttributeRead s c b0 b1 t → t ≡ u → contract.AttributeRead s c b0 b1 u
+told : (s : List ℕ) (c : Cursor) (b0 b1 : List ℕ) {t u : Marked} → contract.AttributeRead s c b0 b1 t → t ≡ u →
+    contract.AttributeRead s c b0 b1 u
 told s c b0 b1 h e = subst (contract.AttributeRead s c b0 b1) e h
 
 abbrev Inv-loop : tie.InvT-loop

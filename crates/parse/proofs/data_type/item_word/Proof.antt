@@ -33,7 +33,8 @@ same-length c = search needs
 returns : tie.Need-returns
 returns c =
     let args = c .before .before .before .before .before .before .before .before .before .before .before .before .before .before .args in
-    let consume-ident = c .before .before .before .before .before .before .before .before .before .before .consume-ident in
+    let consume-ident =
+    c .before .before .before .before .before .before .before .before .before .before .consume-ident in
     let w = c .before .before .before .before .before .before .w in
     meeting.meets-word reading.kindOf _ (meeting.say-word (w .given .1) (consume-ident .ensures))
     (λ text h place.

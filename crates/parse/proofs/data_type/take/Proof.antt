@@ -29,8 +29,11 @@ rest k = reading.word role.item-name >>= name k
 split : (row : ℕ) (ts : Trees) → reading.dataType row ts ≡ after row (contract.itemWord row ts) rest
 split row ts = sym (meeting.after-assoc row (reading.word role.item-word row ts) reading.kindOf rest)
 
-said : {s : List ℕ} {c : Cursor} {b0 b1 : List ℕ} {t : Took declaration.Kind} {p q : Worded} → p ≡ q → Meets s c b0 b1 (contract.wordedShown p) (contract.wordedSaid p) t → Meets s c b0 b1 (contract.wordedShown q) (contract.wordedSaid q) t
-said {s} {c} {b0} {b1} {t} e m = subst (λ (p : Worded). Meets s c b0 b1 (contract.wordedShown p) (contract.wordedSaid p) t) e m
+said : {s : List ℕ} {c : Cursor} {b0 b1 : List ℕ} {t : Took declaration.Kind} {p q : Worded} → p ≡ q →
+    Meets s c b0 b1 (contract.wordedShown p) (contract.wordedSaid p) t →
+    Meets s c b0 b1 (contract.wordedShown q) (contract.wordedSaid q) t
+said {s} {c} {b0} {b1} {t} e m =
+    subst (λ (p : Worded). Meets s c b0 b1 (contract.wordedShown p) (contract.wordedSaid p) t) e m
 
 item-word-requires : tie.Need-item-word-requires
 item-word-requires c κs = search needs
@@ -51,7 +54,8 @@ enum-told c = search needs
 
 wrong-token-requires : tie.Need-wrong-token-requires
 wrong-token-requires c κs =
-    let item-word = c .before .before .before .before .before .before .before .before .before .before .before .item-word in
+    let item-word =
+    c .before .before .before .before .before .before .before .before .before .before .before .item-word in
     let kind = c .before .before .before .before .before .before .before .kind in
     meeting.landed (said (kind .given .1) (item-word .ensures))
 
@@ -74,7 +78,8 @@ same-length-2 c = search needs
 returns-2 : tie.Need-returns-2
 returns-2 c =
     let args = c .before .before .before .before .before .before .before .before .before .before .before .before .before .before .before .before .args in
-    let item-word = c .before .before .before .before .before .before .before .before .before .before .before .before .item-word in
+    let item-word =
+    c .before .before .before .before .before .before .before .before .before .before .before .before .item-word in
     let kind = c .before .before .before .before .before .before .before .before .kind in
     let consume-ident = c .before .before .before .before .before .consume-ident in
     meeting.meets-as (split (args .c .row) (contract.stream (args .s .now) (args .c)))
@@ -98,8 +103,12 @@ returns-3 c =
     (λ k h.
     meeting.meets-word (name k) _ (meeting.say-word (w .given .1) (consume-ident .ensures))
     (λ text x place.
-    meeting.meets-stay _ _ _ _ _ (meeting.landed (meeting.say-word (w .given .1) (consume-ident .ensures)))
-    (h, x, places.word-at _ _ (places.meets-beyond contract.itemWord (said (kind .given .1) (item-word .ensures)) .here) place))))
+    meeting.meets-stay _ _ _ _ _ (meeting.landed (meeting.say-word (w .given .1) (consume-ident .ensures))) (
+      h,
+      x,
+      places.word-at _ _ (places.meets-beyond contract.itemWord
+          (said (kind .given .1) (item-word .ensures)) .here) place,
+    ))))
 
 pub take-spec : {M : Type 1} → statement M
 take-spec =

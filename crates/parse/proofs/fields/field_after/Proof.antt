@@ -57,11 +57,19 @@ same-length-2 c = search needs
 returns-2 : tie.Need-returns-2
 returns-2 c =
     let args = c .before .before .before .before .before .before .before .before .before .before .before .before .before .args in
-    let consume-punct-if = c .before .before .before .before .before .before .before .before .before .consume-punct-if in
+    let consume-punct-if =
+    c .before .before .before .before .before .before .before .before .before .consume-punct-if in
     let if1 = c .before .before .before .before .if1 in
     let d = consume-punct-if .result .next in
     let ts = contract.stream (args .s .now) d in
-    λ n. meeting.meets-then (colon n) (consume-punct-if .ensures) (λ t e. meeting.meets-as (ap (λ x. colon n x (d .row) ts) (sym e ∙ not-false _ (if1 .left))) (meeting.meets-then (λ u. typed n) (meeting.meets-stay _ _ _ (λ (u : Unit {0}). Unit {0}) (tt {0}) (meeting.landed (consume-punct-if .ensures)) tt) (λ u h. meeting.meets-as (bodies.comma-as (d .row) (reading.run reading.fieldStops 18 (d .row) ts) (λ f. record { name = n; type = f })) (meeting.meets-map (d .row) (λ f. reading.one (record { name = n; type = f })) (λ f k. (f, refl)) ((c .before .before .field-type) .ensures)))))
+    λ n. meeting.meets-then (colon n) (consume-punct-if .ensures)
+    (λ t e. meeting.meets-as (ap (λ x. colon n x (d .row) ts) (sym e ∙ not-false _ (if1 .left)))
+    (meeting.meets-then (λ u. typed n) (meeting.meets-stay _ _ _ (λ (u : Unit {0}). Unit {0}) (tt {0})
+    (meeting.landed (consume-punct-if .ensures)) tt)
+    (λ u h. meeting.meets-as (bodies.comma-as (d .row) (reading.run reading.fieldStops 18 (d .row) ts)
+    (λ f. record { name = n; type = f })) (meeting.meets-map (d .row)
+    (λ f. reading.one (record { name = n; type = f })) (λ f k. (f, refl))
+    ((c .before .before .field-type) .ensures)))))
 
 pub field-after-spec : {M : Type 1} → statement M
 field-after-spec =

@@ -39,7 +39,8 @@ same-length-2 c = search needs
 returns-2 : tie.Need-returns-2
 returns-2 c =
     let args = c .before .before .before .before .before .before .before .before .before .before .before .before .before .before .args in
-    let read-tokens-until-punct = c .before .before .before .before .before .before .before .before .before .before .read-tokens-until-punct in
+    let read-tokens-until-punct =
+    c .before .before .before .before .before .before .before .before .before .before .read-tokens-until-punct in
     let d = c .before .before .before .before .before .before .d in
     meeting.meets-then bodies.commaAfter
     (meeting.meets-kept (contract.stream (args .s .now) (args .c))

@@ -50,7 +50,8 @@ same-length c = search needs
 returns : tie.Need-returns
 returns c =
     let args = c .before .before .before .before .before .before .before .before .before .before .before .before .before .before .before .args in
-    let field-start = c .before .before .before .before .before .before .before .before .before .before .before .field-start in
+    let field-start =
+    c .before .before .before .before .before .before .before .before .before .before .before .field-start in
     let d = c .before .before .before .before .before .before .before .d in
     let peek = c .before .before .before .before .before .peek in
     meeting.meets-as (split (args .c .row) (contract.stream (args .s .now) (args .c)))
@@ -103,7 +104,8 @@ same-length-3 c = search needs
 
 returns-3 : tie.Need-returns-3
 returns-3 c =
-    let args = c .before .before .before .before .before .before .before .before .before .before .before .before .args in
+    let args =
+    c .before .before .before .before .before .before .before .before .before .before .before .before .args in
     let field-start = c .before .before .before .before .before .before .before .before .field-start in
     let d = c .before .before .before .before .d in
     meeting.meets-as (split (args .c .row) (contract.stream (args .s .now) (args .c)))
@@ -118,7 +120,8 @@ same-length-4 c = search needs
 
 returns-4 : tie.Need-returns-4
 returns-4 c =
-    let args = c .before .before .before .before .before .before .before .before .before .before .before .before .args in
+    let args =
+    c .before .before .before .before .before .before .before .before .before .before .before .before .args in
     let field-start = c .before .before .before .before .before .before .before .before .field-start in
     let d = c .before .before .before .before .d in
     meeting.meets-as (split (args .c .row) (contract.stream (args .s .now) (args .c)))

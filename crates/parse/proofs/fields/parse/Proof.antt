@@ -37,7 +37,9 @@ loop-less : tie.Need-loop-less Inv-loop μ-loop
 loop-less c =
     let loop = c .before .before .before .before .before .before .before .loop in
     let tuple-field = c .before .before .before .before .before .tuple-field in
-    let n = rounds-more reading.tupleField conserved.tupleField-round (loop .inv) (meeting.say contract.typeShown contract.typeSaid ((c .before .d) .given .1) (tuple-field .ensures)) (λ v h. (h .0, h .1)) in
+    let n = rounds-more reading.tupleField conserved.tupleField-round (loop .inv)
+    (meeting.say contract.typeShown contract.typeSaid ((c .before .d) .given .1) (tuple-field .ensures))
+    (λ v h. (h .0, h .1)) in
     omega (arith, n .1, n .0 .moved .inList .within)
 
 loop-again : tie.Need-loop-again Inv-loop μ-loop

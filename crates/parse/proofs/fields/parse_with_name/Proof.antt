@@ -38,7 +38,9 @@ loop-less c =
     let args = c .before .before .before .before .before .before .before .before .before .before .before .args in
     let loop = c .before .before .before .before .before .before .before .before .loop in
     let named-field = c .before .before .before .before .before .before .named-field in
-    let n = rounds-more reading.namedField conserved.namedField-round (loop .inv) (meeting.say (contract.fieldShown (args .s .now) (loop .c)) contract.fieldSaid ((c .before .before .f) .given .1) (named-field .ensures)) (λ v h. (h .0, h .1)) in
+    let n = rounds-more reading.namedField conserved.namedField-round (loop .inv)
+    (meeting.say (contract.fieldShown (args .s .now) (loop .c)) contract.fieldSaid
+    ((c .before .before .f) .given .1) (named-field .ensures)) (λ v h. (h .0, h .1)) in
     omega (arith, n .1, n .0 .moved .inList .within)
 
 loop-again : tie.Need-loop-again Inv-loop μ-loop

@@ -25,7 +25,8 @@ same-length c = search needs
 
 returns : tie.Need-returns
 returns c =
-    let args = c .before .before .before .before .before .before .before .before .before .before .before .before .args in
+    let args =
+    c .before .before .before .before .before .before .before .before .before .before .before .before .args in
     let consume-punct-if = c .before .before .before .before .before .before .before .before .consume-punct-if in
     let if1 = c .before .before .before .before .if1 in
     meeting.meets-then runOr (consume-punct-if .ensures)

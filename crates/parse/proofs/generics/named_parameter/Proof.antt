@@ -22,7 +22,8 @@ made l x = reading.marked-run 58 >>= λ b. pure (contract.parameterMade l x b)
 abbrev rest : Bool → List ℕ → Reader (reading.Maybe Parameter)
 rest l x = made l x >>= reading.comma
 
-made-as : (s : List ℕ) (l : Bool) (name : Token) (x : List ℕ) (b : Trees) → contract.TextOf s name x → contract.ParameterOf s l name (contract.parameterMade l x b)
+made-as : (s : List ℕ) (l : Bool) (name : Token) (x : List ℕ) (b : Trees) → contract.TextOf s name x →
+    contract.ParameterOf s l name (contract.parameterMade l x b)
 made-as s true name x b h = record { kind = refl; text = h }
 made-as s false name x b h = record { kind = refl; text = h }
 
@@ -40,7 +41,8 @@ marked-run-requires c κs =
     let args = c .before .before .before .before .before .before .before .before .before .before .args in
     let parameter-name = c .before .before .before .before .before .before .parameter-name in
     meeting.landed
-    (meeting.say (contract.nameShown (args .s .now) (args .c .row)) contract.nameSaid ((c .before .before .name) .given .1)
+    (meeting.say (contract.nameShown (args .s .now) (args .c .row)) contract.nameSaid
+    ((c .before .before .name) .given .1)
     (parameter-name .ensures))
 
 enum-known-r-2 : tie.Need-enum-known-r-2
@@ -85,7 +87,8 @@ returns-2 c =
     (reading.parameterName (args .number) (args .or) (args .c .row) (contract.stream (args .s .now) (args .c)))
     (made (args .lifetime)) reading.comma)
     (meeting.meets-then (rest (args .lifetime))
-    (meeting.say (contract.nameShown (args .s .now) (args .c .row)) contract.nameSaid (name .given .1) (parameter-name .ensures))
+    (meeting.say (contract.nameShown (args .s .now) (args .c .row)) contract.nameSaid (name .given .1)
+    (parameter-name .ensures))
     (λ x h.
     meeting.meets-as
     (meeting.after-assoc (d .row) (reading.marked-run 58 (d .row) (contract.stream (args .s .now) d))
@@ -100,7 +103,8 @@ returns-3 : tie.Need-returns-3
 returns-3 c =
     let args = c .before .before .before .before .before .before .before .before .before .before .before .before .before .before .before .before .before .before .before .before .args in
     let parameter-name = c .before .before .before .before .before .before .before .before .before .before .before .before .before .before .before .before .parameter-name in
-    let name = c .before .before .before .before .before .before .before .before .before .before .before .before .name in
+    let name =
+    c .before .before .before .before .before .before .before .before .before .before .before .before .name in
     let marked-run = c .before .before .before .before .before .before .before .before .before .marked-run in
     let e = c .before .before .before .before .before .e in
     let d = name .given .0 .1 .0 in
@@ -109,7 +113,8 @@ returns-3 c =
     (reading.parameterName (args .number) (args .or) (args .c .row) (contract.stream (args .s .now) (args .c)))
     (made (args .lifetime)) reading.comma)
     (meeting.meets-then (rest (args .lifetime))
-    (meeting.say (contract.nameShown (args .s .now) (args .c .row)) contract.nameSaid (name .given .1) (parameter-name .ensures))
+    (meeting.say (contract.nameShown (args .s .now) (args .c .row)) contract.nameSaid (name .given .1)
+    (parameter-name .ensures))
     (λ x h.
     meeting.meets-as
     (meeting.after-assoc (d .row) (reading.marked-run 58 (d .row) (contract.stream (args .s .now) d))

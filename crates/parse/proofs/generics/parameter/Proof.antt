@@ -15,7 +15,8 @@ use Rattle.parse.proofs.generics.parameter.Statement.{statement}
 use Rattle.parse.proofs.generics.parameter.Tie as tie
 
 -- the row of the name, said otherwise
-named-in : (s : List ℕ) (r : ParameterStep) {n k : ℕ} → n ≡ k → (v : reading.Maybe Parameter) → contract.parameterShown s n r v → contract.parameterShown s k r v
+named-in : (s : List ℕ) (r : ParameterStep) {n k : ℕ} → n ≡ k → (v : reading.Maybe Parameter) →
+    contract.parameterShown s n r v → contract.parameterShown s k r v
 named-in s r e v h = subst (λ (n : ℕ). contract.parameterShown s n r v) e h
 
 peek-requires : tie.Need-peek-requires
@@ -65,7 +66,8 @@ returns c =
     meeting.meets-from (reading.parameter (args .angle)) _ _ pre _ _ (meeting.peeked _ _ (peek .ensures) (t .given .1))
     _ _ _ _ (take-token .ensures .0) (take-token .ensures .1) _ _ (contract.afterQuote (args .c .row))
     (chosen _ _ _ quote)
-    (meeting.meets-show (named-in (args .s .now) (c .before .before .lifetime .result) (places.after-quote _ _ _ _ l (take-token .ensures .0) quote)) ((c .before .before .lifetime) .ensures))
+    (meeting.meets-show (named-in (args .s .now) (c .before .before .lifetime .result)
+    (places.after-quote _ _ _ _ l (take-token .ensures .0) quote)) ((c .before .before .lifetime) .ensures))
 
 is-punct-requires-2 : tie.Need-is-punct-requires-2
 is-punct-requires-2 c κs = search needs
@@ -94,7 +96,8 @@ returns-2 c =
     meeting.meets-leaf (reading.parameter (args .angle)) _ _ pre _ _ (meeting.peeked _ _ (peek .ensures) (t .given .1))
     _ _ _ _ (take-token2 .ensures .0) (take-token2 .ensures .1) _
     (passed-over _ _ _
-    (meeting.punct-of _ _ _ _ ((meeting.peeked _ _ (peek .ensures) (t .given .1)) .token) ∙ sym (is-punct .ensures) ∙ if1 .left) ∙ chosen
+    (meeting.punct-of _ _ _ _ ((meeting.peeked _ _ (peek .ensures) (t .given .1)) .token) ∙ sym (is-punct .ensures) ∙
+    if1 .left) ∙ chosen
     _ _ _
     (meeting.punct-of _ _ _ _ ((meeting.peeked _ _ (peek .ensures) (t .given .1)) .token) ∙ sym
     (is-punct2 .ensures) ∙ if2 .taken))
@@ -102,7 +105,8 @@ returns-2 c =
 
 returns-3 : tie.Need-returns-3
 returns-3 c =
-    let args = c .before .before .before .before .before .before .before .before .before .before .before .before .args in
+    let args =
+    c .before .before .before .before .before .before .before .before .before .before .before .before .args in
     let pre = c .before .before .before .before .before .before .before .before .before .before .before .before .pre in
     let peek = c .before .before .before .before .before .before .before .before .before .peek in
     let t = c .before .before .before .before .before .before .before .t in
@@ -111,9 +115,11 @@ returns-3 c =
     meeting.meets-refused (reading.parameter (args .angle)) _ _ pre _ _ _ _ _
     ((meeting.peeked _ _ (peek .ensures) (t .given .1)) .here)
     (passed-over _ _ _
-    (meeting.punct-of _ _ _ _ ((meeting.peeked _ _ (peek .ensures) (t .given .1)) .token) ∙ sym (is-punct .ensures) ∙ if1 .left) ∙ passed-over
+    (meeting.punct-of _ _ _ _ ((meeting.peeked _ _ (peek .ensures) (t .given .1)) .token) ∙ sym (is-punct .ensures) ∙
+    if1 .left) ∙ passed-over
     _ _ _
-    (meeting.punct-of _ _ _ _ ((meeting.peeked _ _ (peek .ensures) (t .given .1)) .token) ∙ sym ((c .before .before .before .is-punct2) .ensures) ∙ (c .before .before .if2) .left) ∙ passed-over
+    (meeting.punct-of _ _ _ _ ((meeting.peeked _ _ (peek .ensures) (t .given .1)) .token) ∙
+    sym ((c .before .before .before .is-punct2) .ensures) ∙ (c .before .before .if2) .left) ∙ passed-over
     _ _ _ (and-fails _ _ (ne-eqb _ _ ((c .if3) .taken))) ∙ passed-over _ _ _ (ne-eqb _ _ ((c .if3) .taken)))
 
 take-token-requires-3 : tie.Need-take-token-requires-3
@@ -163,7 +169,8 @@ returns-4 c =
     meeting.meets-from (reading.parameter (args .angle)) _ _ pre _ _ l
     _ _ _ _ (take-token3 .ensures .0) (take-token3 .ensures .1) _ _ contract.afterConst
     (passed-over _ _ _ no-quote ∙ passed-over _ _ _ no-angle ∙ chosen _ _ _ const)
-    (meeting.meets-show (named-in (args .s .now) (c .before .before .const-generic .result) (places.after-const _ _ _ _ l (take-token3 .ensures .0) no-quote const))
+    (meeting.meets-show (named-in (args .s .now) (c .before .before .const-generic .result)
+    (places.after-const _ _ _ _ l (take-token3 .ensures .0) no-quote const))
     ((c .before .before .const-generic) .ensures))
 
 simple-generic-requires : tie.Need-simple-generic-requires
@@ -212,8 +219,10 @@ returns-7 c =
     let no-const = sym (ident-eq .ensures) ∙ if4 .left in
     meeting.meets-from (reading.parameter (args .angle)) _ _ pre _ _ l
     _ _ _ _ (take-token3 .ensures .0) (take-token3 .ensures .1) _ _ (contract.afterName text)
-    (passed-over _ _ _ no-quote ∙ passed-over _ _ _ no-angle ∙ passed-over _ _ _ no-const ∙ chosen _ _ _ (eq-eqb _ _ (if3 .left)))
-    (meeting.meets-show (named-in (args .s .now) (c .before .before .simple-generic .result) (places.name-itself (args .s .now) (args .c) (args .c) _ l no-quote no-const))
+    (passed-over _ _ _ no-quote ∙ passed-over _ _ _ no-angle ∙ passed-over _ _ _ no-const ∙
+    chosen _ _ _ (eq-eqb _ _ (if3 .left)))
+    (meeting.meets-show (named-in (args .s .now) (c .before .before .simple-generic .result)
+    (places.name-itself (args .s .now) (args .c) (args .c) _ l no-quote no-const))
     ((c .before .before .simple-generic) .ensures text (args .c .row)
     (record { bytes = refl; within = meeting.token-within _ _ _ (l .token) })
     (places.token-in _ _ _ pre (l .token))))

@@ -56,7 +56,8 @@ same-length c = search needs
 
 returns-4 : tie.Need-returns-4
 returns-4 c =
-    let args = c .before .before .before .before .before .before .before .before .before .before .before .before .args in
+    let args =
+    c .before .before .before .before .before .before .before .before .before .before .before .before .args in
     let pre = c .before .before .before .before .before .before .before .before .before .before .before .before .pre in
     let peek = c .before .before .before .before .before .before .before .before .before .peek in
     let t = c .before .before .before .before .before .before .before .t in
@@ -65,7 +66,11 @@ returns-4 c =
     meeting.meets-leaf (reading.parameterName (args .number) (args .or)) _ _ pre _ _
     (meeting.peeked _ _ (peek .ensures) (t .given .1)) _ _ _ _ (take-token .ensures .0) (take-token .ensures .1) _
     (chosen _ _ _ (eq-eqb _ _ (if1 .left))) (
-      record { bytes = refl; within = meeting.token-within _ _ _ ((meeting.peeked _ _ (peek .ensures) (t .given .1)) .token) },
+      record {
+        bytes = refl;
+        within = meeting.token-within _ _ _ ((meeting.peeked _ _ (peek .ensures)
+            (t .given .1)) .token);
+      },
       places.token-in _ _ _ pre ((meeting.peeked _ _ (peek .ensures) (t .given .1)) .token),
     )
 

@@ -39,7 +39,10 @@ loop-less c =
     let args = c .before .before .before .before .before .before .before .before .before .before .before .args in
     let loop = c .before .before .before .before .before .before .before .before .loop in
     let parameter = c .before .before .before .before .before .before .parameter in
-    let n = rounds-more (reading.parameter (args .angle)) (conserved.parameter-round (args .angle)) (loop .inv) (meeting.say (contract.parameterShown (args .s .now) (parameterNameRow (contract.point (args .s .now) (loop .c)))) contract.parameterSaid ((c .before .before .p) .given .1) (parameter .ensures)) (λ v h. (h .0, h .1)) in
+    let n = rounds-more (reading.parameter (args .angle)) (conserved.parameter-round (args .angle)) (loop .inv)
+    (meeting.say (contract.parameterShown (args .s .now)
+    (parameterNameRow (contract.point (args .s .now) (loop .c)))) contract.parameterSaid
+    ((c .before .before .p) .given .1) (parameter .ensures)) (λ v h. (h .0, h .1)) in
     omega (arith, n .1, n .0 .moved .inList .within)
 
 loop-again : tie.Need-loop-again Inv-loop μ-loop
@@ -48,7 +51,8 @@ loop-again c =
     let loop = c .before .before .before .before .before .before .before .before .loop in
     let parameter = c .before .before .before .before .before .before .parameter in
     rounds-more (reading.parameter (args .angle)) (conserved.parameter-round (args .angle)) (loop .inv)
-    (meeting.say (contract.parameterShown (args .s .now) (parameterNameRow (contract.point (args .s .now) (loop .c)))) contract.parameterSaid ((c .before .before .p) .given .1)
+    (meeting.say (contract.parameterShown (args .s .now) (parameterNameRow (contract.point (args .s .now) (loop .c))))
+    contract.parameterSaid ((c .before .before .p) .given .1)
     (parameter .ensures))
     (λ v h. (h .0, h .1)) .0
 
@@ -67,7 +71,8 @@ returns c =
     let loop = c .before .before .before .before .before .before .before .loop in
     let parameter = c .before .before .before .before .before .parameter in
     rounds-done (reading.parameter (args .angle)) (conserved.parameter-round (args .angle)) (loop .inv)
-    (meeting.say (contract.parameterShown (args .s .now) (parameterNameRow (contract.point (args .s .now) (loop .c)))) contract.parameterSaid ((c .before .d) .given .1)
+    (meeting.say (contract.parameterShown (args .s .now) (parameterNameRow (contract.point (args .s .now) (loop .c))))
+    contract.parameterSaid ((c .before .d) .given .1)
     (parameter .ensures))
     (λ v h. h)
 
@@ -86,7 +91,8 @@ returns-2 c =
     let loop = c .before .before .before .before .before .before .before .loop in
     let parameter = c .before .before .before .before .before .parameter in
     rounds-refused (reading.parameter (args .angle)) (conserved.parameter-round (args .angle)) (loop .inv)
-    (meeting.say (contract.parameterShown (args .s .now) (parameterNameRow (contract.point (args .s .now) (loop .c)))) contract.parameterSaid ((c .before .r) .given .1)
+    (meeting.say (contract.parameterShown (args .s .now) (parameterNameRow (contract.point (args .s .now) (loop .c))))
+    contract.parameterSaid ((c .before .r) .given .1)
     (parameter .ensures))
 
 pub parameters-spec : {M : Type 1} → statement M

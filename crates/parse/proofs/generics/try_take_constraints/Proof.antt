@@ -78,7 +78,8 @@ returns-4 c =
     let pre = c .before .before .before .before .before .before .before .before .before .before .before .before .before .before .before .before .before .before .before .before .pre in
     let peek = c .before .before .before .before .before .before .before .before .before .before .before .before .before .before .before .before .before .peek in
     let t = c .before .before .before .before .before .before .before .before .before .before .before .before .before .before .before .t in
-    let ident-eq = c .before .before .before .before .before .before .before .before .before .before .before .before .ident-eq in
+    let ident-eq =
+    c .before .before .before .before .before .before .before .before .before .before .before .before .ident-eq in
     let if1 = c .before .before .before .before .before .before .before .before .before .before .before .if1 in
     let take-token = c .before .before .before .before .before .before .before .before .before .take-token in
     let read-tokens-until-punct = c .before .before .before .before .before .read-tokens-until-punct in
@@ -97,7 +98,8 @@ returns-5 c =
     let pre = c .before .before .before .before .before .before .before .before .before .before .before .before .before .before .before .before .before .before .before .before .pre in
     let peek = c .before .before .before .before .before .before .before .before .before .before .before .before .before .before .before .before .before .peek in
     let t = c .before .before .before .before .before .before .before .before .before .before .before .before .before .before .before .t in
-    let ident-eq = c .before .before .before .before .before .before .before .before .before .before .before .before .ident-eq in
+    let ident-eq =
+    c .before .before .before .before .before .before .before .before .before .before .before .before .ident-eq in
     let if1 = c .before .before .before .before .before .before .before .before .before .before .before .if1 in
     let take-token = c .before .before .before .before .before .before .before .before .before .take-token in
     let read-tokens-until-punct = c .before .before .before .before .before .read-tokens-until-punct in

@@ -21,7 +21,8 @@ same-length c = search needs
 
 returns : tie.Need-returns
 returns c =
-    let args = c .before .before .before .before .before .before .before .before .before .before .before .before .args in
+    let args =
+    c .before .before .before .before .before .before .before .before .before .before .before .before .args in
     let consume-punct-if = c .before .before .before .before .before .before .before .before .consume-punct-if in
     let if1 = c .before .before .before .before .if1 in
     λ n.
@@ -45,7 +46,8 @@ same-length-2 c = search needs
 
 returns-2 : tie.Need-returns-2
 returns-2 c =
-    let args = c .before .before .before .before .before .before .before .before .before .before .before .before .args in
+    let args =
+    c .before .before .before .before .before .before .before .before .before .before .before .before .args in
     let consume-punct-if = c .before .before .before .before .before .before .before .before .consume-punct-if in
     let if1 = c .before .before .before .before .if1 in
     λ n.

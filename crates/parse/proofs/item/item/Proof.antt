@@ -38,10 +38,12 @@ enum-known-h c = search needs
 parts-requires : tie.Need-parts-requires
 parts-requires c κs =
     let args = c .before .before .before .before .before .before .before .before .before .before .before .before .before .before .before .before .before .before .before .before .before .before .before .args in
-    let try-take2 = c .before .before .before .before .before .before .before .before .before .before .before .before .try-take2 in
+    let try-take2 =
+    c .before .before .before .before .before .before .before .before .before .before .before .before .try-take2 in
     let take = c .before .before .before .before .before .before .before .before .take in
     let h = c .before .before .before .before .h in
-    meeting.landed (meeting.say (contract.headShown (args .s .now) (try-take2 .result)) contract.headSaid (h .given .1) (take .ensures))
+    meeting.landed (meeting.say (contract.headShown (args .s .now) (try-take2 .result)) contract.headSaid (h .given .1)
+    (take .ensures))
 
 same-length : tie.Need-same-length
 same-length c = search needs
@@ -91,7 +93,8 @@ returns-3 c =
     let start =
     places.meets-beyond reading.visibility (try-take2 .ensures) .here
     ∙ ap (beyond reading.visibility) (places.meets-beyond reading.attributes attributes .here) in
-    let generics = subst (λ (x : Point). contract.CursorAt s (beyond reading.dataType x) (h .given .0 .0 .next)) start (places.meets-beyond reading.dataType head) in
+    let generics = subst (λ (x : Point). contract.CursorAt s (beyond reading.dataType x) (h .given .0 .0 .next)) start
+    (places.meets-beyond reading.dataType head) in
     items.item-placed ((c .before .before .parts) .result)
     (meeting.meets-then _ attributes
     (λ a _.
@@ -99,14 +102,16 @@ returns-3 c =
     (λ v _.
     meeting.meets-then (λ x. partsAfter (x .kind) (x .name)) head
     (λ x k.
-    let name = subst (λ (y : Point). contract.TokenIn s (wordRow (beyond contract.itemWord y)) (h .given .0 .0 .name)) start (k .2) in
+    let name = subst (λ (y : Point). contract.TokenIn s (wordRow (beyond contract.itemWord y)) (h .given .0 .0 .name))
+    start (k .2) in
     meeting.meets-as
     (ap
     (λ kd.
     partsAfter kd (x .name) (h .given .0 .0 .next .row)
     (contract.stream s (h .given .0 .0 .next)))
     (sym (k .0)))
-    (meeting.meets-show (items.parts-placed s (args .c) (h .given .0 .0 .next) (h .given .0 .0 .name) name generics ((c .before .before .parts) .result))
+    (meeting.meets-show (items.parts-placed s (args .c) (h .given .0 .0 .next) (h .given .0 .0 .name) name generics
+    ((c .before .before .parts) .result))
     ((c .before .before .parts) .ensures (x .name) (k .1)))))))
 
 pub item-spec : {M : Type 1} → statement M

@@ -54,8 +54,10 @@ returns c =
 
 read-requires : tie.Need-read-requires
 read-requires c κs =
-    let check = c .before .before .before .before .before .check in
-    (sym (check .ensures .answer) ∙ ap listed.checked ((c .before .before .before .rows) .given .1), (c .before .if1) .left)
+    let check = c .before .before .before .before .before .check in (
+      sym (check .ensures .answer) ∙ ap listed.checked ((c .before .before .before .rows) .given .1),
+      (c .before .if1) .left,
+    )
 
 same-length-2 : tie.Need-same-length-2
 same-length-2 c = search needs

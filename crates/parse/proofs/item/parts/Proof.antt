@@ -57,7 +57,8 @@ same-length-2 c = search needs
 
 returns-2 : tie.Need-returns-2
 returns-2 c =
-    let try-take = c .before .before .before .before .before .before .before .before .before .before .before .before .try-take in
+    let try-take =
+    c .before .before .before .before .before .before .before .before .before .before .before .before .try-take in
     let d = c .before .before .before .before .before .before .before .before .d in
     let try-take-constraints = c .before .before .before .before .before .try-take-constraints in
     λ n t.

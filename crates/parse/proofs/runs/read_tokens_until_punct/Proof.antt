@@ -16,7 +16,8 @@ use mathlib.Core.Path.{_≡_, refl, _∙_, subst}
 use Rattle.parse.proofs.runs.read_tokens_until_punct.Statement.{statement}
 use Rattle.parse.proofs.runs.read_tokens_until_punct.Tie as tie
 
-told : (s : List ℕ) (c : Cursor) (b0 b1 : List ℕ) (st : Stops) (r depth : ℕ) (m : Bool) {t u : RunTurn} → contract.Turned s c b0 b1 st r depth m t → t ≡ u → contract.Turned s c b0 b1 st r depth m u
+told : (s : List ℕ) (c : Cursor) (b0 b1 : List ℕ) (st : Stops) (r depth : ℕ) (m : Bool) {t u : RunTurn} →
+    contract.Turned s c b0 b1 st r depth m t → t ≡ u → contract.Turned s c b0 b1 st r depth m u
 told s c b0 b1 st r depth m h e = subst (contract.Turned s c b0 b1 st r depth m) e h
 
 abbrev Inv-loop : tie.InvT-loop

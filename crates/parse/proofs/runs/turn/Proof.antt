@@ -15,7 +15,8 @@ use borrow.Author.Needs.{needs}
 use Rattle.parse.proofs.runs.turn.Statement.{statement}
 use Rattle.parse.proofs.runs.turn.Tie as tie
 
-deeper-past : (s : List ℕ) (c d : Cursor) (t : Token) (depth e : ℕ) → InList s c → TokenAt s (c .at) t → depth ≤ c .at → d ≡ pastOf c t → e ≤ depth + 1 → e ≤ d .at
+deeper-past : (s : List ℕ) (c d : Cursor) (t : Token) (depth e : ℕ) → InList s c → TokenAt s (c .at) t → depth ≤ c .at →
+    d ≡ pastOf c t → e ≤ depth + 1 → e ≤ d .at
 deeper-past s c d t depth e i k h q x = omega (arith, meeting.past-fits s c t i k, ap (λ (y : Cursor). y .at) q)
 
 peek-requires : tie.Need-peek-requires
@@ -91,13 +92,15 @@ returns-2 c =
     let take-token = c .before .before .take-token in
     let l = meeting.peeked _ _ (peek .ensures) (t .given .1) in
     let a = args in
-    let v = turns.judge-of (stopsOf (a .stops)) (a .depth) (a .minus) _ _ _ (l .token) ∙ sym (judge .ensures) ∙ ap verdictOf (e .given .1) in (
+    let v = turns.judge-of (stopsOf (a .stops)) (a .depth) (a .minus) _ _ _ (l .token) ∙ sym (judge .ensures) ∙
+    ap verdictOf (e .given .1) in (
       turns.turn-leaf (stopsOf (a .stops)) (a .role) (a .s .now) (a .c) (pre .0) (a .depth) (a .minus) (t .given .0 .0)
           l (take-token .result) (a .roles .now) _ (e .given .0 .0) (e .given .0 .1 .0) (take-token .ensures .0)
           (take-token .ensures .1) v,
       deeper-past (a .s .now) (a .c) (take-token .result) (t .given .0 .0) (a .depth) (e .given .0 .0) (pre .0)
           (l .token) (pre .1) (take-token .ensures .0)
-          (turns.deep-after (stopsOf (a .stops)) (a .depth) (e .given .0 .0) (a .minus) (e .given .0 .1 .0) (rowOf (a .s .now) (t .given .0 .0)) v),
+          (turns.deep-after (stopsOf (a .stops)) (a .depth) (e .given .0 .0) (a .minus) (e .given .0 .1 .0)
+          (rowOf (a .s .now) (t .given .0 .0)) v),
     )
 
 returns-3 : tie.Need-returns-3
@@ -110,7 +113,8 @@ returns-3 c =
     let a = args in (
       turns.turn-leaf-ends (stopsOf (a .stops)) (a .role) (a .s .now) (a .c) (pre .0) (a .depth) (a .minus)
           (t .given .0 .0) l _
-          (turns.judge-of (stopsOf (a .stops)) (a .depth) (a .minus) _ _ _ (l .token) ∙ sym ((c .before .before .before .judge) .ensures) ∙ ap verdictOf ((c .before .e2) .given .1)),
+          (turns.judge-of (stopsOf (a .stops)) (a .depth) (a .minus) _ _ _ (l .token) ∙
+          sym ((c .before .before .before .judge) .ensures) ∙ ap verdictOf ((c .before .e2) .given .1)),
       refl,
     )
 
@@ -147,7 +151,13 @@ returns-5 c =
       turns.turn-group (stopsOf (a .stops)) (a .role) (a .s .now) (a .c) (pre .0) (a .depth) (a .minus)
           (t2 .given .0 .0) g (take-group .result) (a .roles .now) _ (e3 .given .0 .0) (e3 .given .0 .1 .0)
           (take-group .ensures) v,
-      omega (arith, turns.deep-after-group (stopsOf (a .stops)) (a .depth) (e3 .given .0 .0) (t2 .given .0 .0 .mark) (e3 .given .0 .1 .0) v, pre .1, take-group .ensures .forth),
+      omega (
+        arith,
+        turns.deep-after-group (stopsOf (a .stops)) (a .depth) (e3 .given .0 .0) (t2 .given .0 .0 .mark)
+            (e3 .given .0 .1 .0) v,
+        pre .1,
+        take-group .ensures .forth,
+      ),
     )
 
 returns-6 : tie.Need-returns-6
@@ -173,7 +183,8 @@ returns-7 c =
     let g = meeting.peeked _ _ (peek .ensures) (t2 .given .1) in
     let a = args in (
       turns.turn-group-unopened (stopsOf (a .stops)) (a .role) (a .s .now) (a .c) (pre .0) (a .depth) (a .minus)
-          (t2 .given .0 .0) g (sym ((c .before .before .judge-group) .ensures) ∙ ap verdictOf ((c .enum-told3) .given .1)),
+          (t2 .given .0 .0) g (sym ((c .before .before .judge-group) .ensures) ∙
+          ap verdictOf ((c .enum-told3) .given .1)),
       refl,
     )
 

@@ -76,7 +76,8 @@ same-length c = search needs
 
 returns-3 : tie.Need-returns-3
 returns-3 c =
-    let args = c .before .before .before .before .before .before .before .before .before .before .before .before .args in
+    let args =
+    c .before .before .before .before .before .before .before .before .before .before .before .before .args in
     let pre = c .before .before .before .before .before .before .before .before .before .before .before .before .pre in
     let peek = c .before .before .before .before .before .before .before .before .before .peek in
     let t = c .before .before .before .before .before .before .before .t in
@@ -95,7 +96,9 @@ returns-4 c =
     let t2 = c .before .before .before .before .before .t2 in
     let g = meeting.peeked _ _ (peek .ensures) (t2 .given .1) in
     let w = subst (contract.loneShown _ _) ((c .enum-told2) .given .1) ((c .before .before .lone-ident) .ensures) in
-    meeting.meets-same (reading.word (args .role)) _ _ pre _ _ _ _ (meeting.group-stream _ _ _ pre g) (passed-over _ _ _ (sym (ap (λ (d : Cursor). reading.lone reading.isIdent (contract.stream (args .s .now) d)) ((c .before .before .before .past) .ensures)) ∙ w)) refl
+    meeting.meets-same (reading.word (args .role)) _ _ pre _ _ _ _ (meeting.group-stream _ _ _ pre g)
+    (passed-over _ _ _ (sym (ap (λ (d : Cursor). reading.lone reading.isIdent (contract.stream (args .s .now) d))
+    ((c .before .before .before .past) .ensures)) ∙ w)) refl
 
 same-length-2 : tie.Need-same-length-2
 same-length-2 c = search needs
@@ -111,11 +114,20 @@ returns-5 c =
     let w-2 = c .before .before .before .before .before .before .w in
     let g = meeting.peeked _ _ (peek .ensures) (t2 .given .1) in
     let a = args in
-    let w = subst (λ (d : Cursor). contract.loneShown (a .s .now) d (Found (w-2 .given .0 .0))) (past .ensures) (subst (contract.loneShown _ _) (w-2 .given .1) (lone-ident .ensures)) in
-    let m = subst⁻¹ (λ b. contract.Moved (a .s .now) (a .c) (w-2 .given .0 .0 .next) (reading.copied (a .role) (at (a .s .now) (t2 .given .0 .0 .next) .here)) (head (at (a .s .now) (t2 .given .0 .0 .next) .outer)) (a .roles .now) b) ((c .before .before .fill) .ensures) (meeting.group-moved (a .s .now) (a .c) (t2 .given .0 .0) pre (a .roles .now) (a .role) (w-2 .given .0 .0 .next) g (w .4)) in
+    let w = subst (λ (d : Cursor). contract.loneShown (a .s .now) d (Found (w-2 .given .0 .0))) (past .ensures)
+    (subst (contract.loneShown _ _) (w-2 .given .1) (lone-ident .ensures)) in
+    let m = subst⁻¹ (λ b. contract.Moved (a .s .now) (a .c) (w-2 .given .0 .0 .next)
+    (reading.copied (a .role) (at (a .s .now) (t2 .given .0 .0 .next) .here))
+    (head (at (a .s .now) (t2 .given .0 .0 .next) .outer)) (a .roles .now) b) ((c .before .before .fill) .ensures)
+    (meeting.group-moved (a .s .now) (a .c) (t2 .given .0 .0) pre (a .roles .now) (a .role) (w-2 .given .0 .0 .next)
+    g (w .4)) in
     meeting.meets-group (reading.word (a .role)) (a .s .now) (a .c) pre _ (t2 .given .0 .0) g (w-2 .given .0 .0 .next)
-    (a .roles .now) _ _ m _ (chosen _ _ _ (w .0))
-    (_, w .1, ap (reading.found (reading.textOf (at (a .s .now) (t2 .given .0 .0 .next) .here))) (sym (w .3)), places.ident-group _ _ _ _ g (w .5))
+    (a .roles .now) _ _ m _ (chosen _ _ _ (w .0)) (
+      _,
+      w .1,
+      ap (reading.found (reading.textOf (at (a .s .now) (t2 .given .0 .0 .next) .here))) (sym (w .3)),
+      places.ident-group _ _ _ _ g (w .5),
+    )
 
 pub consume-ident-spec : {M : Type 1} → statement M
 consume-ident-spec =

@@ -21,7 +21,13 @@ slice-write-roles : tie.Need-slice-write-roles Inv-loop μ-loop
 slice-write-roles c =
     let args = c .before .before .args in
     let l = c .before .loop in
-    omega (arith, ap length (l .inv .1), length-sets (args .roles .now) (args .from) (replicate (l .i - args .from) (args .role)), c .before .before .pre)
+    omega (
+      arith,
+      ap length (l .inv .1),
+      length-sets (args .roles .now) (args .from) (replicate (l .i - args .from)
+          (args .role)),
+      c .before .before .pre,
+    )
 
 add-i : tie.Need-add-i Inv-loop μ-loop
 add-i c = omega arith
@@ -32,8 +38,13 @@ loop-less c = omega arith
 loop-again : tie.Need-loop-again Inv-loop μ-loop
 loop-again c =
     let l = c .before .loop in
-    let a = c .before .before .args in
-    (omega (arith, l .inv .0), ap (λ xs. set xs (l .i) (a .role)) (l .inv .1) ∙ fill-step (a .roles .now) (a .from) (l .i) (a .role) (l .inv .0), omega (arith, l .inv .0))
+    let a = c .before .before .args in (
+      omega (arith, l .inv .0),
+      ap (λ xs. set xs (l .i)
+          (a .role)) (l .inv .1) ∙ fill-step (a .roles .now) (a .from) (l .i) (a .role)
+          (l .inv .0),
+      omega (arith, l .inv .0),
+    )
 
 same-length : tie.Need-same-length Inv-loop μ-loop
 same-length c = ap length (c .before .loop .inv .1) ∙ simp length-sets

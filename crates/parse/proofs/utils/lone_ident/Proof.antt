@@ -90,7 +90,8 @@ returns-5 c =
 
 returns-6 : tie.Need-returns-6
 returns-6 c =
-    let args = c .before .before .before .before .before .before .before .before .before .before .before .before .args in
+    let args =
+    c .before .before .before .before .before .before .before .before .before .before .before .before .args in
     let pre = c .before .before .before .before .before .before .before .before .before .before .before .before .pre in
     let peek = c .before .before .before .before .before .before .before .before .before .before .peek in
     let t = c .before .before .before .before .before .before .before .before .t in
@@ -100,12 +101,15 @@ returns-6 c =
     let n = meeting.peeked _ _ (c .before .before .before .peek2 .ensures) (c .before .enum-told5 .given .1) in
     let a = args in
     let p = past in
-    let within-group = subst⁻¹ (λ (d : Cursor). follows (at (a .s .now) (d .at) .outer) ≡ true) (p .ensures) (ap follows (sym (l .outer)) ∙ pre .1) in (
+    let within-group = subst⁻¹ (λ (d : Cursor). follows (at (a .s .now) (d .at) .outer) ≡ true) (p .ensures)
+    (ap follows (sym (l .outer)) ∙ pre .1) in (
       ap (reading.lone reading.isIdent) (meeting.leaf-then _ _ _ _ _ l (past .ensures) n) ∙ eq-eqb _ _ (if1 .left),
       record { bytes = ap reading.textOf (l .here); within = meeting.token-within _ _ _ (l .token) },
       if1 .left,
       refl,
-      meeting.leaf-skipped (a .s .now) (a .inside) (c .skip .result) (t .given .0 .0) l (subst (λ (x : Cursor). Skipped (a .s .now) x (c .skip .result)) (p .ensures) (skipped-open (a .s .now) (p .result) (c .skip .result) within-group (c .skip .ensures))),
+      meeting.leaf-skipped (a .s .now) (a .inside) (c .skip .result) (t .given .0 .0) l
+          (subst (λ (x : Cursor). Skipped (a .s .now) x (c .skip .result)) (p .ensures)
+          (skipped-open (a .s .now) (p .result) (c .skip .result) within-group (c .skip .ensures))),
       places.token-in _ _ _ (pre .0) (l .token),
     )
 

@@ -38,7 +38,8 @@ returns c =
     let d = skip .result in
     let p = past in
     let within-group = meeting.follows-of (a .s .now) (a .c) (p .result) (a .t) (p .ensures) (pre .0) (pre .1) in
-    let k = subst (λ (x : Cursor). Skipped (a .s .now) x d) (p .ensures) (skipped-open (a .s .now) (p .result) d within-group (skip .ensures)) in
+    let k = subst (λ (x : Cursor). Skipped (a .s .now) x d) (p .ensures)
+    (skipped-open (a .s .now) (p .result) d within-group (skip .ensures)) in
     subst⁻¹
     (λ b.
     Moved (a .s .now) (a .c) d (reading.copied (a .role) (at (a .s .now) (a .t .next) .here))

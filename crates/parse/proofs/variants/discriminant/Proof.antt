@@ -63,7 +63,8 @@ take-token-requires-2 c κs =
 negative-value-requires : tie.Need-negative-value-requires
 negative-value-requires c κs =
     let pre = c .before .before .before .before .before .before .before .before .before .before .before .before .before .before .before .pre in
-    let peek = c .before .before .before .before .before .before .before .before .before .before .before .before .peek in
+    let peek =
+    c .before .before .before .before .before .before .before .before .before .before .before .before .peek in
     let t = c .before .before .before .before .before .before .before .before .before .before .t in
     meeting.past-in-of _ _ _ _ ((c .before .before .before .take-token2) .ensures .0) pre
     ((meeting.peeked _ _ (peek .ensures) (t .given .1)) .token)
@@ -76,7 +77,8 @@ returns-2 c =
     let args = c .before .before .before .before .before .before .before .before .before .before .before .before .before .before .before .before .before .before .args in
     let pre = c .before .before .before .before .before .before .before .before .before .before .before .before .before .before .before .before .before .before .pre in
     let peek = c .before .before .before .before .before .before .before .before .before .before .before .before .before .before .before .peek in
-    let t = c .before .before .before .before .before .before .before .before .before .before .before .before .before .t in
+    let t =
+    c .before .before .before .before .before .before .before .before .before .before .before .before .before .t in
     let if1 = c .before .before .before .before .before .before .before .before .before .before .if1 in
     let is-punct = c .before .before .before .before .before .before .before .before .before .is-punct in
     let if2 = c .before .before .before .before .before .before .before .before .if2 in
@@ -86,7 +88,8 @@ returns-2 c =
     (passed-over _ _ _ (ne-eqb _ _ (if1 .left)) ∙ chosen _ _ _
     (meeting.punct-of _ _ _ _ ((meeting.peeked _ _ (peek .ensures) (t .given .1)) .token) ∙ sym
     (is-punct .ensures) ∙ if2 .taken))
-    (places.value-past-minus (c .before .before .negative-value .result) (args .c .row) (ap (λ (x : Cursor). x .row) (take-token2 .ensures .0))
+    (places.value-past-minus (c .before .before .negative-value .result) (args .c .row)
+    (ap (λ (x : Cursor). x .row) (take-token2 .ensures .0))
     ((c .before .before .negative-value) .ensures))
 
 returns-3 : tie.Need-returns-3

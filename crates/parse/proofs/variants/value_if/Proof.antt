@@ -73,7 +73,8 @@ returns-2 c =
     let t = c .before .before .before .before .before .t in
     meeting.meets-same reading.valueIf _ _ pre _ _ _ _ ((meeting.peeked _ _ (peek .ensures) (t .given .1)) .here)
     (passed-over _ _ _
-    (meeting.punct-of _ _ _ _ ((meeting.peeked _ _ (peek .ensures) (t .given .1)) .token) ∙ sym ((c .before .before .before .is-punct) .ensures) ∙ (c .before .before .if1) .left) ∙ chosen
+    (meeting.punct-of _ _ _ _ ((meeting.peeked _ _ (peek .ensures) (t .given .1)) .token) ∙
+    sym ((c .before .before .before .is-punct) .ensures) ∙ (c .before .before .if1) .left) ∙ chosen
     _ _ _
     (meeting.punct-of _ _ _ _ ((meeting.peeked _ _ (peek .ensures) (t .given .1)) .token) ∙ sym
     ((c .before .is-punct2) .ensures) ∙ (c .if2) .taken))
@@ -98,7 +99,8 @@ returns-5 c =
     let t = c .before .before .before .before .before .t in
     meeting.meets-refused reading.valueIf _ _ pre _ _ _ _ _ ((meeting.peeked _ _ (peek .ensures) (t .given .1)) .here)
     (passed-over _ _ _
-    (meeting.punct-of _ _ _ _ ((meeting.peeked _ _ (peek .ensures) (t .given .1)) .token) ∙ sym ((c .before .before .before .is-punct) .ensures) ∙ (c .before .before .if1) .left) ∙ passed-over
+    (meeting.punct-of _ _ _ _ ((meeting.peeked _ _ (peek .ensures) (t .given .1)) .token) ∙
+    sym ((c .before .before .before .is-punct) .ensures) ∙ (c .before .before .if1) .left) ∙ passed-over
     _ _ _
     (meeting.punct-of _ _ _ _ ((meeting.peeked _ _ (peek .ensures) (t .given .1)) .token) ∙ sym
     ((c .before .is-punct2) .ensures) ∙ (c .if2) .left))

@@ -50,7 +50,8 @@ returns : tie.Need-returns
 returns c =
     let args = c .before .before .before .before .before .before .before .before .before .before .before .before .before .before .before .args in
     let pre = c .before .before .before .before .before .before .before .before .before .before .before .before .before .before .before .pre in
-    let peek = c .before .before .before .before .before .before .before .before .before .before .before .before .peek in
+    let peek =
+    c .before .before .before .before .before .before .before .before .before .before .before .before .peek in
     let t = c .before .before .before .before .before .before .before .before .before .before .t in
     let if1 = c .before .before .before .before .before .before .before .if1 in
     let named-group = c .before .before .before .before .before .named-group in
@@ -70,7 +71,8 @@ returns-2 : tie.Need-returns-2
 returns-2 c =
     let args = c .before .before .before .before .before .before .before .before .before .before .before .before .before .before .before .args in
     let pre = c .before .before .before .before .before .before .before .before .before .before .before .before .before .before .before .pre in
-    let peek = c .before .before .before .before .before .before .before .before .before .before .before .before .peek in
+    let peek =
+    c .before .before .before .before .before .before .before .before .before .before .before .before .peek in
     let t = c .before .before .before .before .before .before .before .before .before .before .t in
     let past = c .before .before .before .before .before .before .before .before .past in
     let if1 = c .before .before .before .before .before .before .before .if1 in

@@ -45,7 +45,8 @@ variant-fields-requires c κs =
     let args = c .before .before .before .before .before .before .before .before .before .before .args in
     let variant-name = c .before .before .before .before .before .before .variant-name in
     meeting.landed
-    (meeting.say (contract.nameShown (args .s .now) (variantNameRow (contract.point (args .s .now) (args .c)))) contract.nameSaid ((c .before .before .name) .given .1)
+    (meeting.say (contract.nameShown (args .s .now) (variantNameRow (contract.point (args .s .now) (args .c))))
+    contract.nameSaid ((c .before .before .name) .given .1)
     (variant-name .ensures))
 
 enum-known-r-2 : tie.Need-enum-known-r-2
@@ -60,7 +61,8 @@ variant-value-requires c κs =
     let name = c .before .before .before .before .before .before .before .before .before .name in
     let variant-fields = c .before .before .before .before .before .before .variant-fields in
     meeting.landed
-    (meeting.say (contract.fieldsShown (args .s .now) (name .given .0 .1 .0)) contract.fieldsSaid ((c .before .before .fields) .given .1)
+    (meeting.say (contract.fieldsShown (args .s .now) (name .given .0 .1 .0)) contract.fieldsSaid
+    ((c .before .before .fields) .given .1)
     (variant-fields .ensures))
 
 enum-known-r-3 : tie.Need-enum-known-r-3
@@ -78,7 +80,8 @@ returns c =
     let variant-name = c .before .before .before .before .before .variant-name in
     meeting.meets-as (split (args .c .row) (contract.stream (args .s .now) (args .c)))
     (meeting.meets-no rest
-    (meeting.say (contract.nameShown (args .s .now) (variantNameRow (contract.point (args .s .now) (args .c)))) contract.nameSaid ((c .before .r) .given .1)
+    (meeting.say (contract.nameShown (args .s .now) (variantNameRow (contract.point (args .s .now) (args .c))))
+    contract.nameSaid ((c .before .r) .given .1)
     (variant-name .ensures)))
 
 same-length-2 : tie.Need-same-length-2
@@ -92,10 +95,12 @@ returns-2 c =
     let variant-fields = c .before .before .before .before .before .variant-fields in
     meeting.meets-as (split (args .c .row) (contract.stream (args .s .now) (args .c)))
     (meeting.meets-then rest
-    (meeting.say (contract.nameShown (args .s .now) (variantNameRow (contract.point (args .s .now) (args .c)))) contract.nameSaid (name .given .1) (variant-name .ensures))
+    (meeting.say (contract.nameShown (args .s .now) (variantNameRow (contract.point (args .s .now) (args .c))))
+    contract.nameSaid (name .given .1) (variant-name .ensures))
     (λ n h.
     meeting.meets-no (valued n)
-    (meeting.say (contract.fieldsShown (args .s .now) (name .given .0 .1 .0)) contract.fieldsSaid ((c .before .r2) .given .1)
+    (meeting.say (contract.fieldsShown (args .s .now) (name .given .0 .1 .0)) contract.fieldsSaid
+    ((c .before .r2) .given .1)
     (variant-fields .ensures))))
 
 same-length-3 : tie.Need-same-length-3
@@ -112,7 +117,8 @@ returns-3 c =
     let e = fields .given .0 .1 .0 in
     meeting.meets-as (split (args .c .row) (contract.stream (args .s .now) (args .c)))
     (meeting.meets-then rest
-    (meeting.say (contract.nameShown (args .s .now) (variantNameRow (contract.point (args .s .now) (args .c)))) contract.nameSaid (name .given .1) (variant-name .ensures))
+    (meeting.say (contract.nameShown (args .s .now) (variantNameRow (contract.point (args .s .now) (args .c))))
+    contract.nameSaid (name .given .1) (variant-name .ensures))
     (λ n h.
     meeting.meets-then (valued n)
     (meeting.say (contract.fieldsShown (args .s .now) (name .given .0 .1 .0)) contract.fieldsSaid (fields .given .1)
@@ -121,7 +127,8 @@ returns-3 c =
     meeting.meets-as
     (bodies.comma-as (e .row) (reading.valueIf (e .row) (contract.stream (args .s .now) e)) (made n f))
     (meeting.meets-no _
-    (meeting.say (contract.valueShown (args .s .now) (literalRow (e .row + 1))) contract.valueSaid ((c .before .r3) .given .1)
+    (meeting.say (contract.valueShown (args .s .now) (literalRow (e .row + 1))) contract.valueSaid
+    ((c .before .r3) .given .1)
     (variant-value .ensures))))))
 
 same-length-4 : tie.Need-same-length-4
@@ -137,8 +144,11 @@ returns-4 c =
     let variant-value = c .before .before .before .before .before .variant-value in
     let e = fields-2 .given .0 .1 .0 in
     let d = name-2 .given .0 .1 .0 in
-    let named = meeting.say (contract.nameShown (args .s .now) (variantNameRow (contract.point (args .s .now) (args .c)))) contract.nameSaid (name-2 .given .1) (variant-name .ensures) in
-    let grouped = meeting.say (contract.fieldsShown (args .s .now) d) contract.fieldsSaid (fields-2 .given .1) (variant-fields .ensures) in
+    let named = meeting.say (contract.nameShown (args .s .now)
+    (variantNameRow (contract.point (args .s .now) (args .c)))) contract.nameSaid (name-2 .given .1)
+    (variant-name .ensures) in
+    let grouped = meeting.say (contract.fieldsShown (args .s .now) d) contract.fieldsSaid (fields-2 .given .1)
+    (variant-fields .ensures) in
     let group = places.meets-beyond variantName named .here in
     let equals = places.meets-beyond reading.variantFields grouped .here ∙ ap (beyond reading.variantFields) group in
     meeting.meets-as (split (args .c .row) (contract.stream (args .s .now) (args .c)))
@@ -156,10 +166,12 @@ returns-4 c =
       record {
         name = h .1;
         fields = subst (λ (x : Point). contract.FieldsIn (x .row) (fields-2 .given .0 .0)) group (k .1);
-        value = subst (λ (x : Point). contract.ValueIn (args .s .now) (literalRow (x .row + 1) v) ((c .before .value) .given .0 .0)) equals (w .1);
+        value = subst (λ (x : Point). contract.ValueIn (args .s .now) (literalRow (x .row + 1) v)
+            ((c .before .value) .given .0 .0)) equals (w .1);
       },
     ))
-    (meeting.say (contract.valueShown (args .s .now) (literalRow (e .row + 1))) contract.valueSaid ((c .before .value) .given .1)
+    (meeting.say (contract.valueShown (args .s .now) (literalRow (e .row + 1))) contract.valueSaid
+    ((c .before .value) .given .1)
     (variant-value .ensures))))))
 
 pub variant-here-spec : {M : Type 1} → statement M

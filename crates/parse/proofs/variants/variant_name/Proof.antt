@@ -32,7 +32,8 @@ enum-told c = search needs
 
 wrong-token-requires : tie.Need-wrong-token-requires
 wrong-token-requires c κs =
-    let try-take = c .before .before .before .before .before .before .before .before .before .before .before .try-take in
+    let try-take =
+    c .before .before .before .before .before .before .before .before .before .before .before .try-take in
     let d = c .before .before .before .before .before .before .before .d in
     meeting.landed (meeting.say (λ x. contract.any) contract.stepSaid (d .given .1) (try-take .ensures))
 
@@ -53,7 +54,8 @@ same-length-2 c = search needs
 
 returns-2 : tie.Need-returns-2
 returns-2 c =
-    let try-take = c .before .before .before .before .before .before .before .before .before .before .before .before .try-take in
+    let try-take =
+    c .before .before .before .before .before .before .before .before .before .before .before .before .try-take in
     let d = c .before .before .before .before .before .before .before .before .d in
     let consume-ident = c .before .before .before .before .before .consume-ident in
     meeting.meets-then name (meeting.say (λ x. contract.any) contract.stepSaid (d .given .1) (try-take .ensures))

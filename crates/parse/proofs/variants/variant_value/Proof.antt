@@ -22,7 +22,8 @@ consume-punct-if-requires c κs =
     let args = c .before .before .before .before .before .before .before .before .before .before .args in
     let value-if = c .before .before .before .before .before .before .value-if in
     meeting.landed
-    (meeting.say (contract.valueShown (args .s .now) (literalRow (args .c .row + 1))) contract.valueSaid ((c .before .before .v) .given .1)
+    (meeting.say (contract.valueShown (args .s .now) (literalRow (args .c .row + 1))) contract.valueSaid
+    ((c .before .before .v) .given .1)
     (value-if .ensures))
 
 same-length : tie.Need-same-length
@@ -33,7 +34,8 @@ returns c =
     let args = c .before .before .before .before .before .before .before .before .before .args in
     let value-if = c .before .before .before .before .before .value-if in
     meeting.meets-no bodies.commaAfter
-    (meeting.say (contract.valueShown (args .s .now) (literalRow (args .c .row + 1))) contract.valueSaid ((c .before .r) .given .1)
+    (meeting.say (contract.valueShown (args .s .now) (literalRow (args .c .row + 1))) contract.valueSaid
+    ((c .before .r) .given .1)
     (value-if .ensures))
 
 same-length-2 : tie.Need-same-length-2
@@ -45,7 +47,8 @@ returns-2 c =
     let value-if = c .before .before .before .before .before .before .before .before .before .before .value-if in
     let v = c .before .before .before .before .before .before .v in
     meeting.meets-then bodies.commaAfter
-    (meeting.say (contract.valueShown (args .s .now) (literalRow (args .c .row + 1))) contract.valueSaid (v .given .1) (value-if .ensures))
+    (meeting.say (contract.valueShown (args .s .now) (literalRow (args .c .row + 1))) contract.valueSaid (v .given .1)
+    (value-if .ensures))
     (λ a h. meeting.meets-map _ (λ u. a) (λ u k. h) ((c .before .before .before .consume-punct-if) .ensures))
 
 pub variant-value-spec : {M : Type 1} → statement M

@@ -38,7 +38,9 @@ loop-less c =
     let args = c .before .before .before .before .before .before .before .before .before .before .before .args in
     let loop = c .before .before .before .before .before .before .before .before .loop in
     let variant = c .before .before .before .before .before .before .variant in
-    let n = rounds-more reading.variant conserved.variant-round (loop .inv) (meeting.say (contract.variantShown (args .s .now) (loop .c)) contract.variantSaid ((c .before .before .v) .given .1) (variant .ensures)) (λ v h. (h .0, h .1)) in
+    let n = rounds-more reading.variant conserved.variant-round (loop .inv)
+    (meeting.say (contract.variantShown (args .s .now) (loop .c)) contract.variantSaid
+    ((c .before .before .v) .given .1) (variant .ensures)) (λ v h. (h .0, h .1)) in
     omega (arith, n .1, n .0 .moved .inList .within)
 
 loop-again : tie.Need-loop-again Inv-loop μ-loop
@@ -47,7 +49,8 @@ loop-again c =
     let loop = c .before .before .before .before .before .before .before .before .loop in
     let variant = c .before .before .before .before .before .before .variant in
     rounds-more reading.variant conserved.variant-round (loop .inv)
-    (meeting.say (contract.variantShown (args .s .now) (loop .c)) contract.variantSaid ((c .before .before .v) .given .1)
+    (meeting.say (contract.variantShown (args .s .now) (loop .c)) contract.variantSaid
+    ((c .before .before .v) .given .1)
     (variant .ensures))
     (λ v h. (h .0, h .1)) .0
 

@@ -30,7 +30,8 @@ close-group-requires c κs =
     let d = c .before .before .d in (
       meeting.landed (meeting.say contract.countShown contract.countSaid (d .given .1) (variants .ensures)),
       bodies.closing-follows _ _ _ _ (pre .0) (pre .1) (args .roles .now) _ (take-token .ensures .0)
-          (take-token .ensures .1) (meeting.say contract.countShown contract.countSaid (d .given .1) (variants .ensures)),
+          (take-token .ensures .1) (meeting.say contract.countShown contract.countSaid (d .given .1)
+          (variants .ensures)),
     )
 
 same-length : tie.Need-same-length

@@ -48,7 +48,12 @@ returns-2 c =
     let pre = c .before .before .before .before .before .before .before .before .before .before .before .pre in
     let peek = c .before .before .before .before .before .before .before .before .peek in
     let t = c .before .before .before .before .before .before .t in
-    meeting.meets-same reading.scopeAfter _ _ pre _ _ _ _ (meeting.group-stream _ _ _ pre (meeting.peeked _ _ (peek .ensures) (t .given .1))) (passed-over _ _ _ (and-last _ _ (eq-eqb _ _ ((c .before .before .before .if1) .left)) ∙ sym (ap (λ (d : Cursor). reading.scoped (contract.stream (args .s .now) d)) ((c .before .before .past) .ensures)) ∙ sym ((c .before .is-scoped) .ensures) ∙ not-true _ ((c .if2) .taken))) tt
+    meeting.meets-same reading.scopeAfter _ _ pre _ _ _ _
+    (meeting.group-stream _ _ _ pre (meeting.peeked _ _ (peek .ensures) (t .given .1)))
+    (passed-over _ _ _ (and-last _ _ (eq-eqb _ _ ((c .before .before .before .if1) .left)) ∙
+    sym (ap (λ (d : Cursor). reading.scoped (contract.stream (args .s .now) d))
+    ((c .before .before .past) .ensures)) ∙ sym ((c .before .is-scoped) .ensures) ∙
+    not-true _ ((c .if2) .taken))) tt
 
 take-group-requires : tie.Need-take-group-requires
 take-group-requires c κs =
@@ -76,13 +81,18 @@ returns-5 : tie.Need-returns-5
 returns-5 c =
     let args = c .before .before .before .before .before .before .before .before .before .before .before .before .before .before .before .args in
     let pre = c .before .before .before .before .before .before .before .before .before .before .before .before .before .before .before .pre in
-    let peek = c .before .before .before .before .before .before .before .before .before .before .before .before .peek in
+    let peek =
+    c .before .before .before .before .before .before .before .before .before .before .before .before .peek in
     let t = c .before .before .before .before .before .before .before .before .before .before .t in
     let if1 = c .before .before .before .before .before .before .before .if1 in
     let past = c .before .before .before .before .before .before .past in
     let is-scoped = c .before .before .before .before .before .is-scoped in
     let if2 = c .before .before .before .before .if2 in
-    meeting.meets-group reading.scopeAfter _ _ pre _ _ (meeting.peeked _ _ (peek .ensures) (t .given .1)) _ _ _ _ ((c .before .before .take-group) .ensures) _ (chosen _ _ _ (and-last _ _ (eq-eqb _ _ (if1 .left)) ∙ sym (ap (λ (d : Cursor). reading.scoped (contract.stream (args .s .now) d)) (past .ensures)) ∙ sym (is-scoped .ensures) ∙ not-false _ (if2 .left))) tt
+    meeting.meets-group reading.scopeAfter _ _ pre _ _ (meeting.peeked _ _ (peek .ensures) (t .given .1)) _ _ _ _
+    ((c .before .before .take-group) .ensures) _ (chosen _ _ _
+    (and-last _ _ (eq-eqb _ _ (if1 .left)) ∙ sym (ap
+    (λ (d : Cursor). reading.scoped (contract.stream (args .s .now) d)) (past .ensures)) ∙
+    sym (is-scoped .ensures) ∙ not-false _ (if2 .left))) tt
 
 pub scope-after-spec : {M : Type 1} → statement M
 scope-after-spec =

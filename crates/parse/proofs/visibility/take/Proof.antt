@@ -17,11 +17,15 @@ use borrow.Author.Needs.{needs}
 use Rattle.parse.proofs.visibility.take.Statement.{statement}
 use Rattle.parse.proofs.visibility.take.Tie as tie
 
-lone-shown : (s : List ℕ) (d e : Cursor) (p q : MaybeWord) → d ≡ e → p ≡ q → contract.loneShown s d p → contract.loneShown s e q
+lone-shown : (s : List ℕ) (d e : Cursor) (p q : MaybeWord) → d ≡ e → p ≡ q → contract.loneShown s d p →
+    contract.loneShown s e q
 lone-shown s d e p q x y h = subst (contract.loneShown s e) y (subst (λ (z : Cursor). contract.loneShown s z p) x h)
 
-copied-row : {A : Type 0} (k : Reader A) (r row : ℕ) (ts us : Trees) → onward (reading.copied r ts) (k (row + reading.whole ts) us) ≡ onward (reading.copied r ts) (k (row + length (reading.copied r ts)) us)
-copied-row k r row ts us = ap (λ (n : ℕ). onward (reading.copied r ts) (k (row + n) us)) (sym (length-replicate (reading.whole ts) r))
+copied-row : {A : Type 0} (k : Reader A) (r row : ℕ) (ts us : Trees) →
+    onward (reading.copied r ts) (k (row + reading.whole ts) us) ≡
+    onward (reading.copied r ts) (k (row + length (reading.copied r ts)) us)
+copied-row k r row ts us =
+    ap (λ (n : ℕ). onward (reading.copied r ts) (k (row + n) us)) (sym (length-replicate (reading.whole ts) r))
 
 peek-requires : tie.Need-peek-requires
 peek-requires c κs = search needs
@@ -98,7 +102,8 @@ returns-2 : tie.Need-returns-2
 returns-2 c =
     let args = c .before .before .before .before .before .before .before .before .before .before .before .before .before .before .before .args in
     let pre = c .before .before .before .before .before .before .before .before .before .before .before .before .before .before .before .pre in
-    let peek = c .before .before .before .before .before .before .before .before .before .before .before .before .peek in
+    let peek =
+    c .before .before .before .before .before .before .before .before .before .before .before .before .peek in
     let t2 = c .before .before .before .before .before .before .before .before .before .before .t2 in
     let past = c .before .before .before .before .before .before .before .before .past in
     let lone-ident = c .before .before .before .before .before .before .before .lone-ident in
@@ -149,7 +154,8 @@ returns-5 c =
     let pre = c .before .before .before .before .before .before .before .before .before .before .pre in
     let peek = c .before .before .before .before .before .before .before .peek in
     let t2 = c .before .before .before .before .before .t2 in
-    let w = lone-shown _ _ _ _ _ ((c .before .before .before .past) .ensures) ((c .enum-told2) .given .1) ((c .before .before .lone-ident) .ensures) in
+    let w = lone-shown _ _ _ _ _ ((c .before .before .before .past) .ensures) ((c .enum-told2) .given .1)
+    ((c .before .before .lone-ident) .ensures) in
     let ins = at (args .s .now) (t2 .given .0 .0 .next) .here in
     meeting.meets-same reading.visibility _ _ pre _ _ _ _
     (meeting.group-stream _ _ _ pre (meeting.peeked _ _ (peek .ensures) (t2 .given .1)))
@@ -166,7 +172,8 @@ returns-6 c =
     let t2 = c .before .before .before .before .before .before .before .before .before .before .before .before .before .before .before .before .before .before .t2 in
     let past = c .before .before .before .before .before .before .before .before .before .before .before .before .before .before .before .before .past in
     let lone-ident = c .before .before .before .before .before .before .before .before .before .before .before .before .before .before .before .lone-ident in
-    let w-2 = c .before .before .before .before .before .before .before .before .before .before .before .before .before .w in
+    let w-2 =
+    c .before .before .before .before .before .before .before .before .before .before .before .before .before .w in
     let ident-eq2 = c .before .before .before .before .before .before .before .before .before .ident-eq2 in
     let if2 = c .before .before .before .before .before .before .before .before .if2 in
     let take-group = c .before .before .before .before .before .before .take-group in
@@ -176,7 +183,8 @@ returns-6 c =
     meeting.meets-group-from reading.visibility _ _ pre _ _ (meeting.peeked _ _ (peek .ensures) (t2 .given .1)) _ _ _ _
     (take-group .ensures) _ _ reading.anyScope
     (chosen _ _ _
-    (meeting.lone-word reading.PUB ins (w .0) ∙ ap (λ x. same x reading.PUB) (w .1 .bytes) ∙ sym (and-last _ _ (eq-eqb _ _ (w .2))) ∙ sym (ident-eq2 .ensures) ∙ not-false _ (if2 .left)) ∙ copied-row
+    (meeting.lone-word reading.PUB ins (w .0) ∙ ap (λ x. same x reading.PUB) (w .1 .bytes) ∙
+    sym (and-last _ _ (eq-eqb _ _ (w .2))) ∙ sym (ident-eq2 .ensures) ∙ not-false _ (if2 .left)) ∙ copied-row
     reading.anyScope 4 (args .c .row) ins aft)
     ((c .before .before .any-scope) .ensures)
 

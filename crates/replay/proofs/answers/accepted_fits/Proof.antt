@@ -13,7 +13,8 @@ sub-if1 c = search needs
 returns : tie.Need-returns
 returns c =
     let a = (c .before .before .before .args) in
-    sym (accepted-short (a .s .now) (a .roles .now) (a .start) (a .end) ((c .before .before .before .pre) .0) ((c .before .before .before .pre) .1) ((c .if1) .taken))
+    sym (accepted-short (a .s .now) (a .roles .now) (a .start) (a .end) ((c .before .before .before .pre) .0)
+    ((c .before .before .before .pre) .1) ((c .if1) .taken))
 
 add-letters : tie.Need-add-letters
 add-letters c = search needs
@@ -27,7 +28,10 @@ text-is-requires c κs = search needs
 returns-2 : tie.Need-returns-2
 returns-2 c =
     let a = (c .before .before .before .before .before .before .args) in
-    sym (accepted-parts (a .s .now) (a .roles .now) (a .start) (a .end) ((c .before .before .before .before .before .before .pre) .0) ((c .before .before .before .before .before .before .pre) .1) ((c .before .before .before .if1) .left) ∙ and-fails _ _ (sym ((c .before .text-is) .ensures) ∙ not-true _ ((c .if2) .taken)))
+    sym (accepted-parts (a .s .now) (a .roles .now) (a .start) (a .end)
+    ((c .before .before .before .before .before .before .pre) .0)
+    ((c .before .before .before .before .before .before .pre) .1) ((c .before .before .before .if1) .left) ∙
+    and-fails _ _ (sym ((c .before .text-is) .ensures) ∙ not-true _ ((c .if2) .taken)))
 
 letters-fit-requires : tie.Need-letters-fit-requires
 letters-fit-requires c κs = search needs
@@ -35,7 +39,11 @@ letters-fit-requires c κs = search needs
 returns-3 : tie.Need-returns-3
 returns-3 c =
     let a = (c .before .before .before .before .before .before .before .args) in
-    (c .letters-fit) .ensures ∙ sym (accepted-parts (a .s .now) (a .roles .now) (a .start) (a .end) ((c .before .before .before .before .before .before .before .pre) .0) ((c .before .before .before .before .before .before .before .pre) .1) ((c .before .before .before .before .if1) .left) ∙ and-last _ _ (sym ((c .before .before .text-is) .ensures) ∙ not-false _ ((c .before .if2) .left)))
+    (c .letters-fit) .ensures ∙ sym (accepted-parts (a .s .now) (a .roles .now) (a .start) (a .end)
+    ((c .before .before .before .before .before .before .before .pre) .0)
+    ((c .before .before .before .before .before .before .before .pre) .1)
+    ((c .before .before .before .before .if1) .left) ∙
+    and-last _ _ (sym ((c .before .before .text-is) .ensures) ∙ not-false _ ((c .before .if2) .left)))
 
 pub accepted-fits-spec : {M : Type 1} → statement M
 accepted-fits-spec =

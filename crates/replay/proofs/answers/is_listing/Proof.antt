@@ -34,7 +34,8 @@ slice-aggregate-text-is : tie.Need-slice-aggregate-text-is
 slice-aggregate-text-is c =
     let d = c .before .before .before .before .before .write-listing in
     let room = d .ensures .0 .room in
-    sym (length-take-le (c .before .before .n .given .0 .0) (d .last .1 .0) (rw (c .before .before .n .given .1) at room))
+    sym (length-take-le (c .before .before .n .given .0 .0) (d .last .1 .0)
+    (rw (c .before .before .n .given .1) at room))
 
 text-is-requires : tie.Need-text-is-requires
 text-is-requires c κs = search needs
@@ -45,7 +46,8 @@ returns c =
     let a = b .before .before .before .before .before .args in
     let d = b .write-listing in
     let e = sym (ap (listedAs (d .last .1 .0)) (c .before .before .r .given .1)) ∙ d .ensures .0 .answer in
-    c .is-refusal .ensures ∙ ap (listingFits (slice (a .start) (a .end) (a .s .now))) (e ∙ sym (ap (answer (a .list .now)) (b .before .before .listing-buffer .ensures)))
+    c .is-refusal .ensures ∙ ap (listingFits (slice (a .start) (a .end) (a .s .now)))
+    (e ∙ sym (ap (answer (a .list .now)) (b .before .before .listing-buffer .ensures)))
 
 returns-2 : tie.Need-returns-2
 returns-2 c =
@@ -53,7 +55,8 @@ returns-2 c =
     let a = b .before .before .before .before .before .args in
     let d = b .write-listing in
     let e = sym (ap (listedAs (d .last .1 .0)) (c .before .before .before .n .given .1)) ∙ d .ensures .0 .answer in
-    c .text-is .ensures ∙ ap (listingFits (slice (a .start) (a .end) (a .s .now))) (e ∙ sym (ap (answer (a .list .now)) (b .before .before .listing-buffer .ensures)))
+    c .text-is .ensures ∙ ap (listingFits (slice (a .start) (a .end) (a .s .now)))
+    (e ∙ sym (ap (answer (a .list .now)) (b .before .before .listing-buffer .ensures)))
 
 pub is-listing-spec : {M : Type 1} → statement M
 is-listing-spec =

@@ -28,13 +28,20 @@ enum-known-n c = search needs
 
 array-share-prefix-roles : tie.Need-array-share-prefix-roles
 array-share-prefix-roles c =
-    let f = found ((c .before .n) .given .0 .0) (answer ((c .before .before .before .before .before .before .before .before .before .args) .list .now) (length ((c .before .before .before .before .before .before .role-buffer) .result))) ((c .before .n) .given .1) ((c .before .before .before .before .read-roles) .ensures .0) in
+    let f = found ((c .before .n) .given .0 .0) (answer
+    ((c .before .before .before .before .before .before .before .before .before .args) .list .now)
+    (length ((c .before .before .before .before .before .before .role-buffer) .result))) ((c .before .n) .given .1)
+    ((c .before .before .before .before .read-roles) .ensures .0) in
     f .within
 
 slice-aggregate-accepted-fits : tie.Need-slice-aggregate-accepted-fits
 slice-aggregate-accepted-fits c =
-    let f = found ((c .before .before .n) .given .0 .0) (answer ((c .before .before .before .before .before .before .before .before .before .before .args) .list .now) (length ((c .before .before .before .before .before .before .before .role-buffer) .result))) ((c .before .before .n) .given .1) ((c .before .before .before .before .before .read-roles) .ensures .0) in
-    sym (length-take-le ((c .before .before .n) .given .0 .0) ((c .before .before .before .before .before .read-roles) .last .1 .0) (f .within))
+    let f = found ((c .before .before .n) .given .0 .0)
+    (answer ((c .before .before .before .before .before .before .before .before .before .before .args) .list .now)
+    (length ((c .before .before .before .before .before .before .before .role-buffer) .result)))
+    ((c .before .before .n) .given .1) ((c .before .before .before .before .before .read-roles) .ensures .0) in
+    sym (length-take-le ((c .before .before .n) .given .0 .0)
+    ((c .before .before .before .before .before .read-roles) .last .1 .0) (f .within))
 
 accepted-fits-requires : tie.Need-accepted-fits-requires
 accepted-fits-requires c κs = search needs
@@ -42,14 +49,26 @@ accepted-fits-requires c κs = search needs
 returns : tie.Need-returns
 returns c =
     let a = (c .before .before .before .before .before .before .before .before .before .before .args) in
-    let none = not-found ((c .before .before .before .before .before .read-roles) .last .1 .0) ((c .before .before .r) .given .0 .0) (answer (a .list .now) (length ((c .before .before .before .before .before .before .before .role-buffer) .result))) ((c .before .before .r) .given .1) ((c .before .before .before .before .before .read-roles) .ensures .0) in
-    (c .is-refusal) .ensures ∙ sym (ap (rolesFit (slice (a .start) (a .end) (a .s .now))) (ap (answer (a .list .now)) ((c .before .before .before .before .before .before .before .role-buffer) .ensures) ∙ none))
+    let none = not-found ((c .before .before .before .before .before .read-roles) .last .1 .0)
+    ((c .before .before .r) .given .0 .0) (answer (a .list .now)
+    (length ((c .before .before .before .before .before .before .before .role-buffer) .result)))
+    ((c .before .before .r) .given .1) ((c .before .before .before .before .before .read-roles) .ensures .0) in
+    (c .is-refusal) .ensures ∙ sym (ap (rolesFit (slice (a .start) (a .end) (a .s .now)))
+    (ap (answer (a .list .now))
+    ((c .before .before .before .before .before .before .before .role-buffer) .ensures) ∙ none))
 
 returns-2 : tie.Need-returns-2
 returns-2 c =
-    let f = found ((c .before .before .before .n) .given .0 .0) (answer ((c .before .before .before .before .before .before .before .before .before .before .before .args) .list .now) (length ((c .before .before .before .before .before .before .before .before .role-buffer) .result))) ((c .before .before .before .n) .given .1) ((c .before .before .before .before .before .before .read-roles) .ensures .0) in
+    let f = found ((c .before .before .before .n) .given .0 .0)
+    (answer
+    ((c .before .before .before .before .before .before .before .before .before .before .before .args) .list .now)
+    (length ((c .before .before .before .before .before .before .before .before .role-buffer) .result)))
+    ((c .before .before .before .n) .given .1)
+    ((c .before .before .before .before .before .before .read-roles) .ensures .0) in
     let a = (c .before .before .before .before .before .before .before .before .before .before .before .args) in
-    (c .accepted-fits) .ensures ∙ sym (ap (rolesFit (slice (a .start) (a .end) (a .s .now))) (ap (answer (a .list .now)) ((c .before .before .before .before .before .before .before .before .role-buffer) .ensures) ∙ f .same))
+    (c .accepted-fits) .ensures ∙ sym (ap (rolesFit (slice (a .start) (a .end) (a .s .now)))
+    (ap (answer (a .list .now))
+    ((c .before .before .before .before .before .before .before .before .role-buffer) .ensures) ∙ f .same))
 
 pub is-roles-spec : {M : Type 1} → statement M
 is-roles-spec =

@@ -18,7 +18,11 @@ is-one-of-requires c κs = search needs
 
 returns-2 : tie.Need-returns-2
 unfolding letterFits
-returns-2 c = rw (eq-eqb ((c .before .before .before .before .args) .letter) 46 ((c .before .before .before .if1) .taken), (c .before .before .if2) .left) (ap not ((c .is-one-of) .ensures))
+returns-2 c =
+    rw (
+      eq-eqb ((c .before .before .before .before .args) .letter) 46 ((c .before .before .before .if1) .taken),
+      (c .before .before .if2) .left,
+    ) (ap not ((c .is-one-of) .ensures))
 
 add-result : tie.Need-add-result
 add-result c = search needs

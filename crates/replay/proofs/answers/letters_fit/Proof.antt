@@ -11,7 +11,8 @@ use Rattle.replay.proofs.answers.letters_fit.Statement.{statement}
 use Rattle.replay.proofs.answers.letters_fit.Tie as tie
 
 abbrev Inv-loop : tie.InvT-loop
-Inv-loop s start end roles every at₀ i₀ t8 at i = lettersFit every (slice start end s) roles ≡ lettersFit every (slice at end s) (drop i roles)
+Inv-loop s start end roles every at₀ i₀ t8 at i =
+    lettersFit every (slice start end s) roles ≡ lettersFit every (slice at end s) (drop i roles)
 
 abbrev μ-loop : tie.MeasureT-loop
 μ-loop s start end roles every at₀ i₀ t8 at i = length roles - i
@@ -22,7 +23,8 @@ loop-holds c = refl
 returns : tie.Need-returns Inv-loop μ-loop
 returns c =
     let a = (c .before .before .before .before .before .args) in
-    sym ((c .before .before .loop) .inv ∙ fits-short (a .every) (a .s .now) (a .roles .now) (a .end) (omega arith) ((c .before .before .loop) .at) ((c .before .before .loop) .i) (omega arith) (omega arith))
+    sym ((c .before .before .loop) .inv ∙ fits-short (a .every) (a .s .now) (a .roles .now) (a .end) (omega arith)
+    ((c .before .before .loop) .at) ((c .before .before .loop) .i) (omega arith) (omega arith))
 
 shared-slice-read-letter-fits : tie.Need-shared-slice-read-letter-fits Inv-loop μ-loop
 shared-slice-read-letter-fits c = omega arith
@@ -36,7 +38,11 @@ letter-fits-requires c κs = search needs
 returns-2 : tie.Need-returns-2 Inv-loop μ-loop
 returns-2 c =
     let a = (c .before .before .before .before .before .before .before .before .before .args) in
-    sym ((c .before .before .before .before .before .before .loop) .inv ∙ fits-fails (a .every) (a .s .now) (a .roles .now) (a .end) (omega arith) ((c .before .before .before .before .before .before .loop) .at) ((c .before .before .before .before .before .before .loop) .i) (omega arith) (omega arith) (sym ((c .before .letter-fits) .ensures) ∙ not-true _ ((c .if2) .taken)))
+    sym ((c .before .before .before .before .before .before .loop) .inv ∙
+    fits-fails (a .every) (a .s .now) (a .roles .now) (a .end) (omega arith)
+    ((c .before .before .before .before .before .before .loop) .at)
+    ((c .before .before .before .before .before .before .loop) .i) (omega arith) (omega arith)
+    (sym ((c .before .letter-fits) .ensures) ∙ not-true _ ((c .if2) .taken)))
 
 add-at : tie.Need-add-at Inv-loop μ-loop
 add-at c = omega arith
@@ -50,7 +56,11 @@ loop-less c = omega arith
 loop-again : tie.Need-loop-again Inv-loop μ-loop
 loop-again c =
     let a = (c .before .before .before .before .before .before .before .before .before .args) in
-    (c .before .before .before .before .before .before .loop) .inv ∙ fits-next (a .every) (a .s .now) (a .roles .now) (a .end) (omega arith) ((c .before .before .before .before .before .before .loop) .at) ((c .before .before .before .before .before .before .loop) .i) (omega arith) (omega arith) (sym ((c .before .letter-fits) .ensures) ∙ not-false _ ((c .if2) .left))
+    (c .before .before .before .before .before .before .loop) .inv ∙
+    fits-next (a .every) (a .s .now) (a .roles .now) (a .end) (omega arith)
+    ((c .before .before .before .before .before .before .loop) .at)
+    ((c .before .before .before .before .before .before .loop) .i) (omega arith) (omega arith)
+    (sym ((c .before .letter-fits) .ensures) ∙ not-false _ ((c .if2) .left))
 
 slice-aggregate-text-is : tie.Need-slice-aggregate-text-is Inv-loop μ-loop
 slice-aggregate-text-is c = search needs
@@ -61,7 +71,9 @@ text-is-requires c κs = search needs
 returns-3 : tie.Need-returns-3 Inv-loop μ-loop
 returns-3 c =
     let a = (c .before .before .before .before .before .before .args) in
-    (c .text-is) .ensures ∙ sym ((c .before .before .before .loop) .inv ∙ fits-end (a .every) (a .s .now) (a .roles .now) (a .end) (omega arith) ((c .before .before .before .loop) .at) ((c .before .before .before .loop) .i) (omega arith))
+    (c .text-is) .ensures ∙ sym ((c .before .before .before .loop) .inv ∙
+    fits-end (a .every) (a .s .now) (a .roles .now) (a .end) (omega arith) ((c .before .before .before .loop) .at)
+    ((c .before .before .before .loop) .i) (omega arith))
 
 pub letters-fit-spec : {M : Type 1} → statement M
 letters-fit-spec =

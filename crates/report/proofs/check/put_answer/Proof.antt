@@ -34,7 +34,8 @@ returns c =
     let n = e .before .before .before .before in
     let t = n .before .before .before .before in
     let m = t .before .before .before .before in (
-      rw (m .answer .given .1) (joined (t .put-bytes .ensures) (joined (n .put-number .ensures .0) (e .put-byte .ensures))),
+      rw (m .answer .given .1) (joined (t .put-bytes .ensures)
+          (joined (n .put-number .ensures .0) (e .put-byte .ensures))),
       omega (arith, t .put-bytes .ensures .next, n .put-number .ensures .1, e .put-byte .ensures .next),
     )
 

@@ -34,12 +34,18 @@ loop-less c = omega arith
 loop-again : tie.Need-loop-again Inv-loop μ-loop
 loop-again c =
     let args = c .before .before .before .before .args in
-    let loop = c .before .before .before .loop in
-    (omega arith, omega (arith, loop .inv .1, assigned-next (args .roles .now) (loop .i) (omega arith) ((c .if1) .left)))
+    let loop = c .before .before .before .loop in (
+      omega arith,
+      omega (arith, loop .inv .1, assigned-next (args .roles .now) (loop .i) (omega arith) ((c .if1) .left)),
+    )
 
 returns-2 : tie.Need-returns-2 Inv-loop μ-loop
 returns-2 c =
-    omega (arith, (c .before .loop) .inv .1, assigned-end ((c .before .before .args) .roles .now) ((c .before .loop) .i) (omega arith))
+    omega (
+      arith,
+      (c .before .loop) .inv .1,
+      assigned-end ((c .before .before .args) .roles .now) ((c .before .loop) .i) (omega arith),
+    )
 
 pub count-assigned-spec : {M : Type 1} → statement M
 count-assigned-spec =

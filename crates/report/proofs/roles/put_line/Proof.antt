@@ -28,8 +28,18 @@ returns c =
     let put-byte = c .before .before .before .before .before .before .before .before .before .before .put-byte in
     let put-number2 = c .before .before .before .before .before .before .put-number2 in
     let put-byte2 = c .before .before .put-byte2 in (
-      joined (put-number .ensures .0) (joined (put-byte .ensures) (joined (put-number2 .ensures .0) (put-byte2 .ensures))),
-      omega (arith, put-number .ensures .0 .next, put-byte .ensures .next, put-number2 .ensures .0 .next, put-byte2 .ensures .next, decimal-within 3 (args .row) (omega arith), decimal-within 2 (args .role) (omega arith)),
+      joined (put-number .ensures .0) (joined (put-byte .ensures)
+          (joined (put-number2 .ensures .0) (put-byte2 .ensures))),
+      omega (
+        arith,
+        put-number .ensures .0 .next,
+        put-byte .ensures .next,
+        put-number2 .ensures .0 .next,
+        put-byte2 .ensures .next,
+        decimal-within 3 (args .row) (omega arith),
+        decimal-within 2 (args .role)
+            (omega arith),
+      ),
     )
 
 pub put-line-spec : {M : Type 1} → statement M

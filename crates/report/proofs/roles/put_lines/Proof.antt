@@ -44,7 +44,9 @@ loop-again c =
     let more : l .i < length t = omega arith in
     let count : 0 + length (take (l .i) t) ≡ l .i = omega (arith, length-take-le (l .i) t (l .inv .0)) in
     let lines : roleLines 0 (take (l .i + 1) t) ≡ roleLines 0 (take (l .i) t) ++ roleLine (l .i) (getD t (l .i) 0) =
-    ap (roleLines 0) (ap (λ (k : ℕ). take k t) (add-one (l .i)) ∙ take-suc t (l .i) 0 more) ∙ lines-more 0 (take (l .i) t) (getD t (l .i) 0) ∙ ap (λ (k : ℕ). roleLines 0 (take (l .i) t) ++ roleLine k (getD t (l .i) 0)) count in (
+    ap (roleLines 0) (ap (λ (k : ℕ). take k t) (add-one (l .i)) ∙ take-suc t (l .i) 0 more) ∙
+    lines-more 0 (take (l .i) t) (getD t (l .i) 0) ∙
+    ap (λ (k : ℕ). roleLines 0 (take (l .i) t) ++ roleLine k (getD t (l .i) 0)) count in (
       omega arith,
       omega (arith, l .inv .1, put-line .ensures .1),
       rw lines (joined (l .inv .2) (put-line .ensures .0)),
@@ -56,8 +58,10 @@ same-length c = kept ((c .before .loop) .inv .2)
 returns : tie.Need-returns Inv-loop μ-loop
 returns c =
     let args = c .before .before .before .before .args in
-    let t = args .roles .now in
-    (rw (take-all ((c .before .loop) .i) t (omega arith)) at ((c .before .loop) .inv .2), omega (arith, (c .before .loop) .inv .1))
+    let t = args .roles .now in (
+      rw (take-all ((c .before .loop) .i) t (omega arith)) at ((c .before .loop) .inv .2),
+      omega (arith, (c .before .loop) .inv .1),
+    )
 
 pub put-lines-spec : {M : Type 1} → statement M
 put-lines-spec =

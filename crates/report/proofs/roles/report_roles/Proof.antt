@@ -30,7 +30,8 @@ put-bytes-requires c κs = search needs
 slice-reshare-prefix-put-lines : tie.Need-slice-reshare-prefix-put-lines
 slice-reshare-prefix-put-lines c =
     let args = c .before .before .before .before .before .before .before .before .before .before .before .before .before .before .before .before .args in
-    let read-roles = c .before .before .before .before .before .before .before .before .before .before .before .read-roles in
+    let read-roles =
+    c .before .before .before .before .before .before .before .before .before .before .before .read-roles in
     let n = c .before .before .before .before .before .before .before .n in
     found (n .given .0 .0) (answer (args .list .now) (length (args .roles .now))) (n .given .1)
     (read-roles .ensures .0) .within
@@ -38,7 +39,8 @@ slice-reshare-prefix-put-lines c =
 slice-aggregate-put-lines : tie.Need-slice-aggregate-put-lines
 slice-aggregate-put-lines c =
     let args = c .before .before .before .before .before .before .before .before .before .before .before .before .before .before .before .before .before .args in
-    let read-roles = c .before .before .before .before .before .before .before .before .before .before .before .before .read-roles in
+    let read-roles =
+    c .before .before .before .before .before .before .before .before .before .before .before .before .read-roles in
     let n = c .before .before .before .before .before .before .before .before .n in
     sym
     (length-take-le (n .given .0 .0) (read-roles .last .1 .0)
@@ -48,13 +50,17 @@ slice-aggregate-put-lines c =
 put-lines-requires : tie.Need-put-lines-requires
 put-lines-requires c κs =
     let args = c .before .before .before .before .before .before .before .before .before .before .before .before .before .before .before .before .before .args in
-    let read-roles = c .before .before .before .before .before .before .before .before .before .before .before .before .read-roles in
+    let read-roles =
+    c .before .before .before .before .before .before .before .before .before .before .before .before .read-roles in
     let n = c .before .before .before .before .before .before .before .before .n in
     let put-bytes = c .before .before .before .before .put-bytes in
     let a = args in
     let k = read-roles in
-    let f = found (n .given .0 .0) (answer (a .list .now) (length (a .roles .now))) (n .given .1) (k .ensures .0) in
-    (omega (arith, put-bytes .ensures .next), few-roles (a .list .now) (length (a .roles .now)) (f .declaration) _ (f .same))
+    let f = found (n .given .0 .0) (answer (a .list .now) (length (a .roles .now))) (n .given .1) (k .ensures .0) in (
+      omega (arith, put-bytes .ensures .next),
+      few-roles (a .list .now) (length
+          (a .roles .now)) (f .declaration) _ (f .same),
+    )
 
 same-length : tie.Need-same-length
 same-length c = search needs
@@ -68,8 +74,14 @@ returns c =
     let read-roles = c .before .before .before .before .before .before .before .before .before .read-roles in
     let r = c .before .before .before .before .before .r in
     let put-refusal = c .before .before .put-refusal in
-    let none = not-found (read-roles .last .1 .0) (r .given .0 .0) (answer (args .list .now) (length (args .roles .now))) (r .given .1) (read-roles .ensures .0) in
-    (rw none (put-refusal .ensures .0), (read-roles .ensures .1 .0, (omega (arith, put-refusal .ensures .1), read-roles .ensures .1 .1)))
+    let none = not-found (read-roles .last .1 .0) (r .given .0 .0)
+    (answer (args .list .now) (length (args .roles .now))) (r .given .1) (read-roles .ensures .0) in (
+      rw none (put-refusal .ensures .0),
+      (
+        read-roles .ensures .1 .0,
+        (omega (arith, put-refusal .ensures .1), read-roles .ensures .1 .1),
+      ),
+    )
 
 same-length-3 : tie.Need-same-length-3
 same-length-3 c = search needs

@@ -32,13 +32,27 @@ abbrev walk-μ-loop : walk-lts.MeasureT-loop
 walk-μ-loop s levels at₀ row₀ at row = length s - at
 
 -- src/check.rt:48:5
-walk-loop-holds : (t : ℕ) → walk-lts.Need-loop-holds (line-shape-reads.Asked, line-shape-reads.Learnt, walk-below t, walk.Post, closer-reads.Asked, closer-reads.Learnt) (walk-at t) walk.Post walk-Inv-loop walk-μ-loop
+walk-loop-holds : (t : ℕ) → walk-lts.Need-loop-holds (
+  line-shape-reads.Asked,
+  line-shape-reads.Learnt,
+  walk-below t,
+  walk.Post,
+  closer-reads.Asked,
+  closer-reads.Learnt,
+) (walk-at t) walk.Post walk-Inv-loop walk-μ-loop
 walk-loop-holds t c =
     let i = c .before .pre .1 in
     record { counted = i .counted; within = i .within; from = omega arith; same = λ gs e. refl }
 
 -- src/check.rt:50:13
-walk-returns : (t : ℕ) → walk-lts.Need-returns (line-shape-reads.Asked, line-shape-reads.Learnt, walk-below t, walk.Post, closer-reads.Asked, closer-reads.Learnt) (walk-at t) walk.Post walk-Inv-loop walk-μ-loop
+walk-returns : (t : ℕ) → walk-lts.Need-returns (
+  line-shape-reads.Asked,
+  line-shape-reads.Learnt,
+  walk-below t,
+  walk.Post,
+  closer-reads.Asked,
+  closer-reads.Learnt,
+) (walk-at t) walk.Post walk-Inv-loop walk-μ-loop
 walk-returns t c =
     let l = c .before .before .loop in
     let a = c .before .before .before .before .args in
@@ -46,20 +60,43 @@ walk-returns t c =
     (c .if1 .taken)
 
 -- src/check.rt:52:13
-walk-line-shape-requires : (t : ℕ) → walk-lts.Need-line-shape-requires (line-shape-reads.Asked, line-shape-reads.Learnt, walk-below t, walk.Post, closer-reads.Asked, closer-reads.Learnt) (walk-at t) walk.Post walk-Inv-loop walk-μ-loop
+walk-line-shape-requires : (t : ℕ) → walk-lts.Need-line-shape-requires
+    (line-shape-reads.Asked, line-shape-reads.Learnt, walk-below t, walk.Post, closer-reads.Asked, closer-reads.Learnt)
+    (walk-at t) walk.Post walk-Inv-loop walk-μ-loop
 walk-line-shape-requires t c κs = search needs
 
 -- src/check.rt:54:21
-walk-add-below : (t : ℕ) → walk-lts.Need-add-below (line-shape-reads.Asked, line-shape-reads.Learnt, walk-below t, walk.Post, closer-reads.Asked, closer-reads.Learnt) (walk-at t) walk.Post walk-Inv-loop walk-μ-loop
+walk-add-below : (t : ℕ) → walk-lts.Need-add-below (
+  line-shape-reads.Asked,
+  line-shape-reads.Learnt,
+  walk-below t,
+  walk.Post,
+  closer-reads.Asked,
+  closer-reads.Learnt,
+) (walk-at t) walk.Post walk-Inv-loop walk-μ-loop
 walk-add-below t c =
     omega (arith, c .before .before .before .loop .inv .counted, c .before .before .before .loop .inv .within)
 
 -- src/check.rt:58:42
-walk-enum-told : (t : ℕ) → walk-lts.Need-enum-told (line-shape-reads.Asked, line-shape-reads.Learnt, walk-below t, walk.Post, closer-reads.Asked, closer-reads.Learnt) (walk-at t) walk.Post walk-Inv-loop walk-μ-loop
+walk-enum-told : (t : ℕ) → walk-lts.Need-enum-told (
+  line-shape-reads.Asked,
+  line-shape-reads.Learnt,
+  walk-below t,
+  walk.Post,
+  closer-reads.Asked,
+  closer-reads.Learnt,
+) (walk-at t) walk.Post walk-Inv-loop walk-μ-loop
 walk-enum-told t c = search needs
 
 -- src/check.rt:58:17
-walk-returns-2 : (t : ℕ) → walk-lts.Need-returns-2 (line-shape-reads.Asked, line-shape-reads.Learnt, walk-below t, walk.Post, closer-reads.Asked, closer-reads.Learnt) (walk-at t) walk.Post walk-Inv-loop walk-μ-loop
+walk-returns-2 : (t : ℕ) → walk-lts.Need-returns-2 (
+  line-shape-reads.Asked,
+  line-shape-reads.Learnt,
+  walk-below t,
+  walk.Post,
+  closer-reads.Asked,
+  closer-reads.Learnt,
+) (walk-at t) walk.Post walk-Inv-loop walk-μ-loop
 walk-returns-2 t c =
     let l = c .before .before .before .before .before .loop in
     let a = c .before .before .before .before .before .before .before .args in
@@ -69,20 +106,38 @@ walk-returns-2 t c =
     (c .enum-told .given .1)
 
 -- src/check.rt:61:17
-walk-enum-told-2 : (t : ℕ) → walk-lts.Need-enum-told-2 (line-shape-reads.Asked, line-shape-reads.Learnt, walk-below t, walk.Post, closer-reads.Asked, closer-reads.Learnt) (walk-at t) walk.Post walk-Inv-loop walk-μ-loop
+walk-enum-told-2 : (t : ℕ) → walk-lts.Need-enum-told-2
+    (line-shape-reads.Asked, line-shape-reads.Learnt, walk-below t, walk.Post, closer-reads.Asked, closer-reads.Learnt)
+    (walk-at t) walk.Post walk-Inv-loop walk-μ-loop
 walk-enum-told-2 t c = search needs
 
 -- src/check.rt:48:5
-walk-loop-less : (t : ℕ) → walk-lts.Need-loop-less (line-shape-reads.Asked, line-shape-reads.Learnt, walk-below t, walk.Post, closer-reads.Asked, closer-reads.Learnt) (walk-at t) walk.Post walk-Inv-loop walk-μ-loop
+walk-loop-less : (t : ℕ) → walk-lts.Need-loop-less (
+  line-shape-reads.Asked,
+  line-shape-reads.Learnt,
+  walk-below t,
+  walk.Post,
+  closer-reads.Asked,
+  closer-reads.Learnt,
+) (walk-at t) walk.Post walk-Inv-loop walk-μ-loop
 walk-loop-less t c =
     let l = c .before .before .before .before .before .loop in
     let a = c .before .before .before .before .before .before .before .args in
     let p = c .before .before .line-shape in
-    let n = walks.plain-past (a .s .now) (a .levels) (a .from) (l .at) (l .row) (l .inv) (p .result) (p .ensures) (c .before .before .before .before .loop-test .taken) (c .before .before .before .if1 .left) (c .enum-told2 .given .1) in
+    let n = walks.plain-past (a .s .now) (a .levels) (a .from) (l .at) (l .row) (l .inv) (p .result) (p .ensures)
+    (c .before .before .before .before .loop-test .taken) (c .before .before .before .if1 .left)
+    (c .enum-told2 .given .1) in
     omega (arith, n)
 
 -- src/check.rt:48:5
-walk-loop-again : (t : ℕ) → walk-lts.Need-loop-again (line-shape-reads.Asked, line-shape-reads.Learnt, walk-below t, walk.Post, closer-reads.Asked, closer-reads.Learnt) (walk-at t) walk.Post walk-Inv-loop walk-μ-loop
+walk-loop-again : (t : ℕ) → walk-lts.Need-loop-again (
+  line-shape-reads.Asked,
+  line-shape-reads.Learnt,
+  walk-below t,
+  walk.Post,
+  closer-reads.Asked,
+  closer-reads.Learnt,
+) (walk-at t) walk.Post walk-Inv-loop walk-μ-loop
 walk-loop-again t c =
     let l = c .before .before .before .before .before .loop in
     let a = c .before .before .before .before .before .before .before .args in
@@ -92,11 +147,20 @@ walk-loop-again t c =
     (c .enum-told2 .given .1)
 
 -- src/check.rt:64:27
-walk-enum-known-shape : (t : ℕ) → walk-lts.Need-enum-known-shape (line-shape-reads.Asked, line-shape-reads.Learnt, walk-below t, walk.Post, closer-reads.Asked, closer-reads.Learnt) (walk-at t) walk.Post walk-Inv-loop walk-μ-loop
+walk-enum-known-shape : (t : ℕ) → walk-lts.Need-enum-known-shape
+    (line-shape-reads.Asked, line-shape-reads.Learnt, walk-below t, walk.Post, closer-reads.Asked, closer-reads.Learnt)
+    (walk-at t) walk.Post walk-Inv-loop walk-μ-loop
 walk-enum-known-shape t c = search needs
 
 -- src/check.rt:65:17
-walk-returns-3 : (t : ℕ) → walk-lts.Need-returns-3 (line-shape-reads.Asked, line-shape-reads.Learnt, walk-below t, walk.Post, closer-reads.Asked, closer-reads.Learnt) (walk-at t) walk.Post walk-Inv-loop walk-μ-loop
+walk-returns-3 : (t : ℕ) → walk-lts.Need-returns-3 (
+  line-shape-reads.Asked,
+  line-shape-reads.Learnt,
+  walk-below t,
+  walk.Post,
+  closer-reads.Asked,
+  closer-reads.Learnt,
+) (walk-at t) walk.Post walk-Inv-loop walk-μ-loop
 walk-returns-3 t c =
     let l = c .before .before .before .before .before .before .loop in
     let a = c .before .before .before .before .before .before .before .before .args in
@@ -106,11 +170,20 @@ walk-returns-3 t c =
     (c .before .shape .given .0 .0) (c .before .shape .given .1)
 
 -- src/check.rt:67:26
-walk-enum-known-shape-2 : (t : ℕ) → walk-lts.Need-enum-known-shape-2 (line-shape-reads.Asked, line-shape-reads.Learnt, walk-below t, walk.Post, closer-reads.Asked, closer-reads.Learnt) (walk-at t) walk.Post walk-Inv-loop walk-μ-loop
+walk-enum-known-shape-2 : (t : ℕ) → walk-lts.Need-enum-known-shape-2
+    (line-shape-reads.Asked, line-shape-reads.Learnt, walk-below t, walk.Post, closer-reads.Asked, closer-reads.Learnt)
+    (walk-at t) walk.Post walk-Inv-loop walk-μ-loop
 walk-enum-known-shape-2 t c = search needs
 
 -- src/check.rt:69:21
-walk-returns-4 : (t : ℕ) → walk-lts.Need-returns-4 (line-shape-reads.Asked, line-shape-reads.Learnt, walk-below t, walk.Post, closer-reads.Asked, closer-reads.Learnt) (walk-at t) walk.Post walk-Inv-loop walk-μ-loop
+walk-returns-4 : (t : ℕ) → walk-lts.Need-returns-4 (
+  line-shape-reads.Asked,
+  line-shape-reads.Learnt,
+  walk-below t,
+  walk.Post,
+  closer-reads.Asked,
+  closer-reads.Learnt,
+) (walk-at t) walk.Post walk-Inv-loop walk-μ-loop
 walk-returns-4 t c =
     let l = c .before .before .before .before .before .before .before .loop in
     let a = c .before .before .before .before .before .before .before .before .before .args in
@@ -121,24 +194,47 @@ walk-returns-4 t c =
     (c .before .before .shape2 .given .1) (c .if2 .taken)
 
 -- src/check.rt:71:71
-walk-sub-walk : (t : ℕ) → walk-lts.Need-sub-walk (line-shape-reads.Asked, line-shape-reads.Learnt, walk-below t, walk.Post, closer-reads.Asked, closer-reads.Learnt) (walk-at t) walk.Post walk-Inv-loop walk-μ-loop
+walk-sub-walk : (t : ℕ) → walk-lts.Need-sub-walk (
+  line-shape-reads.Asked,
+  line-shape-reads.Learnt,
+  walk-below t,
+  walk.Post,
+  closer-reads.Asked,
+  closer-reads.Learnt,
+) (walk-at t) walk.Post walk-Inv-loop walk-μ-loop
 walk-sub-walk t c = omega arith
 
 -- src/check.rt:71:21
-walk-walk-requires : (t : ℕ) → walk-lts.Need-walk-requires (line-shape-reads.Asked, line-shape-reads.Learnt, walk-below t, walk.Post, closer-reads.Asked, closer-reads.Learnt) (walk-at t) walk.Post walk-Inv-loop walk-μ-loop
+walk-walk-requires : (t : ℕ) → walk-lts.Need-walk-requires
+    (line-shape-reads.Asked, line-shape-reads.Learnt, walk-below t, walk.Post, closer-reads.Asked, closer-reads.Learnt)
+    (walk-at t) walk.Post walk-Inv-loop walk-μ-loop
 walk-walk-requires t c κs =
     let l = c .before .before .before .before .before .before .before .loop in
     let a = c .before .before .before .before .before .before .before .before .before .args in
     let p = c .before .before .before .before .line-shape in
-    let o = walks.opened-past (a .s .now) (a .levels) (a .from) (l .at) (l .row) (l .inv) (p .result) (p .ensures) (c .before .before .before .before .before .before .loop-test .taken) (c .before .before .before .before .before .if1 .left) (c .before .before .shape2 .given .0 .0) (c .before .before .shape2 .given .1) in
-    (omega (arith, c .before .before .before .before .before .before .before .before .before .pre .0, c .if2 .left), record { counted = omega (arith, o .0, l .inv .counted); within = o .1 })
+    let o = walks.opened-past (a .s .now) (a .levels) (a .from) (l .at) (l .row) (l .inv) (p .result) (p .ensures)
+    (c .before .before .before .before .before .before .loop-test .taken)
+    (c .before .before .before .before .before .if1 .left) (c .before .before .shape2 .given .0 .0)
+    (c .before .before .shape2 .given .1) in (
+      omega (arith, c .before .before .before .before .before .before .before .before .before .pre .0, c .if2 .left),
+      record { counted = omega (arith, o .0, l .inv .counted); within = o .1 },
+    )
 
 -- src/check.rt:74:50
-walk-enum-told-3 : (t : ℕ) → walk-lts.Need-enum-told-3 (line-shape-reads.Asked, line-shape-reads.Learnt, walk-below t, walk.Post, closer-reads.Asked, closer-reads.Learnt) (walk-at t) walk.Post walk-Inv-loop walk-μ-loop
+walk-enum-told-3 : (t : ℕ) → walk-lts.Need-enum-told-3
+    (line-shape-reads.Asked, line-shape-reads.Learnt, walk-below t, walk.Post, closer-reads.Asked, closer-reads.Learnt)
+    (walk-at t) walk.Post walk-Inv-loop walk-μ-loop
 walk-enum-told-3 t c = search needs
 
 -- src/check.rt:74:25
-walk-returns-5 : (t : ℕ) → walk-lts.Need-returns-5 (line-shape-reads.Asked, line-shape-reads.Learnt, walk-below t, walk.Post, closer-reads.Asked, closer-reads.Learnt) (walk-at t) walk.Post walk-Inv-loop walk-μ-loop
+walk-returns-5 : (t : ℕ) → walk-lts.Need-returns-5 (
+  line-shape-reads.Asked,
+  line-shape-reads.Learnt,
+  walk-below t,
+  walk.Post,
+  closer-reads.Asked,
+  closer-reads.Learnt,
+) (walk-at t) walk.Post walk-Inv-loop walk-μ-loop
 walk-returns-5 t c =
     let l = c .before .before .before .before .before .before .before .before .before .before .loop in
     let a = c .before .before .before .before .before .before .before .before .before .before .before .before .args in
@@ -152,11 +248,20 @@ walk-returns-5 t c =
     (w .ensures) (c .enum-told3 .given .0 .0) (c .enum-told3 .given .1)
 
 -- src/check.rt:76:39
-walk-enum-known-inside : (t : ℕ) → walk-lts.Need-enum-known-inside (line-shape-reads.Asked, line-shape-reads.Learnt, walk-below t, walk.Post, closer-reads.Asked, closer-reads.Learnt) (walk-at t) walk.Post walk-Inv-loop walk-μ-loop
+walk-enum-known-inside : (t : ℕ) → walk-lts.Need-enum-known-inside
+    (line-shape-reads.Asked, line-shape-reads.Learnt, walk-below t, walk.Post, closer-reads.Asked, closer-reads.Learnt)
+    (walk-at t) walk.Post walk-Inv-loop walk-μ-loop
 walk-enum-known-inside t c = search needs
 
 -- src/check.rt:77:25
-walk-returns-6 : (t : ℕ) → walk-lts.Need-returns-6 (line-shape-reads.Asked, line-shape-reads.Learnt, walk-below t, walk.Post, closer-reads.Asked, closer-reads.Learnt) (walk-at t) walk.Post walk-Inv-loop walk-μ-loop
+walk-returns-6 : (t : ℕ) → walk-lts.Need-returns-6 (
+  line-shape-reads.Asked,
+  line-shape-reads.Learnt,
+  walk-below t,
+  walk.Post,
+  closer-reads.Asked,
+  closer-reads.Learnt,
+) (walk-at t) walk.Post walk-Inv-loop walk-μ-loop
 walk-returns-6 t c =
     let l = c .before .before .before .before .before .before .before .before .before .before .before .loop in
     let a = c .before .before .before .before .before .before .before .before .before .before .before .before .before .args in
@@ -171,15 +276,26 @@ walk-returns-6 t c =
     (c .before .inside .given .1)
 
 -- src/check.rt:79:37
-walk-enum-known-inside-2 : (t : ℕ) → walk-lts.Need-enum-known-inside-2 (line-shape-reads.Asked, line-shape-reads.Learnt, walk-below t, walk.Post, closer-reads.Asked, closer-reads.Learnt) (walk-at t) walk.Post walk-Inv-loop walk-μ-loop
+walk-enum-known-inside-2 : (t : ℕ) → walk-lts.Need-enum-known-inside-2
+    (line-shape-reads.Asked, line-shape-reads.Learnt, walk-below t, walk.Post, closer-reads.Asked, closer-reads.Learnt)
+    (walk-at t) walk.Post walk-Inv-loop walk-μ-loop
 walk-enum-known-inside-2 t c = search needs
 
 -- src/check.rt:80:28
-walk-closer-requires : (t : ℕ) → walk-lts.Need-closer-requires (line-shape-reads.Asked, line-shape-reads.Learnt, walk-below t, walk.Post, closer-reads.Asked, closer-reads.Learnt) (walk-at t) walk.Post walk-Inv-loop walk-μ-loop
+walk-closer-requires : (t : ℕ) → walk-lts.Need-closer-requires
+    (line-shape-reads.Asked, line-shape-reads.Learnt, walk-below t, walk.Post, closer-reads.Asked, closer-reads.Learnt)
+    (walk-at t) walk.Post walk-Inv-loop walk-μ-loop
 walk-closer-requires t c κs = search needs
 
 -- src/check.rt:81:29
-walk-returns-7 : (t : ℕ) → walk-lts.Need-returns-7 (line-shape-reads.Asked, line-shape-reads.Learnt, walk-below t, walk.Post, closer-reads.Asked, closer-reads.Learnt) (walk-at t) walk.Post walk-Inv-loop walk-μ-loop
+walk-returns-7 : (t : ℕ) → walk-lts.Need-returns-7 (
+  line-shape-reads.Asked,
+  line-shape-reads.Learnt,
+  walk-below t,
+  walk.Post,
+  closer-reads.Asked,
+  closer-reads.Learnt,
+) (walk-at t) walk.Post walk-Inv-loop walk-μ-loop
 walk-returns-7 t c =
     let l = c .before .before .before .before .before .before .before .before .before .before .before .before .before .loop in
     let a = c .before .before .before .before .before .before .before .before .before .before .before .before .before .before .before .args in
@@ -195,7 +311,14 @@ walk-returns-7 t c =
     (i .0 .1 .1 .0) (i .1) (λ q. c .if3 .taken (c .before .closer .ensures ∙ q))
 
 -- src/check.rt:84:31
-walk-add-row : (t : ℕ) → walk-lts.Need-add-row (line-shape-reads.Asked, line-shape-reads.Learnt, walk-below t, walk.Post, closer-reads.Asked, closer-reads.Learnt) (walk-at t) walk.Post walk-Inv-loop walk-μ-loop
+walk-add-row : (t : ℕ) → walk-lts.Need-add-row (
+  line-shape-reads.Asked,
+  line-shape-reads.Learnt,
+  walk-below t,
+  walk.Post,
+  closer-reads.Asked,
+  closer-reads.Learnt,
+) (walk-at t) walk.Post walk-Inv-loop walk-μ-loop
 walk-add-row t c =
     let l = c .before .before .before .before .before .before .before .before .before .before .before .before .before .loop in
     let a = c .before .before .before .before .before .before .before .before .before .before .before .before .before .before .before .args in
@@ -205,7 +328,9 @@ walk-add-row t c =
     omega (arith, walks.closed-past (a .s .now) (a .levels) (a .from) (l .at) (l .row) (l .inv) (p .result) (p .ensures) (c .before .before .before .before .before .before .before .before .before .before .before .before .loop-test .taken) (c .before .before .before .before .before .before .before .before .before .before .before .if1 .left) (c .before .before .before .before .before .before .before .before .shape2 .given .0 .0) (c .before .before .before .before .before .before .before .before .shape2 .given .1) (c .before .before .before .before .before .before .if2 .left) (w .result) (w .ensures) (i .0 .0) (i .0 .1 .0) (i .0 .1 .1 .0) (i .1))
 
 -- src/check.rt:48:5
-walk-loop-less-2 : (t : ℕ) → walk-lts.Need-loop-less-2 (line-shape-reads.Asked, line-shape-reads.Learnt, walk-below t, walk.Post, closer-reads.Asked, closer-reads.Learnt) (walk-at t) walk.Post walk-Inv-loop walk-μ-loop
+walk-loop-less-2 : (t : ℕ) → walk-lts.Need-loop-less-2
+    (line-shape-reads.Asked, line-shape-reads.Learnt, walk-below t, walk.Post, closer-reads.Asked, closer-reads.Learnt)
+    (walk-at t) walk.Post walk-Inv-loop walk-μ-loop
 walk-loop-less-2 t c =
     let l = c .before .before .before .before .before .before .before .before .before .before .before .before .before .loop in
     let a = c .before .before .before .before .before .before .before .before .before .before .before .before .before .before .before .args in
@@ -217,7 +342,9 @@ walk-loop-less-2 t c =
     omega (arith, o, q)
 
 -- src/check.rt:48:5
-walk-loop-again-2 : (t : ℕ) → walk-lts.Need-loop-again-2 (line-shape-reads.Asked, line-shape-reads.Learnt, walk-below t, walk.Post, closer-reads.Asked, closer-reads.Learnt) (walk-at t) walk.Post walk-Inv-loop walk-μ-loop
+walk-loop-again-2 : (t : ℕ) → walk-lts.Need-loop-again-2
+    (line-shape-reads.Asked, line-shape-reads.Learnt, walk-below t, walk.Post, closer-reads.Asked, closer-reads.Learnt)
+    (walk-at t) walk.Post walk-Inv-loop walk-μ-loop
 walk-loop-again-2 t c =
     let l = c .before .before .before .before .before .before .before .before .before .before .before .before .before .loop in
     let a = c .before .before .before .before .before .before .before .before .before .before .before .before .before .before .before .args in
@@ -233,7 +360,14 @@ walk-loop-again-2 t c =
     (i .0 .1 .1 .0) (i .1) (sym (c .before .closer .ensures) ∙ c .if3 .left)
 
 -- src/check.rt:42:1
-walk-returns-8 : (t : ℕ) → walk-lts.Need-returns-8 (line-shape-reads.Asked, line-shape-reads.Learnt, walk-below t, walk.Post, closer-reads.Asked, closer-reads.Learnt) (walk-at t) walk.Post walk-Inv-loop walk-μ-loop
+walk-returns-8 : (t : ℕ) → walk-lts.Need-returns-8 (
+  line-shape-reads.Asked,
+  line-shape-reads.Learnt,
+  walk-below t,
+  walk.Post,
+  closer-reads.Asked,
+  closer-reads.Learnt,
+) (walk-at t) walk.Post walk-Inv-loop walk-μ-loop
 walk-returns-8 t c =
     let l = c .before .loop in
     let a = c .before .before .before .args in

@@ -37,7 +37,11 @@ returns-2 c =
 walk-requires : tie.Need-walk-requires
 walk-requires c κs =
     let args = c .before .before .before .before .args in
-    record { counted = omega arith; within = same-fits (args .s .now) NAMES 10 (sym (c .before .has-names .ensures) ∙ not-false _ (c .if2 .left)) }
+    record {
+      counted = omega arith;
+      within = same-fits (args .s .now) NAMES 10 (sym (c .before .has-names .ensures) ∙
+          not-false _ (c .if2 .left));
+    }
 
 enum-known-rows : tie.Need-enum-known-rows
 enum-known-rows c = search needs
@@ -54,7 +58,8 @@ returns-3 c =
     let has-names = c .before .before .before .before .before .has-names in
     let if2 = c .before .before .before .before .if2 in
     let walk = c .before .before .before .walk in
-    walked _ _ (if1 .left) (sym (has-names .ensures) ∙ not-false _ (if2 .left)) (walk .ensures) (c .before .rows .given .1) refl
+    walked _ _ (if1 .left) (sym (has-names .ensures) ∙ not-false _ (if2 .left)) (walk .ensures)
+    (c .before .rows .given .1) refl
 
 returns-4 : tie.Need-returns-4
 returns-4 c =
@@ -62,7 +67,8 @@ returns-4 c =
     let has-names = c .before .before .before .before .before .has-names in
     let if2 = c .before .before .before .before .if2 in
     let walk = c .before .before .before .walk in
-    walked _ _ (if1 .left) (sym (has-names .ensures) ∙ not-false _ (if2 .left)) (walk .ensures) (c .before .row .given .1) refl
+    walked _ _ (if1 .left) (sym (has-names .ensures) ∙ not-false _ (if2 .left)) (walk .ensures)
+    (c .before .row .given .1) refl
 
 returns-5 : tie.Need-returns-5
 returns-5 c =
@@ -70,7 +76,8 @@ returns-5 c =
     let has-names = c .before .before .before .before .before .has-names in
     let if2 = c .before .before .before .before .if2 in
     let walk = c .before .before .before .walk in
-    walked _ _ (if1 .left) (sym (has-names .ensures) ∙ not-false _ (if2 .left)) (walk .ensures) (c .before .r .given .1) refl
+    walked _ _ (if1 .left) (sym (has-names .ensures) ∙ not-false _ (if2 .left)) (walk .ensures) (c .before .r .given .1)
+    refl
 
 pub check-spec : {M : Type 1} → statement M
 check-spec =

@@ -10,10 +10,14 @@ is-name-start-requires : tie.Need-is-name-start-requires
 is-name-start-requires c κs = search needs
 
 returns : tie.Need-returns
-returns c = sym (ident-form _ _ (c .before .before .if1 .taken) ∙ ap (λ (x : Bool). cond x plain wrong) (name-byte (c .before .before .before .args .b) ∙ sym (c .before .is-name-start .ensures) ∙ c .if2 .taken))
+returns c = sym (ident-form _ _ (c .before .before .if1 .taken) ∙
+    ap (λ (x : Bool). cond x plain wrong) (name-byte (c .before .before .before .args .b) ∙
+    sym (c .before .is-name-start .ensures) ∙ c .if2 .taken))
 
 returns-2 : tie.Need-returns-2
-returns-2 c = sym (ident-form _ _ (c .before .before .if1 .taken) ∙ ap (λ (x : Bool). cond x plain wrong) (name-byte (c .before .before .before .args .b) ∙ sym (c .before .is-name-start .ensures) ∙ c .if2 .left))
+returns-2 c = sym (ident-form _ _ (c .before .before .if1 .taken) ∙
+    ap (λ (x : Bool). cond x plain wrong) (name-byte (c .before .before .before .args .b) ∙
+    sym (c .before .is-name-start .ensures) ∙ c .if2 .left))
 
 starts-literal-requires : tie.Need-starts-literal-requires
 starts-literal-requires c κs = search needs
@@ -21,12 +25,16 @@ starts-literal-requires c κs = search needs
 returns-3 : tie.Need-returns-3
 returns-3 c =
     let args = c .before .before .before .before .args in
-    sym (literal-form _ _ (c .before .before .if3 .taken) ∙ ap (λ (x : Bool). cond x plain wrong) (literal-byte (args .b) ∙ sym (c .before .starts-literal .ensures) ∙ c .if4 .taken))
+    sym (literal-form _ _ (c .before .before .if3 .taken) ∙
+    ap (λ (x : Bool). cond x plain wrong) (literal-byte (args .b) ∙ sym (c .before .starts-literal .ensures) ∙
+    c .if4 .taken))
 
 returns-4 : tie.Need-returns-4
 returns-4 c =
     let args = c .before .before .before .before .args in
-    sym (literal-form _ _ (c .before .before .if3 .taken) ∙ ap (λ (x : Bool). cond x plain wrong) (literal-byte (args .b) ∙ sym (c .before .starts-literal .ensures) ∙ c .if4 .left))
+    sym (literal-form _ _ (c .before .before .if3 .taken) ∙
+    ap (λ (x : Bool). cond x plain wrong) (literal-byte (args .b) ∙ sym (c .before .starts-literal .ensures) ∙
+    c .if4 .left))
 
 mark-shape-requires : tie.Need-mark-shape-requires
 mark-shape-requires c κs = search needs

@@ -21,7 +21,13 @@ returns : tie.Need-returns Inv-loop μ-loop
 returns c =
     let d = c .before .before .before in
     let a = d .before .args in
-    record { start = d .loop .inv .start; found = λ h. scan-found (a .s .now) (a .from) (d .loop .i) h (c .if1 .taken) (d .loop .inv); none = λ h. absurd (omega arith); lf = λ h. c .if1 .taken }
+    record {
+      start = d .loop .inv .start;
+      found = λ h. scan-found (a .s .now) (a .from) (d .loop .i) h (c .if1 .taken)
+          (d .loop .inv);
+      none = λ h. absurd (omega arith);
+      lf = λ h. c .if1 .taken;
+    }
 
 add-i : tie.Need-add-i Inv-loop μ-loop
 add-i c = omega arith
@@ -37,7 +43,13 @@ loop-again c =
 returns-2 : tie.Need-returns-2 Inv-loop μ-loop
 returns-2 c =
     let a = c .before .before .args in
-    record { start = c .before .loop .inv .start; found = λ h. absurd (omega arith); none = λ h. scan-none (a .s .now) (a .from) (c .before .loop .i) h (c .before .loop .inv); lf = λ h. absurd (omega arith) }
+    record {
+      start = c .before .loop .inv .start;
+      found = λ h. absurd (omega arith);
+      none = λ h. scan-none (a .s .now)
+          (a .from) (c .before .loop .i) h (c .before .loop .inv);
+      lf = λ h. absurd (omega arith);
+    }
 
 pub line-end-spec : {M : Type 1} → statement M
 line-end-spec =

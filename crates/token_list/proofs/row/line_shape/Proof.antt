@@ -68,13 +68,16 @@ whole-shape-requires c κs =
     sym (one-byte .ensures) ∙ c .before .before .before .if1 .left
 
 returns-2 : tie.Need-returns-2
-returns-2 c = c .before .before .quick-token .ensures (λ e. no-wrong e (ap (λ (x : Shape). isRow (shape x)) (c .enum-told .given .1)))
+returns-2 c = c .before .before .quick-token .ensures (λ e. no-wrong e
+    (ap (λ (x : Shape). isRow (shape x)) (c .enum-told .given .1)))
 
 returns-3 : tie.Need-returns-3
-returns-3 c = c .before .before .quick-token .ensures (λ e. no-wrong e (ap (λ (x : Shape). isRow (shape x)) (c .enum-told2 .given .1)))
+returns-3 c = c .before .before .quick-token .ensures (λ e. no-wrong e
+    (ap (λ (x : Shape). isRow (shape x)) (c .enum-told2 .given .1)))
 
 returns-4 : tie.Need-returns-4
-returns-4 c = c .before .before .quick-token .ensures (λ e. no-wrong e (ap (λ (x : Shape). isRow (shape x)) (c .enum-told3 .given .1)))
+returns-4 c = c .before .before .quick-token .ensures (λ e. no-wrong e
+    (ap (λ (x : Shape). isRow (shape x)) (c .enum-told3 .given .1)))
 
 returns-5 : tie.Need-returns-5
 returns-5 c = search needs

@@ -12,7 +12,8 @@ use borrow.Author.Needs.{needs}
 use Rattle.token_list.proofs.row.whole_shape.Statement.{statement}
 use Rattle.token_list.proofs.row.whole_shape.Tie as tie
 
-no-row : (s : List ℕ) (at : ℕ) (r : Line) → shape (r .shape) ≡ wrong → formed (lines (drop at s)) ≡ wrong → Shaped s at r
+no-row : (s : List ℕ) (at : ℕ) (r : Line) → shape (r .shape) ≡ wrong → formed (lines (drop at s)) ≡ wrong →
+    Shaped s at r
 no-row s at r e q = record { right = e ∙ sym q; past = λ h. absurd (h e); rest = λ h. absurd (h e) }
 
 line-end-requires : tie.Need-line-end-requires
@@ -78,8 +79,11 @@ text-shape-requires c κs =
     let before = c .before .before .before .before .before .before .before .before in
     let line-end = c .before .before .before .before .before .before .line-end in
     let l = line-end in
-    let d = before in
-    (omega arith, not-one-byte (d .args .s .now) (d .args .at) (l .result) (d .pre) (c .before .before .if3 .left) (omega arith) (l .ensures .lf (omega arith)))
+    let d = before in (
+      omega arith,
+      not-one-byte (d .args .s .now) (d .args .at) (l .result) (d .pre) (c .before .before .if3 .left) (omega arith)
+          (l .ensures .lf (omega arith)),
+    )
 
 returns-5 : tie.Need-returns-5
 returns-5 c =
@@ -88,7 +92,13 @@ returns-5 c =
     let l = line-end in
     let a = args in
     let f = l .ensures .found (omega arith) in
-    record { right = c .text-shape .ensures ∙ sym (ap formed f ∙ form-right (a .s .now) (a .at) (l .result) (omega arith) (omega arith) (c .before .before .before .if3 .left) (omega arith)); past = λ h. (omega arith, omega arith); rest = λ h. (slice (a .at) (l .result) (a .s .now), f) }
+    record {
+      right = c .text-shape .ensures ∙ sym (ap formed f ∙
+          form-right (a .s .now) (a .at) (l .result) (omega arith) (omega arith) (c .before .before .before .if3 .left)
+          (omega arith));
+      past = λ h. (omega arith, omega arith);
+      rest = λ h. (slice (a .at) (l .result) (a .s .now), f);
+    }
 
 pub whole-shape-spec : {M : Type 1} → statement M
 whole-shape-spec =

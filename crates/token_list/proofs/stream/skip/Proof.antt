@@ -57,7 +57,8 @@ loop-again c =
     let loop-test = c .before .before .before .before .loop-test in
     let l = loop in
     let a = args in
-    subst (λ (d : ℕ). Inside (a .s .now) (a .c) (c .before .row-end .result + 1) (l .row + 1) d) (sym (c .deeper .ensures))
+    subst (λ (d : ℕ). Inside (a .s .now) (a .c) (c .before .row-end .result + 1) (l .row + 1) d)
+    (sym (c .deeper .ensures))
     (inside-step (a .s .now) (a .c) (l .i) (l .row) (l .depth) (c .before .row-end .result) (loop-test .taken) (l .inv)
     (c .before .row-end .ensures))
 

@@ -50,7 +50,10 @@ loop-again c =
     let d = c .before .before .before .before in
     let a = d .before .args in
     let e : a .at + d .loop .i + 1 ≡ a .at + (d .loop .i + 1) = omega arith in
-    d .loop .inv ∙ same-next (a .s .now) (a .name .now) (a .at + length (a .name .now)) (omega arith) (a .at + d .loop .i) (d .loop .i) (omega arith) (omega arith) (c .if1 .left) ∙ ap (λ (i : ℕ). same (slice i (a .at + length (a .name .now)) (a .s .now)) (drop (d .loop .i + 1) (a .name .now))) e
+    d .loop .inv ∙ same-next (a .s .now) (a .name .now) (a .at + length (a .name .now)) (omega arith)
+    (a .at + d .loop .i) (d .loop .i) (omega arith) (omega arith) (c .if1 .left) ∙
+    ap (λ (i : ℕ). same (slice i (a .at + length (a .name .now)) (a .s .now))
+    (drop (d .loop .i + 1) (a .name .now))) e
 
 returns-2 : tie.Need-returns-2 Inv-loop μ-loop
 returns-2 c =

@@ -10,7 +10,8 @@ is-name-start-requires : tie.Need-is-name-start-requires
 is-name-start-requires c κs = search needs
 
 returns : tie.Need-returns
-returns c = sym (ap (λ (n : Bool). inText n (c .before .before .before .args .b)) (c .before .before .if1 .taken) ∙ or-holds _ _ (sym (c .before .is-name-start .ensures) ∙ c .if2 .taken))
+returns c = sym (ap (λ (n : Bool). inText n (c .before .before .before .args .b)) (c .before .before .if1 .taken) ∙
+    or-holds _ _ (sym (c .before .is-name-start .ensures) ∙ c .if2 .taken))
 
 is-digit-requires : tie.Need-is-digit-requires
 is-digit-requires c κs = search needs
@@ -18,13 +19,15 @@ is-digit-requires c κs = search needs
 returns-2 : tie.Need-returns-2
 returns-2 c =
     let args = c .before .before .before .before .args in
-    c .is-digit .ensures ∙ sym (ap (λ (n : Bool). inText n (args .b)) (c .before .before .before .if1 .taken) ∙ or-last _ _ (sym (c .before .before .is-name-start .ensures) ∙ c .before .if2 .left))
+    c .is-digit .ensures ∙ sym (ap (λ (n : Bool). inText n (args .b)) (c .before .before .before .if1 .taken) ∙
+    or-last _ _ (sym (c .before .before .is-name-start .ensures) ∙ c .before .if2 .left))
 
 between-requires : tie.Need-between-requires
 between-requires c κs = search needs
 
 returns-3 : tie.Need-returns-3
-returns-3 c = c .between .ensures ∙ sym (ap (λ (n : Bool). inText n (c .before .before .args .b)) (c .before .if1 .left))
+returns-3 c =
+    c .between .ensures ∙ sym (ap (λ (n : Bool). inText n (c .before .before .args .b)) (c .before .if1 .left))
 
 pub in-text-spec : {M : Type 1} → statement M
 in-text-spec =

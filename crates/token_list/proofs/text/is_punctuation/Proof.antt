@@ -46,7 +46,8 @@ returns-3 c =
     let first = sym (between .ensures) ∙ if1 .left in
     let second = sym (c .before .before .before .between2 .ensures) ∙ c .before .before .if2 .left in
     sym
-    (or-last _ _ first ∙ or-last _ _ second ∙ or-holds _ _ (sym (c .before .between3 .ensures) ∙ c .if3 .taken)) ∙ same-set
+    (or-last _ _ first ∙ or-last _ _ second ∙ or-holds _ _ (sym (c .before .between3 .ensures) ∙ c .if3 .taken)) ∙
+    same-set
     (args .b) (search needs)
 
 slice-aggregate-is-one-of : tie.Need-slice-aggregate-is-one-of
@@ -58,7 +59,8 @@ is-one-of-requires c κs = search needs
 returns-4 : tie.Need-returns-4
 returns-4 c =
     let d = c .before .before in
-    let first = sym (d .before .before .before .before .before .between .ensures) ∙ d .before .before .before .before .if1 .left in
+    let first = sym (d .before .before .before .before .before .between .ensures) ∙
+    d .before .before .before .before .if1 .left in
     let second = sym (d .before .before .before .between2 .ensures) ∙ d .before .before .if2 .left in
     let third = sym (d .before .between3 .ensures) ∙ d .if3 .left in
     c .is-one-of .ensures ∙ sym (or-last _ _ first ∙ or-last _ _ second ∙ or-last _ _ third) ∙ same-set

@@ -59,7 +59,13 @@ loop-again c =
 
 returns-2 : tie.Need-returns-2 Inv-loop μ-loop
 returns-2 c =
-    record { start = c .before .loop .inv .0 .start; fits = c .before .loop .inv .1; stops = λ h. absurd (omega arith); line = λ h. absurd (omega arith) }
+    record {
+      start = c .before .loop .inv .0 .start;
+      fits =
+          c .before .loop .inv .1;
+      stops = λ h. absurd (omega arith);
+      line = λ h. absurd (omega arith);
+    }
 
 pub text-end-spec : {M : Type 1} → statement M
 text-end-spec =

@@ -13,7 +13,8 @@ use Rattle.token_list.proofs.text.text_within.Tie as tie
 returns : tie.Need-returns
 returns c =
     let a = c .before .before .before .args in
-    sym (ap (λ (x : List ℕ). same x (a .name .now)) (slice-none (a .s .now) (a .start) (a .end) (omega arith)) ∙ same-none (a .name .now))
+    sym (ap (λ (x : List ℕ). same x (a .name .now)) (slice-none (a .s .now) (a .start) (a .end) (omega arith)) ∙
+    same-none (a .name .now))
 
 returns-2 : tie.Need-returns-2
 returns-2 c =
