@@ -1,17 +1,16 @@
-// The listing of a declaration, written into a lent output. A function that writes answers where the
-// next text goes; what does not fit is left out, and counted all the same.
-use crate::value::put_negative;
-use crate::value::worth;
-use output::put::put_byte;
-use output::put::put_bytes;
-use output::put::put_number;
+// The listing of a declaration: the readers go round once more over what was read, and each thing
+// gets its lines; then the listing's entry points.
+use crate::lines::put_item;
+use crate::lines::put_named;
+use crate::lines::put_parameter;
+use crate::lines::put_unnamed;
+use crate::lines::put_variant;
 use output::put::put_refusal;
 use parse::data_type::DataType;
 use parse::fields::FieldStep;
 use parse::fields::TypeStep;
 use parse::fields::named_field;
 use parse::fields::tuple_field;
-use parse::generics::ParameterAt;
 use parse::generics::ParameterStep;
 use parse::generics::parameter;
 use parse::item::ItemAt;
@@ -20,8 +19,6 @@ use parse::item::item;
 use parse::utils::is_punct;
 use parse::utils::past;
 use parse::variants::FieldsAt;
-use parse::variants::ValueAt;
-use parse::variants::VariantAt;
 use parse::variants::VariantStep;
 use parse::variants::variant;
 use token_list::check::Checked;
@@ -32,93 +29,27 @@ use token_list::check::check;
 use token_list::layout::FIRST_ROW;
 use token_list::layout::MAX_ROWS;
 use token_list::stream::Peeked;
-use token_list::stream::Token;
 use token_list::stream::peek;
 ghost use mathlib.Core.Path.{_≡_};
-ghost use mathlib.Core.List.{List, [], _∷_, _++_};
-ghost use Prim.Native.Nat.{ℕ, _+_, _≤_, _<_};
+ghost use mathlib.Core.List.{List};
+ghost use Prim.Native.Nat.{ℕ, _+_, _≤_};
 ghost use lib.ListN.{length};
-ghost use lib.Seq.{slice};
-ghost use Rattle.token_list.specs.Byte.{SPACE, LF};
 ghost use Rattle.token_list.specs.Layout.{FIRST-ROW, MAX-BYTES};
 ghost use Rattle.token_list.specs.Stream.{Trees, at};
 ghost use Rattle.token_list.specs.Place.{OneRefusal};
 ghost use Rattle.token_list.specs.Contract.{InList};
-ghost use Rattle.output.specs.Text.{decimal};
 ghost use Rattle.output.specs.Contract.{Put};
-ghost use Rattle.reading.specs.Declaration.{Parameter, Generics, parametersOf, Field, Fields, Value, Variant, Body, Declaration};
+ghost use Rattle.reading.specs.Declaration.{Parameter, Generics, parametersOf, Field, Fields, Variant, Body, Declaration};
 ghost use Rattle.reading.specs.Reading.{every, namedField, tupleField, variant, parameter, generics, bodyOf, item};
 ghost use Rattle.reading.specs.Answer.{readNumber};
-ghost use Rattle.parse.specs.Contract.{kindOf, InsideAt, TextOf, ValueOf, FieldsOf, VariantOf, ParameterOf, ItemOf};
-ghost use Rattle.describe.specs.Listing.{FIELD, DASH, line, numbered, kindText, number, parameterLine, namedLine, tupleLine, fieldLines, variantLine, variantLines, bodyLines, itemLines, listing, listed, refused, itemAnswer, fitted, answer};
+ghost use Rattle.parse.specs.Contract.{kindOf, InsideAt, FieldsOf, ItemOf};
+ghost use Rattle.describe.specs.Listing.{numbered, parameterLine, namedLine, tupleLine, fieldLines, variantLines, bodyLines, listing, listed, refused, itemAnswer, fitted, answer};
 ghost use Rattle.describe.specs.Contract.{StructAt, ListedAs, Reported};
 
 // The listing's length, or a refusal.
 pub enum Listed {
     Written(usize),
     Refused(Refusal),
-}
-
-// The text of a token.
-fn put_token(s: &[u8], t: Token, out: &mut [u8], at: usize) -> usize
-    requires { ⌜ t .end ≤ length (now s) ⌝ }
-    requires { ⌜ length (now s) ≤ MAX-BYTES ⌝ }
-    requires { ⌜ at ≤ 1000000000000000000 ⌝ }
-    ensures { λ r. ⌜ Put (now (out .entry)) (now (out .exit)) at r (slice (t .start) (t .end) (now (s .entry))) ⌝ }
-    ensures { λ r. ⌜ r ≤ at + 65536 ⌝ }
-{
-    let start = t.start;
-    let end = t.end;
-    if start < end {
-        return put_bytes(out, at, &s[start..end]);
-    }
-    at
-}
-
-// A part and a name.
-fn put_head(s: &[u8], part: &[u8], name: Token, out: &mut [u8], at: usize) -> usize
-    requires { ⌜ name .end ≤ length (now s) ⌝ }
-    requires { ⌜ length (now s) ≤ MAX-BYTES ⌝ }
-    requires { ⌜ length (now part) ≤ 8 ⌝ }
-    requires { ⌜ at ≤ 100000000000000000 ⌝ }
-    ensures { λ r. ⌜ Put (now (out .entry)) (now (out .exit)) at r
-        (now (part .entry) ++ slice (name .start) (name .end) (now (s .entry))) ⌝ }
-    ensures { λ r. ⌜ r ≤ at + 65544 ⌝ }
-{
-    let word = put_bytes(out, at, part);
-    put_token(s, name, out, word)
-}
-
-// A number that is a count or a position, and the line's end.
-fn put_position(out: &mut [u8], at: usize, n: usize) -> usize
-    requires { ⌜ at ≤ 1000000000000000000 ⌝ }
-    ensures { λ r. ⌜ Put (now (out .entry)) (now (out .exit)) at r (SPACE ∷ (decimal n ++ LF ∷ [])) ⌝ }
-    ensures { λ r. ⌜ r ≤ at + 22 ⌝ }
-{
-    let space = put_byte(out, at, b' ');
-    let end = put_number(out, space, n);
-    put_byte(out, end, b'\n')
-}
-
-fn put_named(s: &[u8], name: Token, out: &mut [u8], at: usize, n: usize) -> usize
-    requires { ⌜ name .end ≤ length (now s) ⌝ }
-    requires { ⌜ length (now s) ≤ MAX-BYTES ⌝ }
-    requires { ⌜ at ≤ 100000000000000000 ⌝ }
-    ensures { λ r. ⌜ Put (now (out .entry)) (now (out .exit)) at r
-        (line FIELD (slice (name .start) (name .end) (now (s .entry))) (decimal n)) ⌝ }
-    ensures { λ r. ⌜ r ≤ at + 65566 ⌝ }
-{
-    let head = put_head(s, b"field ", name, out, at);
-    put_position(out, head, n)
-}
-
-fn put_unnamed(out: &mut [u8], at: usize, n: usize) -> usize
-    requires { ⌜ at ≤ 100000000000000000 ⌝ }
-    ensures { λ r. ⌜ Put (now (out .entry)) (now (out .exit)) at r (line FIELD DASH (decimal n)) ⌝ }
-    ensures { λ r. ⌜ r ≤ at + 65566 ⌝ }
-{
-    let head = put_bytes(out, at, b"field -");
-    put_position(out, head, n)
 }
 
 // The lines of the named fields that are read from `from` on.
@@ -195,44 +126,6 @@ fn field_lines(s: &[u8], fields: FieldsAt, roles: &mut [u8], out: &mut [u8], at:
     }
 }
 
-// A variant's number: its written value, or its position n.
-fn put_value(s: &[u8], v: ValueAt, n: usize, out: &mut [u8], at: usize) -> usize
-    requires { ⌜ ((w : Value) × ValueOf (now s) v w) ⌝ }
-    requires { ⌜ length (now s) ≤ MAX-BYTES ⌝ }
-    requires { ⌜ at ≤ 100000000000000000 ⌝ }
-    ensures { λ r. ⌜ ((w : Value) → ValueOf (now (s .entry)) v w →
-        Put (now (out .entry)) (now (out .exit)) at r (number n w)) ⌝ }
-    ensures { λ r. ⌜ r ≤ at + 65536 ⌝ }
-{
-    match v {
-        ValueAt::Absent => put_number(out, at, n),
-        ValueAt::Literal(t) => put_token(s, t, out, at),
-        ValueAt::Negative(t) => {
-            let start = t.start;
-            let end = t.end;
-            let m = worth(s, start, end);
-            put_negative(out, at, m)
-        }
-    }
-}
-
-// A variant's own line.
-fn put_variant(s: &[u8], v: VariantAt, n: usize, out: &mut [u8], at: usize) -> usize
-    requires { ⌜ ((a : Variant) × VariantOf (now s) v a) ⌝ }
-    requires { ⌜ length (now s) ≤ MAX-BYTES ⌝ }
-    requires { ⌜ at ≤ 10000000000000000 ⌝ }
-    ensures { λ r. ⌜ ((a : Variant) → VariantOf (now (s .entry)) v a →
-        Put (now (out .entry)) (now (out .exit)) at r (variantLine n a)) ⌝ }
-    ensures { λ r. ⌜ r ≤ at + 131082 ⌝ }
-{
-    let name = v.name;
-    let head = put_head(s, b"variant ", name, out, at);
-    let space = put_byte(out, head, b' ');
-    let value = v.value;
-    let end = put_value(s, value, n, out, space);
-    put_byte(out, end, b'\n')
-}
-
 // The lines of the variants that are read from `from` on, each followed by its fields.
 fn variant_lines(s: &[u8], from: Cursor, roles: &mut [u8], out: &mut [u8], start: usize) -> usize
     requires { ⌜ InList (now s) from ⌝ }
@@ -262,23 +155,6 @@ fn variant_lines(s: &[u8], from: Cursor, roles: &mut [u8], out: &mut [u8], start
             }
         }
     }
-}
-
-fn put_parameter(s: &[u8], p: ParameterAt, out: &mut [u8], at: usize) -> usize
-    requires { ⌜ ((a : Parameter) × ParameterOf (now s) (p .lifetime) (p .name) a) ⌝ }
-    requires { ⌜ length (now s) ≤ MAX-BYTES ⌝ }
-    requires { ⌜ at ≤ 10000000000000000 ⌝ }
-    ensures { λ r. ⌜ ((a : Parameter) → ParameterOf (now (s .entry)) (p .lifetime) (p .name) a →
-        Put (now (out .entry)) (now (out .exit)) at r (parameterLine 0 a)) ⌝ }
-    ensures { λ r. ⌜ r ≤ at + 65566 ⌝ }
-{
-    let name = p.name;
-    if p.lifetime {
-        let quoted = put_head(s, b"param '", name, out, at);
-        return put_bytes(out, quoted, b" -\n");
-    }
-    let head = put_head(s, b"param ", name, out, at);
-    put_bytes(out, head, b" -\n")
 }
 
 // The lines of the parameters that are read from `from` on; `angle` is the row of the `<`.
@@ -376,36 +252,6 @@ fn body_lines(s: &[u8], d: ItemAt, roles: &mut [u8], out: &mut [u8], at: usize) 
             }
         }
     }
-}
-
-fn put_kind(s: &[u8], kind: DataType, name: Token, out: &mut [u8], at: usize) -> usize
-    requires { ⌜ name .end ≤ length (now s) ⌝ }
-    requires { ⌜ length (now s) ≤ MAX-BYTES ⌝ }
-    requires { ⌜ at ≤ 1000 ⌝ }
-    ensures { λ r. ⌜ Put (now (out .entry)) (now (out .exit)) at r
-        (kindText (kindOf kind) ++ slice (name .start) (name .end) (now (s .entry))) ⌝ }
-    ensures { λ r. ⌜ r ≤ at + 65544 ⌝ }
-{
-    match kind {
-        DataType::Struct => put_head(s, b"struct ", name, out, at),
-        DataType::Enum => put_head(s, b"enum ", name, out, at),
-    }
-}
-
-// The item's line, after the line of names.
-fn put_item(s: &[u8], d: ItemAt, out: &mut [u8]) -> usize
-    requires { ⌜ ((x : Declaration) × ItemOf (now s) d x) ⌝ }
-    requires { ⌜ length (now s) ≤ MAX-BYTES ⌝ }
-    ensures { λ r. ⌜ ((x : Declaration) → ItemOf (now (s .entry)) d x →
-        Put (now (out .entry)) (now (out .exit)) 0 r (itemLines x)) ⌝ }
-    ensures { λ r. ⌜ r ≤ 70000 ⌝ }
-{
-    let names = put_bytes(out, 0, b"part name number\n");
-    let kind = d.kind;
-    let name = d.name;
-    let head = put_kind(s, kind, name, out, names);
-    let count = d.count;
-    put_position(out, head, count)
 }
 
 // The whole listing.

@@ -1,8 +1,8 @@
 use native.Mathlib.Omega.{arith}
 use Rattle.output.proofs.Texts.{joined}
 use borrow.Author.Needs.{needs}
-use Rattle.describe.proofs.listing.put_head.Statement.{statement}
-use Rattle.describe.proofs.listing.put_head.Tie as tie
+use Rattle.describe.proofs.lines.put_head.Statement.{statement}
+use Rattle.describe.proofs.lines.put_head.Tie as tie
 
 put-bytes-requires : tie.Need-put-bytes-requires
 put-bytes-requires c κs = search needs

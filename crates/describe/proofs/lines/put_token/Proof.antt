@@ -4,8 +4,8 @@ use Rattle.token_list.proofs.Texts.{slice-none}
 use Rattle.output.proofs.Texts.{nothing}
 use Rattle.describe.proofs.Worths.{put-as, drop-of-take}
 use borrow.Author.Needs.{needs}
-use Rattle.describe.proofs.listing.put_token.Statement.{statement}
-use Rattle.describe.proofs.listing.put_token.Tie as tie
+use Rattle.describe.proofs.lines.put_token.Statement.{statement}
+use Rattle.describe.proofs.lines.put_token.Tie as tie
 
 sub-put-bytes : tie.Need-sub-put-bytes
 sub-put-bytes c = search needs

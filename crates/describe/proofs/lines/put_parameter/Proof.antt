@@ -6,8 +6,8 @@ use Rattle.describe.proofs.Lined.{put-line, quoted, unquoted}
 use Rattle.describe.proofs.Worths.{put-as}
 use Rattle.describe.specs.Listing.{PARAM, DASH, line}
 use borrow.Author.Needs.{needs}
-use Rattle.describe.proofs.listing.put_parameter.Statement.{statement}
-use Rattle.describe.proofs.listing.put_parameter.Tie as tie
+use Rattle.describe.proofs.lines.put_parameter.Statement.{statement}
+use Rattle.describe.proofs.lines.put_parameter.Tie as tie
 
 slice-aggregate-put-head : tie.Need-slice-aggregate-put-head
 slice-aggregate-put-head c = search needs

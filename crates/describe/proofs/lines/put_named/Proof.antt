@@ -4,8 +4,8 @@ use Rattle.output.specs.Text.{decimal}
 use Rattle.describe.proofs.Lined.{put-line}
 use Rattle.describe.specs.Listing.{FIELD}
 use borrow.Author.Needs.{needs}
-use Rattle.describe.proofs.listing.put_named.Statement.{statement}
-use Rattle.describe.proofs.listing.put_named.Tie as tie
+use Rattle.describe.proofs.lines.put_named.Statement.{statement}
+use Rattle.describe.proofs.lines.put_named.Tie as tie
 
 slice-aggregate-put-head : tie.Need-slice-aggregate-put-head
 slice-aggregate-put-head c = search needs

@@ -8,8 +8,8 @@ use Rattle.describe.proofs.Lined.{put-line}
 use Rattle.describe.proofs.Worths.{put-as}
 use Rattle.describe.specs.Listing.{line, kindText}
 use borrow.Author.Needs.{needs}
-use Rattle.describe.proofs.listing.put_item.Statement.{statement}
-use Rattle.describe.proofs.listing.put_item.Tie as tie
+use Rattle.describe.proofs.lines.put_item.Statement.{statement}
+use Rattle.describe.proofs.lines.put_item.Tie as tie
 
 slice-aggregate-put-bytes : tie.Need-slice-aggregate-put-bytes
 slice-aggregate-put-bytes c = search needs

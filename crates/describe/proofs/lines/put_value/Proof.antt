@@ -8,8 +8,8 @@ use Rattle.describe.proofs.Worths.{put-as}
 use Rattle.describe.specs.Value.{negativeText}
 use Rattle.describe.specs.Listing.{number}
 use borrow.Author.Needs.{needs}
-use Rattle.describe.proofs.listing.put_value.Statement.{statement}
-use Rattle.describe.proofs.listing.put_value.Tie as tie
+use Rattle.describe.proofs.lines.put_value.Statement.{statement}
+use Rattle.describe.proofs.lines.put_value.Tie as tie
 
 enum-told : tie.Need-enum-told
 enum-told c = search needs

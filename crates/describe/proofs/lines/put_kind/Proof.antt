@@ -5,8 +5,8 @@ use Rattle.parse.specs.Contract as contract
 use Rattle.describe.proofs.Worths.{put-as}
 use Rattle.describe.specs.Listing.{kindText}
 use borrow.Author.Needs.{needs}
-use Rattle.describe.proofs.listing.put_kind.Statement.{statement}
-use Rattle.describe.proofs.listing.put_kind.Tie as tie
+use Rattle.describe.proofs.lines.put_kind.Statement.{statement}
+use Rattle.describe.proofs.lines.put_kind.Tie as tie
 
 enum-told : tie.Need-enum-told
 enum-told c = search needs

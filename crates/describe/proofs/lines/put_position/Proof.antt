@@ -1,8 +1,8 @@
 use native.Mathlib.Omega.{arith}
 use Rattle.output.proofs.Texts.{joined}
 use borrow.Author.Needs.{needs}
-use Rattle.describe.proofs.listing.put_position.Statement.{statement}
-use Rattle.describe.proofs.listing.put_position.Tie as tie
+use Rattle.describe.proofs.lines.put_position.Statement.{statement}
+use Rattle.describe.proofs.lines.put_position.Tie as tie
 
 put-byte-requires : tie.Need-put-byte-requires
 put-byte-requires c κs = search needs

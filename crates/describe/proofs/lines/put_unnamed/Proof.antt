@@ -3,8 +3,8 @@ use Rattle.output.specs.Text.{decimal}
 use Rattle.describe.proofs.Lined.{put-line}
 use Rattle.describe.specs.Listing.{FIELD, DASH}
 use borrow.Author.Needs.{needs}
-use Rattle.describe.proofs.listing.put_unnamed.Statement.{statement}
-use Rattle.describe.proofs.listing.put_unnamed.Tie as tie
+use Rattle.describe.proofs.lines.put_unnamed.Statement.{statement}
+use Rattle.describe.proofs.lines.put_unnamed.Tie as tie
 
 slice-aggregate-put-bytes : tie.Need-slice-aggregate-put-bytes
 slice-aggregate-put-bytes c = search needs

@@ -6,8 +6,8 @@ use Rattle.describe.proofs.Lined.{put-line}
 use Rattle.describe.proofs.Worths.{put-as}
 use Rattle.describe.specs.Listing.{VARIANT, line, number}
 use borrow.Author.Needs.{needs}
-use Rattle.describe.proofs.listing.put_variant.Statement.{statement}
-use Rattle.describe.proofs.listing.put_variant.Tie as tie
+use Rattle.describe.proofs.lines.put_variant.Statement.{statement}
+use Rattle.describe.proofs.lines.put_variant.Tie as tie
 
 slice-aggregate-put-head : tie.Need-slice-aggregate-put-head
 slice-aggregate-put-head c = search needs
