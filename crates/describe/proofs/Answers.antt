@@ -21,10 +21,10 @@ use Rattle.token_list.specs.declared.check.Refusal.{Refusal}
 use Rattle.token_list.specs.declared.stream.Token.{Token}
 use Rattle.token_list.proofs.Texts.{chosen, passed-over}
 use Rattle.output.specs.Text.{refusalText}
-use Rattle.output.specs.Contract.{Put}
+use Rattle.output.specs.Contract.{further, Put, Printed}
 use Rattle.output.proofs.Texts.{kept, shown, joined}
 use Rattle.reading.specs.Declaration as declaration
-use Rattle.reading.specs.Token.{worth}
+use Rattle.reading.specs.Token.{MAX-I64, worth}
 use Rattle.reading.specs.Took.{Took, took, refuse, Point}
 use Rattle.reading.specs.Reading.{item}
 use Rattle.parse.specs.Contract.{on, no, Meets, stands, refuses}
@@ -37,7 +37,7 @@ use Rattle.describe.specs.declared.listing.Listed.{Listed}
 use Rattle.describe.specs.declared.listing.Listed.the-variants as listeds
 use Rattle.describe.specs.declared.value.ValuePlace.{ValuePlace}
 use Rattle.describe.specs.declared.value.ValuePlace.the-variants as places
-use Rattle.describe.proofs.Worths.{part-front, negative-length}
+use Rattle.describe.proofs.Worths.{part-front, negative-within, negative-length}
 
 -- ## What a reader's answer tells
 
@@ -92,19 +92,20 @@ module _ {s : List ℕ} {v : ValueAt} (x : Point) (w : declaration.Value) (k : V
       }
 
   pub placed-negative : {y z : List ℕ} {n r : ℕ} (t : Token) → v ≡ valueAts.Negative t →
-      n ≡ worth (slice (t .start) (t .end) s) → Put y z 0 r (negativeText n) → r ≤ 20 → 20 ≤ length y
+      n ≡ worth (slice (t .start) (t .end) s) → n ≤ MAX-I64 → Put y z 0 r (negativeText n) → SCRATCH-BYTES ≤ length y
       → Placed s y z (valueAnswer (valueRow x w) w) (places.InScratch r)
-  placed-negative {y} {z} {n} {r} t e q p h room =
+  placed-negative {y} {z} {n} {r} t e q h p room =
       let b = known e .value in
       let m : n ≡ worth (b .0) = q ∙ ap worth (sym (b .1 .bytes)) in
       let a = answered (declaration.negative (worth (b .0))) (b .3) refl in
+      let few = negative-within n h in
       let long : r ≡ length (negativeText (worth (b .0))) =
-      omega (arith, p .next, ap (λ (k : ℕ). length (negativeText k)) m) in
+      omega (arith, p .next, few, ap (λ (k : ℕ). length (negativeText k)) m) in
+      let short : r ≤ SCRATCH-BYTES = omega (arith, p .next, few) in
       record {
         place = ap places.InScratch long ∙ sym (ap (placeOf s) a);
-        text = part-front r z (omega (arith, kept p, h, room)) ∙ shown p (omega (arith, h, room)) ∙ ap negativeText m ∙
-            sym (ap textOf a);
-        range = (omega (arith, p .next, negative-length n), h);
+        text = part-front r z (omega (arith, kept p)) ∙ shown p (omega arith) ∙ ap negativeText m ∙ sym (ap textOf a);
+        range = (omega (arith, p .next, negative-length n), short);
         scratch = p .bytes ∙ ap (λ (k : ℕ). sets y 0 (negativeText k)) m ∙ sym (ap (scratch y) a);
       }
 
@@ -157,7 +158,7 @@ unfolding listing.listing
 put-listing x p q t = joined p (joined q t)
 
 module _ {x : List ℕ} (text : List ℕ) where
-  pub fits-not : (n : ℕ) → n ≡ length text → length x < n →
+  pub fits-not : (n : ℕ) → n ≡ further 0 (length text) → length x < n →
       ListedAs x x (listing.fitted (length x) (listing.listed text))
       (listeds.Refused (record { number = 8; place = 65535 }))
   fits-not n e h =
@@ -165,15 +166,15 @@ module _ {x : List ℕ} (text : List ℕ) where
       (lt-ltb (length x) (length text) (omega (arith, e, h))) in
       record { room = tt; answer = sym q; output = sym (ap (listing.output x) q) }
 
-  pub fits : {y : List ℕ} (n : ℕ) → n ≡ length text → n ≤ length x → {r : ℕ} → Put x y 0 r text →
+  pub fits : {y : List ℕ} (n : ℕ) → n ≡ further 0 (length text) → n ≤ length x → {r : ℕ} → Put x y 0 r text →
       ListedAs x y (listing.fitted (length x) (listing.listed text)) (listeds.Written r)
   fits {y} n e h {r} p =
       let q = passed-over _ (listing.refused 8 list.END) (listing.listed text)
-      (le-ltb (length x) (length text) (omega (arith, e, h))) in
+      (le-ltb (length x) (length text) (omega (arith, p .short))) in
+      let room : r ≤ length x = omega (arith, p .next) in
       record {
-        room = omega (arith, p .next, e, h, kept p);
-        answer = ap listing.listed (shown p
-            (omega (arith, p .next, e, h))) ∙ sym q;
+        room = omega (arith, kept p);
+        answer = ap listing.listed (shown p room) ∙ sym q;
         output = p .bytes ∙ sym (ap (listing.output x) q);
       }
 
@@ -222,14 +223,14 @@ module _ (s : List ℕ) (n : ℕ) where
 
 -- what is written is the text of the answer
 module _ {x y : List ℕ} {a : listing.Answer} where
-  pub listed-put : {n : ℕ} → ListedAs x y a (listeds.Written n) → Put x y 0 n (listing.answerText a)
-  listed-put {n} l =
+  pub listed-printed : {n : ℕ} → ListedAs x y a (listeds.Written n) → Printed x y n (listing.answerText a)
+  listed-printed {n} l =
       let q : a ≡ listing.listed (take n y) = sym (l .answer) in
-      rw q (record { next = omega (arith, length-take-le n y (l .room)); bytes = l .output ∙ ap (listing.output x) q })
+      rw q (record { counted = sym (length-take-le n y (l .room)); bytes = l .output ∙ ap (listing.output x) q })
 
-  pub refused-put : {z : List ℕ} {n : ℕ} {r : Refusal} → ListedAs x y a (listeds.Refused r) →
-      Put y z 0 n (refusalText (r .number) (r .place)) → Put x z 0 n (listing.answerText a)
-  refused-put {z} {n} {r} l p =
+  pub refused-printed : {z : List ℕ} {n : ℕ} {r : Refusal} → ListedAs x y a (listeds.Refused r) →
+      Printed y z n (refusalText (r .number) (r .place)) → Printed x z n (listing.answerText a)
+  refused-printed {z} {n} {r} l p =
       let q : a ≡ listing.refused (r .number) (r .place) = sym (l .answer) in
       let same : y ≡ x = l .output ∙ ap (listing.output x) q in
       rw q (rw same at p)

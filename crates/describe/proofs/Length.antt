@@ -16,7 +16,7 @@ use Rattle.token_list.proofs.Texts.{passed-over, and-parts}
 use Rattle.token_list.proofs.Passed.{passed-list}
 use Rattle.token_list.proofs.Bounds as bounds
 use Rattle.output.specs.Text.{decimal}
-use Rattle.output.specs.Contract.{Put}
+use Rattle.output.specs.Contract.{Printed}
 use Rattle.output.proofs.Texts.{decimal-within}
 use Rattle.reading.specs.Declaration.{Kind, struct, enum, Fields, unit, named, tuple, Value, absent, literal, negative, Body, fields, variants, Declaration, parametersOf, bodyCount}
 use Rattle.reading.specs.Took.{Took, took, refuse}
@@ -156,7 +156,7 @@ module _ (s : List ℕ) where
 
   -- what is written in any output
   module _ {x y : List ℕ} {n : ℕ} where
-    pub reported : Put x y 0 n (answerText (answer s (length x))) → n ≤ MOST
+    pub reported : Printed x y n (answerText (answer s (length x))) → n ≤ MOST
         → ((m p : ℕ) → answer s (length x) ≡ refused m p → OneRefusal readNumber s m p) → Reported s x y n
     reported p short refusal =
         record { text = p; roomy = λ h. rw (fits (length x) .room h) at p; short = short; refusal = refusal }

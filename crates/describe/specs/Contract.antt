@@ -1,6 +1,6 @@
 -- What ties the code's answers to the texts.
 use mathlib.Core.Path.{_≡_}
-use mathlib.Core.List.{List, [], _∷_}
+use mathlib.Core.List.{List, []}
 use Prim.Native.Nat.{ℕ, _+_, _-_, _≤_, _<_}
 use lib.ListN.{length, take}
 use lib.Dec.{leb, eqb}
@@ -12,7 +12,7 @@ use Rattle.token_list.specs.Stream.{Trees, rowStart}
 use Rattle.token_list.specs.declared.check.Cursor.{Cursor}
 use Rattle.reading.specs.Declaration as declaration
 use Rattle.reading.specs.Reading as reading
-use Rattle.output.specs.Contract.{Put}
+use Rattle.output.specs.Contract.{Printed}
 use Rattle.token_list.specs.Place.{OneRefusal}
 use Rattle.reading.specs.Answer.{readNumber}
 use Rattle.reading.specs.Took.{Point}
@@ -102,9 +102,9 @@ pub record ListedAs (before after : List ℕ) (a : listing.Answer) (r : Listed) 
 
 -- the report of a list s: the text of the answer, in an output that was `before` and is `after`
 pub record Reported (s before after : List ℕ) (r : ℕ) : Type 0 where
-  pub text : Put before after 0 r (listing.answerText (listing.answer s (length before)))
+  pub text : Printed before after r (listing.answerText (listing.answer s (length before)))
   -- an output of MOST bytes has room for every listing, so the text is never that of refusal 8
-  pub roomy : listing.MOST ≤ length before → Put before after 0 r (listing.answerText (listing.whole s))
+  pub roomy : listing.MOST ≤ length before → Printed before after r (listing.answerText (listing.whole s))
   pub short : r ≤ listing.MOST
   -- what holds of a refusal that is printed
   pub refusal : (n p : ℕ) → listing.answer s (length before) ≡ listing.refused n p → OneRefusal readNumber s n p

@@ -12,11 +12,10 @@ use parse::variants::ValueAt;
 use parse::variants::VariantAt;
 use token_list::stream::Token;
 ghost use mathlib.Core.List.{[], _∷_, _++_};
-ghost use Prim.Native.Nat.{_+_, _≤_};
+ghost use Prim.Native.Nat.{_≤_};
 ghost use lib.ListN.{length};
 ghost use lib.Seq.{slice};
 ghost use Rattle.token_list.specs.Byte.{SPACE, LF};
-ghost use Rattle.token_list.specs.Layout.{MAX-BYTES};
 ghost use Rattle.output.specs.Text.{decimal};
 ghost use Rattle.output.specs.Contract.{Put};
 ghost use Rattle.reading.specs.Declaration.{Parameter, Value, Variant, Declaration};
@@ -26,10 +25,7 @@ ghost use Rattle.describe.specs.Listing.{FIELD, DASH, line, kindText, nu
 // The text of a token.
 fn put_token(s: &[u8], t: Token, out: &mut [u8], at: usize) -> usize
     requires { ⌜ t .end ≤ length (now s) ⌝ }
-    requires { ⌜ length (now s) ≤ MAX-BYTES ⌝ }
-    requires { ⌜ at ≤ 1000000000000000000 ⌝ }
     ensures { λ r. ⌜ Put (now (out .entry)) (now (out .exit)) at r (slice (t .start) (t .end) (now (s .entry))) ⌝ }
-    ensures { λ r. ⌜ r ≤ at + 65536 ⌝ }
 {
     let start = t.start;
     let end = t.end;
@@ -42,12 +38,8 @@ fn put_token(s: &[u8], t: Token, out: &mut [u8], at: usize) -> usize
 // A part and a name.
 fn put_head(s: &[u8], part: &[u8], name: Token, out: &mut [u8], at: usize) -> usize
     requires { ⌜ name .end ≤ length (now s) ⌝ }
-    requires { ⌜ length (now s) ≤ MAX-BYTES ⌝ }
-    requires { ⌜ length (now part) ≤ 8 ⌝ }
-    requires { ⌜ at ≤ 100000000000000000 ⌝ }
     ensures { λ r. ⌜ Put (now (out .entry)) (now (out .exit)) at r
         (now (part .entry) ++ slice (name .start) (name .end) (now (s .entry))) ⌝ }
-    ensures { λ r. ⌜ r ≤ at + 65544 ⌝ }
 {
     let word = put_bytes(out, at, part);
     put_token(s, name, out, word)
@@ -55,9 +47,7 @@ fn put_head(s: &[u8], part: &[u8], name: Token, out: &mut [u8], at: usize) -> us
 
 // A number that is a count or a position, and the line's end.
 fn put_position(out: &mut [u8], at: usize, n: usize) -> usize
-    requires { ⌜ at ≤ 1000000000000000000 ⌝ }
     ensures { λ r. ⌜ Put (now (out .entry)) (now (out .exit)) at r (SPACE ∷ (decimal n ++ LF ∷ [])) ⌝ }
-    ensures { λ r. ⌜ r ≤ at + 22 ⌝ }
 {
     let space = put_byte(out, at, b' ');
     let end = put_number(out, space, n);
@@ -66,20 +56,15 @@ fn put_position(out: &mut [u8], at: usize, n: usize) -> usize
 
 pub fn put_named(s: &[u8], name: Token, out: &mut [u8], at: usize, n: usize) -> usize
     requires { ⌜ name .end ≤ length (now s) ⌝ }
-    requires { ⌜ length (now s) ≤ MAX-BYTES ⌝ }
-    requires { ⌜ at ≤ 100000000000000000 ⌝ }
     ensures { λ r. ⌜ Put (now (out .entry)) (now (out .exit)) at r
         (line FIELD (slice (name .start) (name .end) (now (s .entry))) (decimal n)) ⌝ }
-    ensures { λ r. ⌜ r ≤ at + 65566 ⌝ }
 {
     let head = put_head(s, b"field ", name, out, at);
     put_position(out, head, n)
 }
 
 pub fn put_unnamed(out: &mut [u8], at: usize, n: usize) -> usize
-    requires { ⌜ at ≤ 100000000000000000 ⌝ }
     ensures { λ r. ⌜ Put (now (out .entry)) (now (out .exit)) at r (line FIELD DASH (decimal n)) ⌝ }
-    ensures { λ r. ⌜ r ≤ at + 65566 ⌝ }
 {
     let head = put_bytes(out, at, b"field -");
     put_position(out, head, n)
@@ -88,11 +73,8 @@ pub fn put_unnamed(out: &mut [u8], at: usize, n: usize) -> usize
 // A variant's number: its written value, or its position n.
 fn put_value(s: &[u8], v: ValueAt, n: usize, out: &mut [u8], at: usize) -> usize
     requires { ⌜ ((w : Value) × ValueOf (now s) v w) ⌝ }
-    requires { ⌜ length (now s) ≤ MAX-BYTES ⌝ }
-    requires { ⌜ at ≤ 100000000000000000 ⌝ }
     ensures { λ r. ⌜ ((w : Value) → ValueOf (now (s .entry)) v w →
         Put (now (out .entry)) (now (out .exit)) at r (number n w)) ⌝ }
-    ensures { λ r. ⌜ r ≤ at + 65536 ⌝ }
 {
     match v {
         ValueAt::Absent => put_number(out, at, n),
@@ -109,11 +91,8 @@ fn put_value(s: &[u8], v: ValueAt, n: usize, out: &mut [u8], at: usize) -> usize
 // A variant's own line.
 pub fn put_variant(s: &[u8], v: VariantAt, n: usize, out: &mut [u8], at: usize) -> usize
     requires { ⌜ ((a : Variant) × VariantOf (now s) v a) ⌝ }
-    requires { ⌜ length (now s) ≤ MAX-BYTES ⌝ }
-    requires { ⌜ at ≤ 10000000000000000 ⌝ }
     ensures { λ r. ⌜ ((a : Variant) → VariantOf (now (s .entry)) v a →
         Put (now (out .entry)) (now (out .exit)) at r (variantLine n a)) ⌝ }
-    ensures { λ r. ⌜ r ≤ at + 131082 ⌝ }
 {
     let name = v.name;
     let head = put_head(s, b"variant ", name, out, at);
@@ -125,11 +104,8 @@ pub fn put_variant(s: &[u8], v: VariantAt, n: usize, out: &mut [u8], at: usize) 
 
 pub fn put_parameter(s: &[u8], p: ParameterAt, out: &mut [u8], at: usize) -> usize
     requires { ⌜ ((a : Parameter) × ParameterOf (now s) (p .lifetime) (p .name) a) ⌝ }
-    requires { ⌜ length (now s) ≤ MAX-BYTES ⌝ }
-    requires { ⌜ at ≤ 10000000000000000 ⌝ }
     ensures { λ r. ⌜ ((a : Parameter) → ParameterOf (now (s .entry)) (p .lifetime) (p .name) a →
         Put (now (out .entry)) (now (out .exit)) at r (parameterLine 0 a)) ⌝ }
-    ensures { λ r. ⌜ r ≤ at + 65566 ⌝ }
 {
     let name = p.name;
     if p.lifetime {
@@ -142,11 +118,8 @@ pub fn put_parameter(s: &[u8], p: ParameterAt, out: &mut [u8], at: usize) -> usi
 
 fn put_kind(s: &[u8], kind: DataType, name: Token, out: &mut [u8], at: usize) -> usize
     requires { ⌜ name .end ≤ length (now s) ⌝ }
-    requires { ⌜ length (now s) ≤ MAX-BYTES ⌝ }
-    requires { ⌜ at ≤ 1000 ⌝ }
     ensures { λ r. ⌜ Put (now (out .entry)) (now (out .exit)) at r
         (kindText (kindOf kind) ++ slice (name .start) (name .end) (now (s .entry))) ⌝ }
-    ensures { λ r. ⌜ r ≤ at + 65544 ⌝ }
 {
     match kind {
         DataType::Struct => put_head(s, b"struct ", name, out, at),
@@ -157,10 +130,8 @@ fn put_kind(s: &[u8], kind: DataType, name: Token, out: &mut [u8], at: usize) ->
 // The item's line, after the line of names.
 pub fn put_item(s: &[u8], d: ItemAt, out: &mut [u8]) -> usize
     requires { ⌜ ((x : Declaration) × ItemOf (now s) d x) ⌝ }
-    requires { ⌜ length (now s) ≤ MAX-BYTES ⌝ }
     ensures { λ r. ⌜ ((x : Declaration) → ItemOf (now (s .entry)) d x →
         Put (now (out .entry)) (now (out .exit)) 0 r (itemLines x)) ⌝ }
-    ensures { λ r. ⌜ r ≤ 70000 ⌝ }
 {
     let names = put_bytes(out, 0, b"part name number\n");
     let kind = d.kind;

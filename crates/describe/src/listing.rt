@@ -32,9 +32,9 @@ use token_list::stream::Peeked;
 use token_list::stream::peek;
 ghost use mathlib.Core.Path.{_≡_};
 ghost use mathlib.Core.List.{List};
-ghost use Prim.Native.Nat.{ℕ, _+_, _≤_};
+ghost use Prim.Native.Nat.{ℕ};
 ghost use lib.ListN.{length};
-ghost use Rattle.token_list.specs.Layout.{FIRST-ROW, MAX-BYTES};
+ghost use Rattle.token_list.specs.Layout.{FIRST-ROW};
 ghost use Rattle.token_list.specs.Stream.{Trees, at};
 ghost use Rattle.token_list.specs.Place.{OneRefusal};
 ghost use Rattle.token_list.specs.Contract.{InList};
@@ -55,11 +55,8 @@ pub enum Listed {
 // The lines of the named fields that are read from `from` on.
 fn named_lines(s: &[u8], from: Cursor, roles: &mut [u8], out: &mut [u8], start: usize) -> usize
     requires { ⌜ InList (now s) from ⌝ }
-    requires { ⌜ length (now s) ≤ MAX-BYTES ⌝ }
-    requires { ⌜ start ≤ 10000000000000000 ⌝ }
     ensures { λ r. ⌜ ((fs : List Field) → InsideAt (every namedField) (now (s .entry)) from fs →
         Put (now (out .entry)) (now (out .exit)) start r (numbered namedLine 0 fs)) ⌝ }
-    ensures { λ r. ⌜ r ≤ start + 4300000000 ⌝ }
 {
     let mut c = from;
     let mut at = start;
@@ -85,11 +82,8 @@ fn named_lines(s: &[u8], from: Cursor, roles: &mut [u8], out: &mut [u8], start: 
 // The lines of the fields without names that are read from `from` on.
 fn tuple_lines(s: &[u8], from: Cursor, roles: &mut [u8], out: &mut [u8], start: usize) -> usize
     requires { ⌜ InList (now s) from ⌝ }
-    requires { ⌜ length (now s) ≤ MAX-BYTES ⌝ }
-    requires { ⌜ start ≤ 10000000000000000 ⌝ }
     ensures { λ r. ⌜ ((ts : List Trees) → InsideAt (every tupleField) (now (s .entry)) from ts →
         Put (now (out .entry)) (now (out .exit)) start r (numbered tupleLine 0 ts)) ⌝ }
-    ensures { λ r. ⌜ r ≤ start + 4300000000 ⌝ }
 {
     let mut c = from;
     let mut at = start;
@@ -113,11 +107,8 @@ fn tuple_lines(s: &[u8], from: Cursor, roles: &mut [u8], out: &mut [u8], start: 
 
 fn field_lines(s: &[u8], fields: FieldsAt, roles: &mut [u8], out: &mut [u8], at: usize) -> usize
     requires { ⌜ ((f : Fields) × FieldsOf (now s) fields f) ⌝ }
-    requires { ⌜ length (now s) ≤ MAX-BYTES ⌝ }
-    requires { ⌜ at ≤ 10000000000000000 ⌝ }
     ensures { λ r. ⌜ ((f : Fields) → FieldsOf (now (s .entry)) fields f →
         Put (now (out .entry)) (now (out .exit)) at r (fieldLines f)) ⌝ }
-    ensures { λ r. ⌜ r ≤ at + 4300000000 ⌝ }
 {
     match fields {
         FieldsAt::Unit => at,
@@ -129,11 +120,8 @@ fn field_lines(s: &[u8], fields: FieldsAt, roles: &mut [u8], out: &mut [u8], at:
 // The lines of the variants that are read from `from` on, each followed by its fields.
 fn variant_lines(s: &[u8], from: Cursor, roles: &mut [u8], out: &mut [u8], start: usize) -> usize
     requires { ⌜ InList (now s) from ⌝ }
-    requires { ⌜ length (now s) ≤ MAX-BYTES ⌝ }
-    requires { ⌜ start ≤ 1000000000000000 ⌝ }
     ensures { λ r. ⌜ ((vs : List Variant) → InsideAt (every variant) (now (s .entry)) from vs →
         Put (now (out .entry)) (now (out .exit)) start r (numbered variantLines 0 vs)) ⌝ }
-    ensures { λ r. ⌜ r ≤ start + 300000000000000 ⌝ }
 {
     let mut c = from;
     let mut at = start;
@@ -167,11 +155,8 @@ fn parameter_lines(
     start: usize,
 ) -> usize
     requires { ⌜ InList (now s) from ⌝ }
-    requires { ⌜ length (now s) ≤ MAX-BYTES ⌝ }
-    requires { ⌜ start ≤ 1000000000000000 ⌝ }
     ensures { λ r. ⌜ ((ps : List Parameter) → InsideAt (every (parameter angle)) (now (s .entry)) from ps →
         Put (now (out .entry)) (now (out .exit)) start r (numbered parameterLine 0 ps)) ⌝ }
-    ensures { λ r. ⌜ r ≤ start + 4300000000 ⌝ }
 {
     let mut c = from;
     let mut at = start;
@@ -194,11 +179,8 @@ fn parameter_lines(
 // The lines of the generics that are read at c.
 fn generics_lines(s: &[u8], c: Cursor, roles: &mut [u8], out: &mut [u8], at: usize) -> usize
     requires { ⌜ InList (now s) c ⌝ }
-    requires { ⌜ length (now s) ≤ MAX-BYTES ⌝ }
-    requires { ⌜ at ≤ 1000000000000000 ⌝ }
     ensures { λ r. ⌜ ((g : Generics) → InsideAt generics (now (s .entry)) c g →
         Put (now (out .entry)) (now (out .exit)) at r (numbered parameterLine 0 (parametersOf g))) ⌝ }
-    ensures { λ r. ⌜ r ≤ at + 4300000000 ⌝ }
 {
     let row = c.row;
     match peek(s, c) {
@@ -217,11 +199,8 @@ fn generics_lines(s: &[u8], c: Cursor, roles: &mut [u8], out: &mut [u8], at: usi
 // The lines of a struct's body, whose group's inside is at c.
 fn struct_lines(s: &[u8], c: Cursor, mark: u8, roles: &mut [u8], out: &mut [u8], at: usize) -> usize
     requires { ⌜ InList (now s) c ⌝ }
-    requires { ⌜ length (now s) ≤ MAX-BYTES ⌝ }
-    requires { ⌜ at ≤ 1000000000000000 ⌝ }
     ensures { λ r. ⌜ ((f : Fields) → StructAt (now (s .entry)) mark c f →
         Put (now (out .entry)) (now (out .exit)) at r (fieldLines f)) ⌝ }
-    ensures { λ r. ⌜ r ≤ at + 4300000000 ⌝ }
 {
     if mark == b'{' {
         return named_lines(s, c, roles, out, at);
@@ -232,11 +211,8 @@ fn struct_lines(s: &[u8], c: Cursor, mark: u8, roles: &mut [u8], out: &mut [u8],
 // The lines of a declaration's body.
 fn body_lines(s: &[u8], d: ItemAt, roles: &mut [u8], out: &mut [u8], at: usize) -> usize
     requires { ⌜ InList (now s) (d .body) ⌝ }
-    requires { ⌜ length (now s) ≤ MAX-BYTES ⌝ }
-    requires { ⌜ at ≤ 1000000000000000 ⌝ }
     ensures { λ r. ⌜ ((b : Body) → InsideAt (bodyOf (kindOf (d .kind))) (now (s .entry)) (d .body) b →
         Put (now (out .entry)) (now (out .exit)) at r (bodyLines b)) ⌝ }
-    ensures { λ r. ⌜ r ≤ at + 300000000000000 ⌝ }
 {
     let c = d.body;
     match peek(s, c) {
@@ -257,7 +233,6 @@ fn body_lines(s: &[u8], d: ItemAt, roles: &mut [u8], out: &mut [u8], at: usize) 
 // The whole listing.
 fn put_listing(s: &[u8], d: ItemAt, roles: &mut [u8], out: &mut [u8]) -> usize
     requires { ⌜ ((x : Declaration) × ItemOf (now s) d x) ⌝ }
-    requires { ⌜ length (now s) ≤ MAX-BYTES ⌝ }
     ensures { λ r. ⌜ ((x : Declaration) → ItemOf (now (s .entry)) d x →
         Put (now (out .entry)) (now (out .exit)) 0 r (listing x)) ⌝ }
 {
@@ -270,7 +245,6 @@ fn put_listing(s: &[u8], d: ItemAt, roles: &mut [u8], out: &mut [u8]) -> usize
 // Measures the listing, and writes it where the output is long enough.
 fn fit_listing(s: &[u8], d: ItemAt, roles: &mut [u8], out: &mut [u8]) -> Listed
     requires { ⌜ ((x : Declaration) × ItemOf (now s) d x) ⌝ }
-    requires { ⌜ length (now s) ≤ MAX-BYTES ⌝ }
     ensures { λ r. ⌜ ((x : Declaration) → ItemOf (now (s .entry)) d x →
         ListedAs (now (out .entry)) (now (out .exit)) (fitted (length (now (out .entry))) (listed (listing x))) r) ⌝ }
 {
@@ -289,7 +263,6 @@ fn fit_listing(s: &[u8], d: ItemAt, roles: &mut [u8], out: &mut [u8]) -> Listed
 // The listing of a list that passes the check.
 fn read_listing(s: &[u8], out: &mut [u8], roles: &mut [u8]) -> Listed
     requires { ⌜ InList (now s) (record { at = FIRST-ROW; row = 0 }) ⌝ }
-    requires { ⌜ length (now s) ≤ MAX-BYTES ⌝ }
     ensures { λ r. ⌜ ListedAs (now (out .entry)) (now (out .exit))
         (fitted (length (now (out .entry))) (itemAnswer (item 0 (at (now (s .entry)) FIRST-ROW .here)))) r ⌝ }
 {
@@ -325,6 +298,6 @@ pub fn report_listing(list: &[u8], out: &mut [u8]) -> usize
 {
     match write_listing(list, out) {
         Listed::Written(n) => n,
-        Listed::Refused(r) => put_refusal(out, 0, r),
+        Listed::Refused(r) => put_refusal(out, r),
     }
 }

@@ -21,7 +21,7 @@ use token_list::stream::peek;
 ghost use mathlib.Core.Path.{_≡_};
 ghost use mathlib.Core.Bool.{true};
 ghost use mathlib.Core.List.{List};
-ghost use Prim.Native.Nat.{ℕ, _+_, _^_, _≤_, _<_};
+ghost use Prim.Native.Nat.{ℕ, _≤_};
 ghost use lib.ListN.{length};
 ghost use lib.Seq.{slice};
 ghost use Rattle.token_list.specs.Layout.{FIRST-ROW, MAX-BYTES};
@@ -71,10 +71,7 @@ pub fn worth(s: &[u8], start: usize, end: usize) -> usize
 
 // A negative number, written anew.
 pub fn put_negative(out: &mut [u8], at: usize, n: usize) -> usize
-    requires { ⌜ at + 21 < 2 ^ 64 ⌝ }
-    requires { ⌜ n ≤ MAX-I64 ⌝ }
     ensures { λ r. ⌜ Put (now (out .entry)) (now (out .exit)) at r (negativeText n) ⌝ }
-    ensures { λ r. ⌜ r ≤ at + SCRATCH-BYTES ⌝ }
 {
     if n == 0 {
         return put_byte(out, at, b'0');

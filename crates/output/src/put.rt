@@ -1,26 +1,30 @@
 // Texts, numbers and refusals, written from a place of the output on. Each function answers where
-// the next text goes. What does not fit is left out, and counted all the same.
+// the next text goes. What does not fit is left out, and counted all the same, up to a place that no
+// output has.
 use token_list::check::END;
 use token_list::check::Refusal;
-ghost use Prim.Native.Nat.{_+_, _^_, _≤_, _<_};
+ghost use Prim.Native.Nat.{_≤_};
 ghost use mathlib.Core.List.{[], _∷_};
-ghost use lib.ListN.{length};
 ghost use Rattle.output.specs.Text.{decimal, placeText, refusalText};
-ghost use Rattle.output.specs.Contract.{Put};
+ghost use Rattle.output.specs.Contract.{Put, Printed};
+
+// A place past every output: places stop here.
+const FAR: usize = 0x8000_0000_0000_0000;
 
 pub fn put_byte(out: &mut [u8], at: usize, b: u8) -> usize
-    requires { ⌜ at + 1 < 2 ^ 64 ⌝ }
     ensures { λ r. ⌜ Put (now (out .entry)) (now (out .exit)) at r (b ∷ []) ⌝ }
 {
     if at < out.len() {
         out[at] = b;
         return at + 1;
     }
-    at + 1
+    if at < FAR {
+        return at + 1;
+    }
+    at
 }
 
 pub fn put_bytes(out: &mut [u8], at: usize, text: &[u8]) -> usize
-    requires { ⌜ at + length (now text) < 2 ^ 64 ⌝ }
     ensures { λ r. ⌜ Put (now (out .entry)) (now (out .exit)) at r (now (text .entry)) ⌝ }
 {
     let mut i = 0;
@@ -34,9 +38,7 @@ pub fn put_bytes(out: &mut [u8], at: usize, text: &[u8]) -> usize
 
 // The decimal digits of n.
 pub fn put_number(out: &mut [u8], at: usize, n: usize) -> usize
-    requires { ⌜ at + 20 < 2 ^ 64 ⌝ }
     ensures { λ r. ⌜ Put (now (out .entry)) (now (out .exit)) at r (decimal n) ⌝ }
-    ensures { λ r. ⌜ r ≤ at + 20 ⌝ }
 {
     if n < 10 {
         let digit = n as u8;
@@ -49,9 +51,7 @@ pub fn put_number(out: &mut [u8], at: usize, n: usize) -> usize
 
 // A place: its row, or `-` for the end mark.
 fn put_place(out: &mut [u8], at: usize, place: usize) -> usize
-    requires { ⌜ at + 20 < 2 ^ 64 ⌝ }
     ensures { λ r. ⌜ Put (now (out .entry)) (now (out .exit)) at r (placeText place) ⌝ }
-    ensures { λ r. ⌜ r ≤ at + 20 ⌝ }
 {
     if place == END {
         return put_byte(out, at, b'-');
@@ -59,13 +59,13 @@ fn put_place(out: &mut [u8], at: usize, place: usize) -> usize
     put_number(out, at, place)
 }
 
-// A refusal: the line `refused place`, and a line with its number and place.
-pub fn put_refusal(out: &mut [u8], at: usize, refusal: Refusal) -> usize
-    requires { ⌜ at + 64 < 2 ^ 64 ⌝ }
-    ensures { λ r. ⌜ Put (now (out .entry)) (now (out .exit)) at r (refusalText (refusal .number) (refusal .place)) ⌝ }
-    ensures { λ r. ⌜ r ≤ at + 64 ⌝ }
+// A refusal, at the start of the output: the line `refused place`, and a line with its number and
+// place. Answers its length, at most 64.
+pub fn put_refusal(out: &mut [u8], refusal: Refusal) -> usize
+    ensures { λ r. ⌜ Printed (now (out .entry)) (now (out .exit)) r (refusalText (refusal .number) (refusal .place)) ⌝ }
+    ensures { λ r. ⌜ r ≤ 64 ⌝ }
 {
-    let names = put_bytes(out, at, b"refused place\n");
+    let names = put_bytes(out, 0, b"refused place\n");
     let number = put_number(out, names, refusal.number as usize);
     let space = put_byte(out, number, b' ');
     let place = put_place(out, space, refusal.place);

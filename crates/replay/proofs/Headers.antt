@@ -11,7 +11,9 @@ use lib.Seq.{slice, drop-drop}
 use Rattle.token_list.specs.Text.{all, between, digit}
 use Rattle.token_list.proofs.Texts.{slice-none, slice-next, and-both, and-parts}
 use Rattle.reading.specs.Token.{worth, worthFrom, negatable}
-use Rattle.replay.specs.Header.{run, lower, sectionNamed, ended, sized, named, header}
+use Rattle.replay.specs.Header.{topicName, run, lower, sectionNamed, ended, sized, named, header}
+use Rattle.replay.specs.declared.header.Topic.{Topic}
+use Rattle.replay.specs.declared.header.Topic.the-variants.{Check, Roles, Every, Listing}
 use Rattle.replay.specs.declared.header.Section.{Section}
 use Rattle.replay.specs.declared.header.Header.{Header}
 use Rattle.replay.specs.declared.header.Header.the-variants.{Found, Malformed}
@@ -135,3 +137,11 @@ pub header-start : (at : ℕ) (u : List ℕ) (to : ℕ) → at + length u ≤ to
 header-start at u to h =
     named-start (at + run lower u) _ (drop (run lower u) u) to
     (omega (arith, length-drop (run lower u) u, run-within lower u))
+
+-- ## A topic's name
+
+pub topic-few : (t : Topic) → length (topicName t) ≤ 7
+topic-few Check = omega arith
+topic-few Roles = omega arith
+topic-few Every = omega arith
+topic-few Listing = omega arith

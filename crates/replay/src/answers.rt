@@ -44,7 +44,7 @@ fn is_refusal(refusal: Refusal, s: &[u8], start: usize, end: usize) -> bool
     ensures { λ r. ⌜ r ≡ same (slice start end (now (s .entry))) (refusalText (refusal .number) (refusal .place)) ⌝ }
 {
     let mut out = [0u8; 64];
-    let n = put_refusal(&mut out, 0, refusal);
+    let n = put_refusal(&mut out, refusal);
     text_is(s, start, end, &out[..n])
 }
 

@@ -3,7 +3,7 @@ use describe::value::worth;
 use output::put::put_bytes;
 use token_list::text::text_is;
 ghost use mathlib.Core.Path.{_≡_};
-ghost use Prim.Native.Nat.{_+_, _^_, _≤_, _<_};
+ghost use Prim.Native.Nat.{_+_, _≤_};
 ghost use lib.ListN.{length};
 ghost use lib.Seq.{slice};
 ghost use Rattle.token_list.specs.Text.{between};
@@ -74,9 +74,7 @@ fn section_named(s: &[u8], start: usize, end: usize) -> Section
 
 // The name of the section with the answers about a topic.
 pub fn put_topic(out: &mut [u8], at: usize, topic: Topic) -> usize
-    requires { ⌜ at + 7 < 2 ^ 64 ⌝ }
     ensures { λ r. ⌜ Put (now (out .entry)) (now (out .exit)) at r (topicName topic) ⌝ }
-    ensures { λ r. ⌜ r ≤ at + 7 ⌝ }
 {
     match topic {
         Topic::Check => put_bytes(out, at, b"check"),

@@ -1,8 +1,8 @@
 -- The lines of the roles, and how many roles there are.
 use mathlib.Core.Path.{_≡_, refl, ap, _∙_, sym, subst}
-use mathlib.Core.Bool.{Bool, true, false, cond, true≢false}
+use mathlib.Core.Bool.{true, false, true≢false}
 use mathlib.Core.List.{List, [], _∷_, _++_, append-assoc, append-nil}
-use Prim.Native.Nat.{ℕ, zero, suc, _+_, _-_, _≤_, _<_}
+use Prim.Native.Nat.{ℕ, zero, suc, _+_, _*_, _-_, _^_, _≤_, _<_}
 use native.Mathlib.Nat.{add-zero, add-suc, suc-add}
 use native.Mathlib.Omega.{arith}
 use borrow.Author.Tests.{ltb-true, eq-eqb, ne-eqb}
@@ -30,7 +30,9 @@ use Rattle.parse.specs.declared.item.Parse.the-variants as parses
 use Rattle.reading.proofs.GrammarSound.{obeys-sound}
 use Rattle.reading.proofs.GrammarRoles.{obeys-roles}
 use Rattle.parse.proofs.Items.{accepted-as}
-use Rattle.report.specs.Roles.{assigned, roleLine, roleLines, readAs}
+use Rattle.output.proofs.Texts.{decimal-within, decimal-few}
+use Rattle.report.specs.Text.{answerText}
+use Rattle.report.specs.Roles.{assigned, roleLine, roleLines, NAMES, readAs}
 use Rattle.report.specs.declared.roles.Roles.{Roles}
 use Rattle.report.specs.declared.roles.Roles.the-variants.{Rows, Refused}
 
@@ -43,6 +45,10 @@ lines-more row (q ∷ rs) r =
     ∙ sym (append-assoc (roleLine row q) (roleLines (suc row) rs) (roleLine (suc row + length rs) r))
     ∙ ap (λ (k : ℕ). (roleLine row q ++ roleLines (suc row) rs) ++ roleLine k r)
     (suc-add row (length rs) ∙ sym (add-suc row (length rs)))
+
+-- the report of a list that passes
+pub rows-few : (n : ℕ) → n < 2 ^ 64 → length (answerText (list.Answer.passed n)) ≤ 64
+rows-few n h = simp length-append (omega (arith, decimal-few n h))
 
 -- ## The bytes before the first 255
 
@@ -72,6 +78,16 @@ assigned-all (r ∷ rs) n h =
     let e : eqb r 255 ≡ false = ne-eqb r 255 (λ q. omega (arith, ltb-true r 19 (b .0))) in
     rw e (ap suc (assigned-all rs n (b .1)))
 
+-- a row has at most four digits and a role two
+lines-few : (row : ℕ) (rs : List ℕ) → row + length rs ≤ 10000 → Named rs → length (roleLines row rs) ≤ 8 * length rs
+unfolding roleLine
+lines-few row [] h k = omega arith
+lines-few row (r ∷ rs) h k =
+    let b = and-parts (ltb r 19) (all (λ q. ltb q 19) rs) k in
+    let role = decimal-within 1 r (omega (arith, ltb-true r 19 (b .0))) in
+    let more = lines-few (suc row) rs (omega arith) (b .1) in
+    simp length-append (omega (arith, decimal-within 3 row (omega arith), role, more))
+
 -- ## The roles of an answer
 
 module _ (s : List ℕ) (n : ℕ) (d : Declaration) (rs : List ℕ) where
@@ -99,7 +115,7 @@ module _ (s : List ℕ) (n : ℕ) (d : Declaration) (rs : List ℕ) where
   named = by-answer Named (λ k c f qs us i. obeys-roles everything {ts = at s 10 .here} (obeys-sound i))
 
   -- one for each row
-  pub few-roles : answer s n ≡ declared d rs → length rs ≤ 4096
+  few-roles : answer s n ≡ declared d rs → length rs ≤ 4096
   few-roles =
       by-answer (λ (qs : List ℕ). length qs ≤ 4096)
       (λ k c f qs us i.
@@ -112,6 +128,11 @@ module _ (s : List ℕ) (n : ℕ) (d : Declaration) (rs : List ℕ) where
         passed-list s k c .size,
         bounds s c .rows,
       ))
+
+  pub roles-few : answer s n ≡ declared d rs → length (NAMES ++ roleLines 0 rs) ≤ 65536
+  roles-few e =
+      let count = few-roles e in
+      simp length-append (omega (arith, lines-few 0 rs (omega (arith, count)) (named e), count))
 
 module _ (s b0 : List ℕ) {b1 : List ℕ} where
   pub rows-read : {p : Parse} → Answered s p b0 b1 → accepted p ≡ true → (n : ℕ) → n ≡ assigned b1 →

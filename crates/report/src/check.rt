@@ -11,10 +11,10 @@ ghost use Rattle.token_list.specs.Check.{check, refused};
 ghost use Rattle.token_list.specs.Place.{OneRefusal, checkNumber};
 ghost use Rattle.token_list.specs.Contract.{checked};
 ghost use Rattle.report.specs.Text.{answerText};
-ghost use Rattle.output.specs.Contract.{Put};
+ghost use Rattle.output.specs.Contract.{Printed};
 
 fn put_answer(out: &mut [u8], answer: Checked) -> usize
-    ensures { λ r. ⌜ Put (now (out .entry)) (now (out .exit)) 0 r (answerText (checked answer)) ⌝ }
+    ensures { λ r. ⌜ Printed (now (out .entry)) (now (out .exit)) r (answerText (checked answer)) ⌝ }
     ensures { λ r. ⌜ r ≤ 64 ⌝ }
 {
     match answer {
@@ -23,13 +23,13 @@ fn put_answer(out: &mut [u8], answer: Checked) -> usize
             let number = put_number(out, word, rows);
             put_byte(out, number, b'\n')
         }
-        Checked::Refused(refusal) => put_refusal(out, 0, refusal),
+        Checked::Refused(refusal) => put_refusal(out, refusal),
     }
 }
 
 // Checks the list and writes the report at the start of out; answers its length, at most 64.
 pub fn report_check(list: &[u8], out: &mut [u8]) -> usize
-    ensures { λ r. ⌜ Put (now (out .entry)) (now (out .exit)) 0 r (answerText (check (now (list .entry)))) ⌝ }
+    ensures { λ r. ⌜ Printed (now (out .entry)) (now (out .exit)) r (answerText (check (now (list .entry)))) ⌝ }
     ensures { λ r. ⌜ r ≤ 64 ⌝ }
     ensures { λ _. ⌜ ((n p : ℕ) → check (now (list .entry)) ≡ refused n p →
         OneRefusal checkNumber (now (list .entry)) n p) ⌝ }

@@ -8,12 +8,11 @@ use parse::item::new;
 use parse::role::NONE;
 use token_list::check::Refusal;
 ghost use mathlib.Core.Path.{_≡_};
-ghost use Prim.Native.Nat.{ℕ, _+_, _*_, _^_, _≤_, _<_};
+ghost use Prim.Native.Nat.{ℕ, _≤_};
 ghost use lib.ListN.{length};
-ghost use Rattle.token_list.specs.Layout.{MAX-ROWS};
 ghost use Rattle.token_list.specs.Place.{OneRefusal};
 ghost use Rattle.reading.specs.Answer.{refused, answer, buffer, readNumber};
-ghost use Rattle.output.specs.Contract.{Put};
+ghost use Rattle.output.specs.Contract.{Put, Printed};
 ghost use Rattle.report.specs.Roles.{assigned, roleLine, roleLines, rolesText, readAs};
 
 // How many rows have a role, or the refusal.
@@ -52,9 +51,7 @@ pub fn read_roles(list: &[u8], roles: &mut [u8]) -> Roles
 }
 
 fn put_line(out: &mut [u8], at: usize, row: usize, role: u8) -> usize
-    requires { ⌜ (at + 64 < 2 ^ 64) × (row < 10000) ⌝ }
     ensures { λ r. ⌜ Put (now (out .entry)) (now (out .exit)) at r (roleLine row role) ⌝ }
-    ensures { λ r. ⌜ r ≤ at + 9 ⌝ }
 {
     let number = put_number(out, at, row);
     let space = put_byte(out, number, b' ');
@@ -63,9 +60,7 @@ fn put_line(out: &mut [u8], at: usize, row: usize, role: u8) -> usize
 }
 
 fn put_lines(out: &mut [u8], at: usize, roles: &[u8]) -> usize
-    requires { ⌜ (at + 65536 < 2 ^ 64) × (length (now roles) ≤ MAX-ROWS) ⌝ }
     ensures { λ r. ⌜ Put (now (out .entry)) (now (out .exit)) at r (roleLines 0 (now (roles .entry))) ⌝ }
-    ensures { λ r. ⌜ r ≤ at + 9 * length (now (roles .entry)) ⌝ }
 {
     let mut i = 0;
     let mut end = at;
@@ -78,7 +73,7 @@ fn put_lines(out: &mut [u8], at: usize, roles: &[u8]) -> usize
 
 // Reads the list and writes the report at the start of out; answers its length.
 pub fn report_roles(list: &[u8], roles: &mut [u8], out: &mut [u8]) -> usize
-    ensures { λ r. ⌜ Put (now (out .entry)) (now (out .exit)) 0 r
+    ensures { λ r. ⌜ Printed (now (out .entry)) (now (out .exit)) r
         (rolesText (answer (now (list .entry)) (length (now (roles .entry))))) ⌝ }
     ensures { λ _. ⌜ now (roles .exit) ≡ buffer (length (now (roles .entry)))
         (answer (now (list .entry)) (length (now (roles .entry)))) ⌝ }
@@ -87,7 +82,7 @@ pub fn report_roles(list: &[u8], roles: &mut [u8], out: &mut [u8]) -> usize
         OneRefusal readNumber (now (list .entry)) n p) ⌝ }
 {
     match read_roles(list, roles) {
-        Roles::Refused(r) => put_refusal(out, 0, r),
+        Roles::Refused(r) => put_refusal(out, r),
         Roles::Rows(n) => {
             let names = put_bytes(out, 0, b"row role\n");
             put_lines(out, names, &roles[..n])

@@ -1,8 +1,9 @@
-use Prim.Native.Nat.{_≤_}
 use lib.ListN.{length}
 use native.Mathlib.Omega.{arith}
 use mathlib.Core.Path.{_≡_, sym}
 use lib.Seq.{length-take-le}
+use Rattle.output.proofs.Texts.{at-most, decimal-few}
+use Rattle.replay.proofs.Headers.{topic-few}
 use borrow.Author.Needs.{needs}
 use Rattle.replay.proofs.name_difference.Statement.{statement}
 use Rattle.replay.proofs.name_difference.Tie as tie
@@ -44,20 +45,28 @@ put-byte-requires : tie.Need-put-byte-requires
 put-byte-requires c κs = search needs
 
 array-share-prefix-out : tie.Need-array-share-prefix-out
-array-share-prefix-out c = search needs
+array-share-prefix-out c =
+    let e = c .before .put-byte in
+    let m = c .before .before .before .before .put-topic in
+    let middle = c .before .before .before .before .before .before .before in
+    let start = middle .before .before .before .before .before .before .before .before .before .before in
+    let v = middle .put-bytes2 in
+    let n = middle .before .before .before .before .put-number in
+    let w = middle .before .before .before .before .before .before .before .put-bytes in
+    let args = start .args in
+    let room : length (e .last .0) ≡ 64 = omega (arith, e .kept .0, m .kept .0, v .kept .0, n .kept .0, w .kept .0) in
+    let number = decimal-few (args .case) (start .fits .case .fits) in
+    let word = at-most (w .ensures) in
+    let counted = at-most (n .ensures) in
+    let section = at-most (v .ensures) in
+    let name = at-most (m .ensures) in
+    let end = at-most (e .ensures) in
+    omega (arith, room, word, number, counted, section, topic-few (args .topic), name, end)
 
 slice-aggregate-write-all : tie.Need-slice-aggregate-write-all
 slice-aggregate-write-all c =
     let e = c .before .before .put-byte in
-    let m = c .before .before .before .before .before .put-topic in
-    let middle = c .before .before .before .before .before .before .before .before in
-    let v = middle .put-bytes2 in
-    let n = middle .before .before .before .before .put-number in
-    let w = middle .before .before .before .before .before .before .before .put-bytes in
-    let room : length (e .last .0) ≡ 64 = omega (arith, e .kept .0, m .kept .0, v .kept .0, n .kept .0, w .kept .0) in
-    let text : e .result ≤ length (e .last .0) =
-    omega (arith, room, e .ensures .next, m .ensures .1, v .ensures .next, n .ensures .1, w .ensures .next) in
-    sym (length-take-le (e .result) (e .last .0) text)
+    sym (length-take-le (e .result) (e .last .0) (array-share-prefix-out (c .before)))
 
 write-all-requires : tie.Need-write-all-requires
 write-all-requires c κs = search needs

@@ -1,6 +1,7 @@
 use lib.Seq.{length-take-le}
 use mathlib.Core.Path.{sym}
 use native.Mathlib.Omega.{arith}
+use Rattle.output.proofs.Texts.{at-most, decimal-few}
 use borrow.Author.Needs.{needs}
 use Rattle.replay.proofs.print_count.Statement.{statement}
 use Rattle.replay.proofs.print_count.Tie as tie
@@ -24,14 +25,21 @@ put-byte-requires : tie.Need-put-byte-requires
 put-byte-requires c κs = search needs
 
 array-share-prefix-out : tie.Need-array-share-prefix-out
-array-share-prefix-out c = search needs
+array-share-prefix-out c =
+    let e = c .before .put-byte in
+    let n = c .before .before .before .before .put-number in
+    let w = c .before .before .before .before .before .before .before .put-bytes in
+    let start = c .before .before .before .before .before .before .before .before .before .before in
+    let number = decimal-few (start .args .count) (omega arith) in
+    let word = at-most (w .ensures) in
+    let counted = at-most (n .ensures) in
+    let end = at-most (e .ensures) in
+    omega (arith, start .pre, e .kept .0, n .kept .0, w .kept .0, word, number, counted, end)
 
 slice-aggregate-write-all : tie.Need-slice-aggregate-write-all
 slice-aggregate-write-all c =
-    let e = (c .before .before .put-byte) in
-    let n = (c .before .before .before .before .before .put-number) in
-    let w = (c .before .before .before .before .before .before .before .before .put-bytes) in
-    sym (length-take-le (e .result) (e .last .0) (omega (arith, e .ensures .next, n .ensures .1, w .ensures .next, e .kept .0, n .kept .0, w .kept .0, (c .before .before .before .before .before .before .before .before .before .before .before .pre))))
+    let e = c .before .before .put-byte in
+    sym (length-take-le (e .result) (e .last .0) (array-share-prefix-out (c .before)))
 
 write-all-requires : tie.Need-write-all-requires
 write-all-requires c κs = search needs

@@ -1,4 +1,3 @@
-use native.Mathlib.Omega.{arith}
 use Rattle.output.proofs.Texts.{joined}
 use borrow.Author.Needs.{needs}
 use Rattle.describe.proofs.lines.put_head.Statement.{statement}
@@ -15,13 +14,9 @@ same-length c = search needs
 
 returns : tie.Need-returns
 returns c =
-    let pre = c .before .before .before .before .before .before .before .before .before .before .before .pre in
     let put-bytes = c .before .before .before .before .before .before .put-bytes in
-    let put-token = c .before .before .put-token in (
-      joined (put-bytes .ensures) (put-token .ensures .0),
-      omega
-          (arith, put-bytes .ensures .next, put-token .ensures .1, pre .1 .1 .0),
-    )
+    let put-token = c .before .before .put-token in
+    joined (put-bytes .ensures) (put-token .ensures)
 
 pub put-head-spec : {M : Type 1} → statement M
 put-head-spec = tie.close (tie.spec put-bytes-requires put-token-requires same-length returns)

@@ -1,4 +1,3 @@
-use native.Mathlib.Omega.{arith}
 use lib.Seq.{slice}
 use mathlib.Core.Path.{sym}
 use Rattle.parse.specs.Contract as contract
@@ -28,19 +27,17 @@ same-length c = search needs
 
 returns : tie.Need-returns
 returns c =
-    let args = c .before .before .before .before .before .before .before .before .before .before .before .before .before .before .before .before .args in
-    let put-bytes =
-    c .before .before .before .before .before .before .before .before .before .before .before .put-bytes in
-    let put-kind = c .before .before .before .before .before .before .put-kind in
-    let put-position = c .before .before .put-position in (
-      λ x k.
-          joined (put-bytes .ensures)
-          (put-as (λ i. line (kindText (k .kind i)) (k .name .bytes i) (decimal (sym (k .count) i)))
-          (put-line (kindText (contract.kindOf (args .d .kind)))
-          (slice (args .d .name .start) (args .d .name .end) (args .s .now)) (decimal (args .d .count))
-          (put-kind .ensures .0) (put-position .ensures .0))),
-      omega (arith, put-bytes .ensures .next, put-kind .ensures .1, put-position .ensures .1),
-    )
+    let put-position = c .before .before .put-position in
+    let after-put-kind = c .before .before .before .before .before .before in
+    let put-kind = after-put-kind .put-kind in
+    let put-bytes = after-put-kind .before .before .before .before .before .put-bytes in
+    let args = after-put-kind .before .before .before .before .before .before .before .before .before .before .args in
+    let name = slice (args .d .name .start) (args .d .name .end) (args .s .now) in
+    let kind = kindText (contract.kindOf (args .d .kind)) in
+    λ x k.
+    let named = put-line kind name (decimal (args .d .count)) (put-kind .ensures) (put-position .ensures) in
+    joined (put-bytes .ensures)
+    (put-as (λ i. line (kindText (k .kind i)) (k .name .bytes i) (decimal (sym (k .count) i))) named)
 
 pub put-item-spec : {M : Type 1} → statement M
 put-item-spec =

@@ -33,13 +33,9 @@ returns : tie.Need-returns
 returns c =
     let args = c .before .before .before .before .before .before .before .before .before .args in
     let enum-told = c .before .before .before .before .before .enum-told in
-    let put-head = c .before .before .put-head in (
-      put-as
-          (ap (λ k. kindText (contract.kindOf k) ++ slice (args .name .start) (args .name .end) (args .s .now))
-          (enum-told .given .1))
-          (put-head .ensures .0),
-      put-head .ensures .1,
-    )
+    let put-head = c .before .before .put-head in
+    let name = slice (args .name .start) (args .name .end) (args .s .now) in
+    put-as (ap (λ k. kindText (contract.kindOf k) ++ name) (enum-told .given .1)) (put-head .ensures)
 
 same-length-2 : tie.Need-same-length-2
 same-length-2 c = search needs
@@ -48,13 +44,9 @@ returns-2 : tie.Need-returns-2
 returns-2 c =
     let args = c .before .before .before .before .before .before .before .before .before .args in
     let enum-told2 = c .before .before .before .before .before .enum-told2 in
-    let put-head2 = c .before .before .put-head2 in (
-      put-as
-          (ap (λ k. kindText (contract.kindOf k) ++ slice (args .name .start) (args .name .end) (args .s .now))
-          (enum-told2 .given .1))
-          (put-head2 .ensures .0),
-      put-head2 .ensures .1,
-    )
+    let put-head2 = c .before .before .put-head2 in
+    let name = slice (args .name .start) (args .name .end) (args .s .now) in
+    put-as (ap (λ k. kindText (contract.kindOf k) ++ name) (enum-told2 .given .1)) (put-head2 .ensures)
 
 pub put-kind-spec : {M : Type 1} → statement M
 put-kind-spec =

@@ -1,4 +1,3 @@
-use native.Mathlib.Omega.{arith}
 use lib.Seq.{slice}
 use Rattle.output.specs.Text.{decimal}
 use Rattle.describe.proofs.Lined.{put-line}
@@ -23,11 +22,9 @@ returns : tie.Need-returns
 returns c =
     let args = c .before .before .before .before .before .before .before .before .before .before .before .args in
     let put-head = c .before .before .before .before .before .before .put-head in
-    let put-position = c .before .before .put-position in (
-      put-line FIELD (slice (args .name .start) (args .name .end) (args .s .now)) (decimal (args .n))
-          (put-head .ensures .0) (put-position .ensures .0),
-      omega (arith, put-head .ensures .1, put-position .ensures .1),
-    )
+    let put-position = c .before .before .put-position in
+    put-line FIELD (slice (args .name .start) (args .name .end) (args .s .now)) (decimal (args .n)) (put-head .ensures)
+    (put-position .ensures)
 
 pub put-named-spec : {M : Type 1} → statement M
 put-named-spec =

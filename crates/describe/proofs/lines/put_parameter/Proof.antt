@@ -1,4 +1,3 @@
-use native.Mathlib.Omega.{arith}
 use lib.Seq.{slice}
 use mathlib.Core.List.{_∷_}
 use mathlib.Core.Path.{sym, _∙_, ap}
@@ -26,17 +25,15 @@ same-length c = search needs
 
 returns : tie.Need-returns
 returns c =
-    let args = c .before .before .before .before .before .before .before .before .before .before .before .before .before .before .args in
-    let if1 = c .before .before .before .before .before .before .before .before .before .before .if1 in
+    let put-bytes = c .before .before .put-bytes in
     let put-head = c .before .before .before .before .before .before .before .put-head in
-    let put-bytes = c .before .before .put-bytes in (
-      λ a k.
-          put-as (ap (λ n. line PARAM n DASH) (quoted a (sym (k .kind) ∙ if1 .taken) ∙
-          ap (λ n. 39 ∷ n) (k .text .bytes)))
-          (put-line PARAM (39 ∷ slice (args .p .name .start) (args .p .name .end) (args .s .now)) DASH
-          (put-head .ensures .0) (put-bytes .ensures)),
-      omega (arith, put-head .ensures .1, put-bytes .ensures .next),
-    )
+    let after-if1 = c .before .before .before .before .before .before .before .before .before .before in
+    let if1 = after-if1 .if1 in
+    let args = after-if1 .before .before .before .before .args in
+    let name = slice (args .p .name .start) (args .p .name .end) (args .s .now) in
+    λ a k.
+    let same = quoted a (sym (k .kind) ∙ if1 .taken) ∙ ap (λ n. 39 ∷ n) (k .text .bytes) in
+    put-as (ap (λ n. line PARAM n DASH) same) (put-line PARAM (39 ∷ name) DASH (put-head .ensures) (put-bytes .ensures))
 
 slice-aggregate-put-head-2 : tie.Need-slice-aggregate-put-head-2
 slice-aggregate-put-head-2 c = search needs
@@ -55,16 +52,15 @@ same-length-2 c = search needs
 
 returns-2 : tie.Need-returns-2
 returns-2 c =
-    let args = c .before .before .before .before .before .before .before .before .before .before .before .before .before .before .args in
-    let if1 = c .before .before .before .before .before .before .before .before .before .before .if1 in
+    let put-bytes2 = c .before .before .put-bytes2 in
     let put-head2 = c .before .before .before .before .before .before .before .put-head2 in
-    let put-bytes2 = c .before .before .put-bytes2 in (
-      λ a k.
-          put-as (ap (λ n. line PARAM n DASH) (unquoted a (sym (k .kind) ∙ if1 .left) ∙ k .text .bytes))
-          (put-line PARAM (slice (args .p .name .start) (args .p .name .end) (args .s .now)) DASH
-          (put-head2 .ensures .0) (put-bytes2 .ensures)),
-      omega (arith, put-head2 .ensures .1, put-bytes2 .ensures .next),
-    )
+    let after-if1 = c .before .before .before .before .before .before .before .before .before .before in
+    let if1 = after-if1 .if1 in
+    let args = after-if1 .before .before .before .before .args in
+    let name = slice (args .p .name .start) (args .p .name .end) (args .s .now) in
+    λ a k.
+    let same = unquoted a (sym (k .kind) ∙ if1 .left) ∙ k .text .bytes in
+    put-as (ap (λ n. line PARAM n DASH) same) (put-line PARAM name DASH (put-head2 .ensures) (put-bytes2 .ensures))
 
 pub put-parameter-spec : {M : Type 1} → statement M
 put-parameter-spec =

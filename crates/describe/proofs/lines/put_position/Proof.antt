@@ -1,4 +1,3 @@
-use native.Mathlib.Omega.{arith}
 use Rattle.output.proofs.Texts.{joined}
 use borrow.Author.Needs.{needs}
 use Rattle.describe.proofs.lines.put_position.Statement.{statement}
@@ -20,11 +19,8 @@ returns : tie.Need-returns
 returns c =
     let put-byte = c .before .before .before .before .before .before .before .before .before .before .put-byte in
     let put-number = c .before .before .before .before .before .before .put-number in
-    let put-byte2 = c .before .before .put-byte2 in (
-      joined (put-byte .ensures) (joined (put-number .ensures .0) (put-byte2 .ensures)),
-      omega
-          (arith, put-byte .ensures .next, put-number .ensures .1, put-byte2 .ensures .next),
-    )
+    let put-byte2 = c .before .before .put-byte2 in
+    joined (put-byte .ensures) (joined (put-number .ensures) (put-byte2 .ensures))
 
 pub put-position-spec : {M : Type 1} → statement M
 put-position-spec =

@@ -1,5 +1,4 @@
 use native.Mathlib.Omega.{arith}
-use lib.Seq.{length-slice}
 use Rattle.token_list.proofs.Texts.{slice-none}
 use Rattle.output.proofs.Texts.{nothing}
 use Rattle.describe.proofs.Worths.{put-as, drop-of-take}
@@ -25,17 +24,15 @@ same-length c = search needs
 returns : tie.Need-returns
 returns c =
     let args = c .before .before .before .before .before .before .before .before .args in
-    let pre = c .before .before .before .before .before .before .before .before .pre in
-    let p = put-as (drop-of-take (args .t .start) (args .t .end) (args .s .now))
-    ((c .before .before .put-bytes) .ensures) in (
-      p,
-      omega (arith, p .next, length-slice (args .t .start) (args .t .end) (args .s .now) (pre .0), pre .0, pre .1 .0),
-    )
+    let put-bytes = c .before .before .put-bytes in
+    put-as (drop-of-take (args .t .start) (args .t .end) (args .s .now)) (put-bytes .ensures)
 
 returns-2 : tie.Need-returns-2
 returns-2 c =
-    let args = c .before .before .before .args in
-    (put-as (slice-none (args .s .now) (args .t .start) (args .t .end) (omega arith)) (nothing _ _), omega arith)
+    let start = c .before .before .before in
+    let args = start .args in
+    put-as (slice-none (args .s .now) (args .t .start) (args .t .end) (omega arith))
+    (nothing _ _ (omega (arith, start .good)))
 
 pub put-token-spec : {M : Type 1} → statement M
 put-token-spec =

@@ -1,4 +1,3 @@
-use native.Mathlib.Omega.{arith}
 use Rattle.output.specs.Text.{decimal}
 use Rattle.describe.proofs.Lined.{put-line}
 use Rattle.describe.specs.Listing.{FIELD, DASH}
@@ -22,11 +21,8 @@ returns : tie.Need-returns
 returns c =
     let args = c .before .before .before .before .before .before .before .before .before .before .args in
     let put-bytes = c .before .before .before .before .before .before .put-bytes in
-    let put-position = c .before .before .put-position in (
-      put-line FIELD DASH (decimal (args .n)) (put-bytes .ensures) (put-position .ensures .0),
-      omega
-          (arith, put-bytes .ensures .next, put-position .ensures .1),
-    )
+    let put-position = c .before .before .put-position in
+    put-line FIELD DASH (decimal (args .n)) (put-bytes .ensures) (put-position .ensures)
 
 pub put-unnamed-spec : {M : Type 1} → statement M
 put-unnamed-spec =

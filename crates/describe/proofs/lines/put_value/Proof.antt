@@ -1,4 +1,3 @@
-use native.Mathlib.Omega.{arith}
 use Prim.Native.Nat.{ℕ}
 use mathlib.Core.List.{List}
 use mathlib.Core.Path.{sym, _∙_, ap, subst}
@@ -23,11 +22,9 @@ enum-known-v c = search needs
 put-token-requires : tie.Need-put-token-requires
 put-token-requires c κs =
     let args = c .before .before .before .before .before .before .args in
-    let pre = c .before .before .before .before .before .before .pre in (
-      subst (λ v. contract.ValueOf (args .s .now) v (pre .0 .0)) ((c .before .before .v) .given .1)
-          (pre .0 .1) .1 .within,
-      (pre .1 .0, omega (arith, pre .1 .1)),
-    )
+    let pre = c .before .before .before .before .before .before .pre in
+    let v = c .before .before .v in
+    subst (λ w. contract.ValueOf (args .s .now) w (pre .0)) (v .given .1) (pre .1) .1 .within
 
 enum-known-v-2 : tie.Need-enum-known-v-2
 enum-known-v-2 c = search needs
@@ -36,13 +33,11 @@ worth-requires : tie.Need-worth-requires
 worth-requires c κs =
     let args = c .before .before .before .before .before .args in
     let pre = c .before .before .before .before .before .pre in
-    let h = subst (λ v. contract.ValueOf (args .s .now) v (pre .0 .0)) ((c .before .v2) .given .1)
-    (pre .0 .1) in (h .1 .within, ap negatable (sym (h .1 .bytes)) ∙ h .2)
+    let h = subst (λ v. contract.ValueOf (args .s .now) v (pre .0)) ((c .before .v2) .given .1) (pre .1) in
+    (h .1 .within, ap negatable (sym (h .1 .bytes)) ∙ h .2)
 
 put-negative-requires : tie.Need-put-negative-requires
-put-negative-requires c κs =
-    let pre = c .before .before .before .before .before .before .before .pre in
-    (omega (arith, pre .1 .1), (c .before .worth) .ensures .1)
+put-negative-requires c κs = search needs
 
 same-length : tie.Need-same-length
 same-length c = search needs
@@ -51,12 +46,10 @@ returns : tie.Need-returns
 returns c =
     let args = c .before .before .before .before .before .before .before .before .args in
     let enum-told = c .before .before .before .before .enum-told in
-    let put-number = c .before .before .put-number in (
-      λ w k.
-          put-as (ap (number (args .n)) (subst (λ v. contract.ValueOf (args .s .now) v w) (enum-told .given .1) k))
-          (put-number .ensures .0),
-      omega (arith, put-number .ensures .1),
-    )
+    let put-number = c .before .before .put-number in
+    λ w k.
+    put-as (ap (number (args .n)) (subst (λ v. contract.ValueOf (args .s .now) v w) (enum-told .given .1) k))
+    (put-number .ensures)
 
 same-length-2 : tie.Need-same-length-2
 same-length-2 c = search needs
@@ -65,11 +58,10 @@ returns-2 : tie.Need-returns-2
 returns-2 c =
     let args = c .before .before .before .before .before .before .before .before .before .args in
     let v-2 = c .before .before .before .before .before .v in
-    let put-token = c .before .before .put-token in (
-      λ w k. let a = subst (λ v. contract.ValueOf (args .s .now) v w) (v-2 .given .1) k in put-as (ap (number (args .n))
-          (a .2) ∙ a .1 .bytes) (put-token .ensures .0),
-      put-token .ensures .1,
-    )
+    let put-token = c .before .before .put-token in
+    λ w k.
+    let a = subst (λ v. contract.ValueOf (args .s .now) v w) (v-2 .given .1) k in
+    put-as (ap (number (args .n)) (a .2) ∙ a .1 .bytes) (put-token .ensures)
 
 same-length-3 : tie.Need-same-length-3
 same-length-3 c = search needs
@@ -79,15 +71,12 @@ returns-3 c =
     let args = c .before .before .before .before .before .before .before .before .before .before .args in
     let v2 = c .before .before .before .before .before .before .v2 in
     let worth-2 = c .before .before .before .before .worth in
-    let put-negative = c .before .before .put-negative in (
-      λ w k. let a = subst (λ v. contract.ValueOf (args .s .now) v w) (v2 .given .1) k in put-as (ap (number (args .n))
-          (a .3) ∙ ap (λ (x : List ℕ). negativeText (worth x)) (a .1 .bytes) ∙
-          ap negativeText (sym (worth-2 .ensures .0))) (put-negative .ensures .0),
-      omega (
-        arith,
-        put-negative .ensures .1,
-      ),
-    )
+    let put-negative = c .before .before .put-negative in
+    λ w k.
+    let a = subst (λ v. contract.ValueOf (args .s .now) v w) (v2 .given .1) k in
+    let digits = ap (λ (x : List ℕ). negativeText (worth x)) (a .1 .bytes) in
+    let same = digits ∙ ap negativeText (sym (worth-2 .ensures .0)) in
+    put-as (ap (number (args .n)) (a .3) ∙ same) (put-negative .ensures)
 
 pub put-value-spec : {M : Type 1} → statement M
 put-value-spec =

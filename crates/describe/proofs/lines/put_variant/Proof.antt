@@ -1,4 +1,3 @@
-use native.Mathlib.Omega.{arith}
 use lib.Seq.{slice}
 use mathlib.Core.Path.{ap}
 use Rattle.output.proofs.Texts.{joined}
@@ -20,11 +19,9 @@ put-byte-requires c κs = search needs
 
 put-value-requires : tie.Need-put-value-requires
 put-value-requires c κs =
-    let pre = c .before .before .before .before .before .before .before .before .before .before .before .before .before .pre in
-    let put-head = c .before .before .before .before .before .before .before .put-head in (
-      (pre .0 .0 .value, pre .0 .1 .value),
-      (pre .1 .0, omega (arith, put-head .ensures .1, (c .before .before .before .put-byte) .ensures .next, pre .1 .1)),
-    )
+    let after-put-head = c .before .before .before .before .before .before .before in
+    let pre = after-put-head .before .before .before .before .before .before .pre in
+    (pre .0 .value, pre .1 .value)
 
 put-byte-requires-2 : tie.Need-put-byte-requires-2
 put-byte-requires-2 c κs = search needs
@@ -34,18 +31,17 @@ same-length c = search needs
 
 returns : tie.Need-returns
 returns c =
-    let args = c .before .before .before .before .before .before .before .before .before .before .before .before .before .before .before .before .before .before .before .before .args in
-    let put-head = c .before .before .before .before .before .before .before .before .before .before .before .before .before .before .put-head in
-    let put-byte = c .before .before .before .before .before .before .before .before .before .before .put-byte in
+    let put-byte2 = c .before .before .put-byte2 in
     let put-value = c .before .before .before .before .before .before .put-value in
-    let put-byte2 = c .before .before .put-byte2 in (
-      λ a k.
-          put-as (ap (λ n. line VARIANT n (number (args .n) (a .value))) (k .name .bytes))
-          (put-line VARIANT (slice (args .v .name .start) (args .v .name .end) (args .s .now))
-          (number (args .n) (a .value)) (put-head .ensures .0)
-          (joined (put-byte .ensures) (joined (put-value .ensures .0 (a .value) (k .value)) (put-byte2 .ensures)))),
-      omega (arith, put-head .ensures .1, put-byte .ensures .next, put-value .ensures .1, put-byte2 .ensures .next),
-    )
+    let after-put-byte = c .before .before .before .before .before .before .before .before .before .before in
+    let put-byte = after-put-byte .put-byte in
+    let put-head = after-put-byte .before .before .before .before .put-head in
+    let args = after-put-byte .before .before .before .before .before .before .before .before .before .before .args in
+    let name = slice (args .v .name .start) (args .v .name .end) (args .s .now) in
+    λ a k.
+    let n = number (args .n) (a .value) in
+    let rest = joined (put-byte .ensures) (joined (put-value .ensures (a .value) (k .value)) (put-byte2 .ensures)) in
+    put-as (ap (λ x. line VARIANT x n) (k .name .bytes)) (put-line VARIANT name n (put-head .ensures) rest)
 
 pub put-variant-spec : {M : Type 1} → statement M
 put-variant-spec =

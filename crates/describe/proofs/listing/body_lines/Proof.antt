@@ -26,53 +26,44 @@ enum-known-t c = search needs
 past-requires : tie.Need-past-requires
 past-requires c κs =
     let pre = c .before .before .before .before .before .before .before .before .pre in
-    (pre .0, (meeting.peeked _ _ ((c .before .before .before .peek) .ensures) ((c .before .t) .given .1)) .token)
+    (pre, (meeting.peeked _ _ ((c .before .before .before .peek) .ensures) ((c .before .t) .given .1)) .token)
 
 enum-told-3 : tie.Need-enum-told-3
 enum-told-3 c = search needs
 
 struct-lines-requires : tie.Need-struct-lines-requires
 struct-lines-requires c κs =
-    let pre = c .before .before .before .before .before .before .before .before .before .before .before .before .before .pre in
-    let peek = c .before .before .before .before .before .before .before .before .peek in
+    let past = c .before .before .before .before .past in
     let t = c .before .before .before .before .before .before .t in
-    let past = c .before .before .before .before .past in (
-      meeting.past-in-of _ _ _ _ (past .ensures) (pre .0) ((meeting.peeked _ _ (peek .ensures) (t .given .1)) .token),
-      (pre .1 .0, pre .1 .1),
-    )
+    let after-peek = c .before .before .before .before .before .before .before .before in
+    let peek = after-peek .peek in
+    let pre = after-peek .before .before .before .before .before .pre in
+    meeting.past-in-of _ _ _ _ (past .ensures) pre (meeting.peeked _ _ (peek .ensures) (t .given .1) .token)
 
 enum-told-4 : tie.Need-enum-told-4
 enum-told-4 c = search needs
 
 variant-lines-requires : tie.Need-variant-lines-requires
 variant-lines-requires c κs =
-    let pre = c .before .before .before .before .before .before .before .before .before .before .before .before .before .pre in
-    let peek = c .before .before .before .before .before .before .before .before .peek in
+    let past = c .before .before .before .before .past in
     let t = c .before .before .before .before .before .before .t in
-    let past = c .before .before .before .before .past in (
-      meeting.past-in-of _ _ _ _ (past .ensures) (pre .0) ((meeting.peeked _ _ (peek .ensures) (t .given .1)) .token),
-      (pre .1 .0, pre .1 .1),
-    )
+    let after-peek = c .before .before .before .before .before .before .before .before in
+    let peek = after-peek .peek in
+    let pre = after-peek .before .before .before .before .before .pre in
+    meeting.past-in-of _ _ _ _ (past .ensures) pre (meeting.peeked _ _ (peek .ensures) (t .given .1) .token)
 
 returns : tie.Need-returns
 returns c =
-    let args = c .before .before .before .before .before .before .before .args in (
-      λ b k.
-          body-end (contract.kindOf (args .d .kind)) k
-          (meeting.peeked _ _ ((c .before .before .peek) .ensures) ((c .enum-told) .given .1)),
-      omega arith,
-    )
+    let args = c .before .before .before .before .before .before .before .args in
+    let peek = c .before .before .peek in
+    λ b k. body-end (contract.kindOf (args .d .kind)) k (meeting.peeked _ _ (peek .ensures) (c .enum-told .given .1))
 
 returns-2 : tie.Need-returns-2
 returns-2 c =
-    let args = c .before .before .before .before .before .before .before .args in (
-      λ b k.
-          put-as
-          (body-leaf (contract.kindOf (args .d .kind)) k
-          (meeting.peeked _ _ ((c .before .before .peek) .ensures) ((c .enum-told2) .given .1)))
-          (nothing _ _),
-      omega arith,
-    )
+    let start = c .before .before .before .before .before .before .before in
+    let kind = contract.kindOf (start .args .d .kind) in
+    let leaf = meeting.peeked _ _ (c .before .before .peek .ensures) (c .enum-told2 .given .1) in
+    λ b k. put-as (body-leaf kind k leaf) (nothing _ _ (omega (arith, start .good)))
 
 same-length : tie.Need-same-length
 same-length c = search needs
@@ -82,18 +73,19 @@ same-length-2 c = search needs
 
 returns-3 : tie.Need-returns-3
 returns-3 c =
-    let args = c .before .before .before .before .before .before .before .before .before .before .before .before .before .before .before .before .before .before .args in
-    let peek = c .before .before .before .before .before .before .before .before .before .before .before .before .before .peek in
-    let t = c .before .before .before .before .before .before .before .before .before .before .before .t in
-    let past = c .before .before .before .before .before .before .before .before .before .past in
+    let struct-lines = c .before .before .before .before .struct-lines in
     let enum-told3 = c .before .before .before .before .before .before .before .enum-told3 in
-    let struct-lines = c .before .before .before .before .struct-lines in (
-      λ b k. let g = struct-group (subst (λ kd. contract.InsideAt (reading.bodyOf (contract.kindOf kd)) (args .s .now)
-          (args .d .body) b) (enum-told3 .given .1) k) _ _ (meeting.peeked _ _ (peek .ensures) (t .given .1))
-          (past .ensures) in put-as (ap bodyLines (g .1))
-          (struct-lines .ensures .0 (g .0) (g .2)),
-      omega (arith, struct-lines .ensures .1),
-    )
+    let past = c .before .before .before .before .before .before .before .before .before .past in
+    let after-t = c .before .before .before .before .before .before .before .before .before .before .before in
+    let t = after-t .t in
+    let peek = after-t .before .before .peek in
+    let args = after-t .before .before .before .before .before .before .before .args in
+    let group = meeting.peeked _ _ (peek .ensures) (t .given .1) in
+    λ b k.
+    let known = subst (λ kd. contract.InsideAt (reading.bodyOf (contract.kindOf kd)) (args .s .now) (args .d .body) b)
+    (enum-told3 .given .1) k in
+    let g = struct-group known _ _ group (past .ensures) in
+    put-as (ap bodyLines (g .1)) (struct-lines .ensures (g .0) (g .2))
 
 same-length-3 : tie.Need-same-length-3
 same-length-3 c = search needs
@@ -103,18 +95,19 @@ same-length-4 c = search needs
 
 returns-4 : tie.Need-returns-4
 returns-4 c =
-    let args = c .before .before .before .before .before .before .before .before .before .before .before .before .before .before .before .before .before .before .args in
-    let peek = c .before .before .before .before .before .before .before .before .before .before .before .before .before .peek in
-    let t = c .before .before .before .before .before .before .before .before .before .before .before .t in
-    let past = c .before .before .before .before .before .before .before .before .before .past in
+    let variant-lines = c .before .before .before .before .variant-lines in
     let enum-told4 = c .before .before .before .before .before .before .before .enum-told4 in
-    let variant-lines = c .before .before .before .before .variant-lines in (
-      λ b k. let g = enum-group (subst (λ kd. contract.InsideAt (reading.bodyOf (contract.kindOf kd)) (args .s .now)
-          (args .d .body) b) (enum-told4 .given .1) k) _ _ (meeting.peeked _ _ (peek .ensures) (t .given .1))
-          (past .ensures) in put-as (ap bodyLines (g .1))
-          (variant-lines .ensures .0 (g .0) (g .2)),
-      omega (arith, variant-lines .ensures .1),
-    )
+    let past = c .before .before .before .before .before .before .before .before .before .past in
+    let after-t = c .before .before .before .before .before .before .before .before .before .before .before in
+    let t = after-t .t in
+    let peek = after-t .before .before .peek in
+    let args = after-t .before .before .before .before .before .before .before .args in
+    let group = meeting.peeked _ _ (peek .ensures) (t .given .1) in
+    λ b k.
+    let known = subst (λ kd. contract.InsideAt (reading.bodyOf (contract.kindOf kd)) (args .s .now) (args .d .body) b)
+    (enum-told4 .given .1) k in
+    let g = enum-group known _ _ group (past .ensures) in
+    put-as (ap bodyLines (g .1)) (variant-lines .ensures (g .0) (g .2))
 
 pub body-lines-spec : {M : Type 1} → statement M
 body-lines-spec =

@@ -17,11 +17,9 @@ enum-known-fields c = search needs
 named-lines-requires : tie.Need-named-lines-requires
 named-lines-requires c κs =
     let args = c .before .before .before .before .before .before .before .before .args in
-    let pre = c .before .before .before .before .before .before .before .before .pre in (
-      subst (λ v. contract.FieldsOf (args .s .now) v (pre .0 .0)) ((c .before .before .before .fields) .given .1)
-          (pre .0 .1) .2 .inList,
-      (pre .1 .0, pre .1 .1),
-    )
+    let pre = c .before .before .before .before .before .before .before .before .pre in
+    let fields = c .before .before .before .fields in
+    subst (λ v. contract.FieldsOf (args .s .now) v (pre .0)) (fields .given .1) (pre .1) .2 .inList
 
 enum-known-fields-2 : tie.Need-enum-known-fields-2
 enum-known-fields-2 c = search needs
@@ -29,20 +27,17 @@ enum-known-fields-2 c = search needs
 tuple-lines-requires : tie.Need-tuple-lines-requires
 tuple-lines-requires c κs =
     let args = c .before .before .before .before .before .before .before .before .args in
-    let pre = c .before .before .before .before .before .before .before .before .pre in (
-      subst (λ v. contract.FieldsOf (args .s .now) v (pre .0 .0)) ((c .before .before .before .fields2) .given .1)
-          (pre .0 .1) .2 .inList,
-      (pre .1 .0, pre .1 .1),
-    )
+    let pre = c .before .before .before .before .before .before .before .before .pre in
+    let fields = c .before .before .before .fields2 in
+    subst (λ v. contract.FieldsOf (args .s .now) v (pre .0)) (fields .given .1) (pre .1) .2 .inList
 
 returns : tie.Need-returns
 returns c =
-    let args = c .before .before .before .before .before .args in (
-      λ f k.
-          put-as (ap fieldLines (subst (λ v. contract.FieldsOf (args .s .now) v f) ((c .enum-told) .given .1) k))
-          (nothing _ _),
-      omega arith,
-    )
+    let start = c .before .before .before .before .before in
+    let args = start .args in
+    λ f k.
+    let same = subst (λ v. contract.FieldsOf (args .s .now) v f) (c .enum-told .given .1) k in
+    put-as (ap fieldLines same) (nothing _ _ (omega (arith, start .good)))
 
 same-length : tie.Need-same-length
 same-length c = search needs
@@ -52,13 +47,13 @@ same-length-2 c = search needs
 
 returns-2 : tie.Need-returns-2
 returns-2 c =
-    let args = c .before .before .before .before .before .before .before .before .before .before .before .before .before .args in
-    let fields = c .before .before .before .before .before .before .before .before .fields in
-    let named-lines = c .before .before .before .before .named-lines in (
-      λ f k. let a = subst (λ v. contract.FieldsOf (args .s .now) v f) (fields .given .1) k in put-as (ap fieldLines
-          (a .1)) (named-lines .ensures .0 (a .0) (a .2)),
-      named-lines .ensures .1,
-    )
+    let named-lines = c .before .before .before .before .named-lines in
+    let after-fields = c .before .before .before .before .before .before .before .before in
+    let fields = after-fields .fields in
+    let args = after-fields .before .before .before .before .before .args in
+    λ f k.
+    let a = subst (λ v. contract.FieldsOf (args .s .now) v f) (fields .given .1) k in
+    put-as (ap fieldLines (a .1)) (named-lines .ensures (a .0) (a .2))
 
 same-length-3 : tie.Need-same-length-3
 same-length-3 c = search needs
@@ -68,13 +63,13 @@ same-length-4 c = search needs
 
 returns-3 : tie.Need-returns-3
 returns-3 c =
-    let args = c .before .before .before .before .before .before .before .before .before .before .before .before .before .args in
-    let fields2 = c .before .before .before .before .before .before .before .before .fields2 in
-    let tuple-lines = c .before .before .before .before .tuple-lines in (
-      λ f k. let a = subst (λ v. contract.FieldsOf (args .s .now) v f) (fields2 .given .1) k in put-as (ap fieldLines
-          (a .1)) (tuple-lines .ensures .0 (a .0) (a .2)),
-      tuple-lines .ensures .1,
-    )
+    let tuple-lines = c .before .before .before .before .tuple-lines in
+    let after-fields2 = c .before .before .before .before .before .before .before .before in
+    let fields2 = after-fields2 .fields2 in
+    let args = after-fields2 .before .before .before .before .before .args in
+    λ f k.
+    let a = subst (λ v. contract.FieldsOf (args .s .now) v f) (fields2 .given .1) k in
+    put-as (ap fieldLines (a .1)) (tuple-lines .ensures (a .0) (a .2))
 
 pub field-lines-spec : {M : Type 1} → statement M
 field-lines-spec =

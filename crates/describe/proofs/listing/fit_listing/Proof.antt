@@ -17,7 +17,7 @@ same-length c = search needs
 returns : tie.Need-returns
 returns c =
     let put-listing = c .before .before .before .before .put-listing in
-    λ x k. fits-not (listing x) (put-listing .result) (omega (arith, put-listing .ensures x k .next)) (omega arith)
+    λ x k. fits-not (listing x) (put-listing .result) (put-listing .ensures x k .next) (omega arith)
 
 put-listing-requires-2 : tie.Need-put-listing-requires-2
 put-listing-requires-2 c κs = search needs
@@ -34,7 +34,7 @@ returns-2 c =
     c .before .before .before .before .before .before .before .before .before .before .before .put-listing in
     let put-listing2 = c .before .before .before .before .put-listing2 in
     λ x k.
-    fits (listing x) (put-listing .result) (omega (arith, put-listing .ensures x k .next)) (omega arith)
+    fits (listing x) (put-listing .result) (put-listing .ensures x k .next) (omega arith)
     (put-listing2 .ensures x k)
 
 pub fit-listing-spec : {M : Type 1} → statement M

@@ -22,11 +22,10 @@ fit-listing-requires : tie.Need-fit-listing-requires
 fit-listing-requires c κs =
     let args =
     c .before .before .before .before .before .before .before .before .before .before .before .before .args in
-    let pre = c .before .before .before .before .before .before .before .before .before .before .before .before .pre in
     let item = c .before .before .before .before .before .before .before .item in
     let m = meets-tells (meeting.say (itemShown (args .s .now) first) itemSaid
     ((c .before .before .before .d) .given .1) (item .ensures)) in
-    ((m .0, m .4 .0), pre .1)
+    (m .0, m .4 .0)
 
 same-length : tie.Need-same-length
 same-length c = search needs
@@ -47,11 +46,11 @@ same-length-3 c = search needs
 
 returns-2 : tie.Need-returns-2
 returns-2 c =
-    let args = c .before .before .before .before .before .before .before .before .before .before .before .before .before .before .before .before .before .args in
-    let item =
-    c .before .before .before .before .before .before .before .before .before .before .before .before .item in
-    let d = c .before .before .before .before .before .before .before .before .d in
     let fit-listing = c .before .before .before .before .fit-listing in
+    let after-d = c .before .before .before .before .before .before .before .before in
+    let d = after-d .d in
+    let item = after-d .before .before .before .before .item in
+    let args = after-d .before .before .before .before .before .before .before .before .before .args in
     let m = meets-tells (meeting.say (itemShown (args .s .now) first) itemSaid (d .given .1)
     (item .ensures)) in listed-as (ap (λ t. fitted (length (args .out .now)) (itemAnswer t)) (m .3))
     (fit-listing .ensures (m .0) (m .4 .0))

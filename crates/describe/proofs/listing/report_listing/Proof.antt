@@ -1,5 +1,5 @@
 use native.Mathlib.Omega.{arith}
-use Rattle.describe.proofs.Answers.{listed-put, refused-put}
+use Rattle.describe.proofs.Answers.{listed-printed, refused-printed}
 use Rattle.describe.proofs.Length.{reported, reported-length}
 use borrow.Author.Needs.{needs}
 use Rattle.describe.proofs.listing.report_listing.Statement.{statement}
@@ -27,21 +27,21 @@ returns c =
     let list = args .list .now in
     let answered = write-listing .ensures .0 in
     let listed = rw (c .before .n .given .1) at answered in
-    reported list (listed-put listed) (reported-length list listed) (write-listing .ensures .1)
+    reported list (listed-printed listed) (reported-length list listed) (write-listing .ensures .1)
 
 same-length-2 : tie.Need-same-length-2
 same-length-2 c = search needs
 
 returns-2 : tie.Need-returns-2
 returns-2 c =
-    let args-2 = c .before .before .before .before .before .before .before .before .before .before .before .before .before .args in
-    let write-listing = c .before .before .before .before .before .before .before .before .before .write-listing in
+    let put = c .before .before .put-refusal .ensures in
     let r = c .before .before .before .before .before .r in
-    let args = args-2 in
+    let after-write-listing = c .before .before .before .before .before .before .before .before .before in
+    let write-listing = after-write-listing .write-listing in
+    let args = after-write-listing .before .before .before .before .args in
     let answered = write-listing .ensures .0 in
     let refused = rw (r .given .1) at answered in
-    let put = c .before .before .put-refusal .ensures in
-    reported (args .list .now) (refused-put refused (put .0)) (omega (arith, put .1)) (write-listing .ensures .1)
+    reported (args .list .now) (refused-printed refused (put .0)) (omega (arith, put .1)) (write-listing .ensures .1)
 
 pub report-listing-spec : {M : Type 1} → statement M
 report-listing-spec =

@@ -20,12 +20,10 @@ same-length-2 c = search needs
 returns : tie.Need-returns
 returns c =
     let args = c .before .before .before .before .before .before .before .before .before .before .before .args in
-    let named-lines = c .before .before .before .before .named-lines in (
-      λ f k. let a = subst (λ z. fieldsIn z (args .s .now) (args .c) f) (eq-eqb (args .mark) 123
-          (omega arith)) k in put-as (ap fieldLines (a .1))
-          (named-lines .ensures .0 (a .0) (a .2)),
-      named-lines .ensures .1,
-    )
+    let named-lines = c .before .before .before .before .named-lines in
+    λ f k.
+    let a = subst (λ z. fieldsIn z (args .s .now) (args .c) f) (eq-eqb (args .mark) 123 (omega arith)) k in
+    put-as (ap fieldLines (a .1)) (named-lines .ensures (a .0) (a .2))
 
 tuple-lines-requires : tie.Need-tuple-lines-requires
 tuple-lines-requires c κs = search needs
@@ -39,12 +37,10 @@ same-length-4 c = search needs
 returns-2 : tie.Need-returns-2
 returns-2 c =
     let args = c .before .before .before .before .before .before .before .before .before .before .before .args in
-    let tuple-lines = c .before .before .before .before .tuple-lines in (
-      λ f k. let a = subst (λ z. fieldsIn z (args .s .now) (args .c) f) (ne-eqb (args .mark) 123
-          (λ e. omega arith)) k in put-as (ap fieldLines (a .1))
-          (tuple-lines .ensures .0 (a .0) (a .2)),
-      tuple-lines .ensures .1,
-    )
+    let tuple-lines = c .before .before .before .before .tuple-lines in
+    λ f k.
+    let a = subst (λ z. fieldsIn z (args .s .now) (args .c) f) (ne-eqb (args .mark) 123 (λ e. omega arith)) k in
+    put-as (ap fieldLines (a .1)) (tuple-lines .ensures (a .0) (a .2))
 
 pub struct-lines-spec : {M : Type 1} → statement M
 struct-lines-spec =

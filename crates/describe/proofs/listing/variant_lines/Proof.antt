@@ -1,125 +1,74 @@
 use borrow.Author.Needs.{needs}
 use native.Mathlib.Omega.{arith}
-use Prim.Native.Nat.{_+_, _-_, _*_, _≤_}
+use Prim.Native.Nat.{_-_}
 use lib.ListN.{length}
-use mathlib.Core.Path.{_≡_, refl, _∙_}
-use Rattle.parse.proofs.Meeting as meeting
-use Rattle.reading.proofs.Conserved as conserved
-use Rattle.parse.specs.Contract as contract
-use Rattle.reading.specs.Reading as reading
+use mathlib.Core.Path.{_∙_}
 use Rattle.output.proofs.Texts.{joined}
 use Rattle.describe.proofs.Answers.{meets-tells}
-use Rattle.describe.proofs.Inside.{forward}
-use Rattle.describe.proofs.Lined.{Lined, lined-start, lined-more, lined-done, lined-refused}
-use Rattle.describe.specs.Listing.{variantLines}
+use Rattle.describe.proofs.Lined.{Lined, variants, turn, lined-start, lined-less, lined-more, lined-done, lined-refused}
 use Rattle.describe.proofs.listing.variant_lines.Statement.{statement}
 use Rattle.describe.proofs.listing.variant_lines.Tie as tie
 
 abbrev Inv-loop : tie.InvT-loop
 Inv-loop s roles₀ out₀ start c₀ at₀ number₀ roles out c at number =
-    Lined variantLines reading.variant s c₀ c out₀ out start at
-    number × (at ≤ start + 4300200000 * number) × (length roles ≡ length roles₀) × (length out ≡ length out₀)
+    Lined variants s c₀ c roles₀ roles out₀ out start at number
 
 abbrev μ-loop : tie.MeasureT-loop
 μ-loop s roles₀ out₀ start c₀ at₀ number₀ roles out c at number = length s - c .at
 
 loop-holds : tie.Need-loop-holds Inv-loop μ-loop
-loop-holds c = (
-  lined-start variantLines reading.variant conserved.variant-round ((c .before .before .before .pre) .0),
-  omega
-      arith,
-  refl,
-  refl,
-)
+loop-holds c =
+    let start = c .before .before .before in
+    lined-start variants (start .pre) (omega (arith, start .good))
 
 variant-requires : tie.Need-variant-requires Inv-loop μ-loop
-variant-requires c κs = (c .before .loop) .inv .0 .inList
+variant-requires c κs = c .before .loop .inv .inList
 
 enum-known-v : tie.Need-enum-known-v Inv-loop μ-loop
 enum-known-v c = search needs
 
 put-variant-requires : tie.Need-put-variant-requires Inv-loop μ-loop
 put-variant-requires c κs =
-    let args =
-    c .before .before .before .before .before .before .before .before .before .before .before .before .args in
-    let pre = c .before .before .before .before .before .before .before .before .before .before .before .before .pre in
-    let loop = c .before .before .before .before .before .before .before .before .loop in
     let variant = c .before .before .before .before .before .before .variant in
-    let v = c .before .before .v in (
-      (
-        meets-tells (meeting.say (contract.variantShown (args .s .now) (loop .c)) contract.variantSaid (v .given .1)
-            (variant .ensures)) .4 .0,
-        meets-tells (meeting.say (contract.variantShown (args .s .now) (loop .c))
-            contract.variantSaid (v .given .1) (variant .ensures)) .4 .2,
-      ),
-      (pre .1 .0, omega (arith, loop .inv .1, loop .inv .0 .few, loop .inv .0 .inList .within, pre .1 .0, pre .1 .1)),
-    )
+    let v = c .before .before .v in
+    let m = meets-tells (turn variants (v .given .1) (variant .ensures)) in
+    (m .4 .0, m .4 .2)
 
 field-lines-requires : tie.Need-field-lines-requires Inv-loop μ-loop
 field-lines-requires c κs =
-    let args = c .before .before .before .before .before .before .before .before .before .before .before .before .before .before .before .before .before .args in
-    let pre = c .before .before .before .before .before .before .before .before .before .before .before .before .before .before .before .before .before .pre in
-    let loop = c .before .before .before .before .before .before .before .before .before .before .before .before .before .loop in
     let variant = c .before .before .before .before .before .before .before .before .before .before .before .variant in
     let v = c .before .before .before .before .before .before .before .v in
-    let put-variant = c .before .before .before .before .put-variant in (
-      (
-        meets-tells (meeting.say (contract.variantShown (args .s .now) (loop .c)) contract.variantSaid (v .given .1)
-            (variant .ensures)) .4 .0 .fields,
-        meets-tells
-            (meeting.say (contract.variantShown (args .s .now) (loop .c)) contract.variantSaid (v .given .1)
-            (variant .ensures)) .4 .2 .fields,
-      ),
-      (
-        pre .1 .0,
-        omega (
-          arith,
-          put-variant .ensures .1,
-          loop .inv .1,
-          loop .inv .0 .few,
-          loop .inv .0 .inList .within,
-          pre .1 .0,
-          pre .1 .1,
-        ),
-      ),
-    )
+    let m = meets-tells (turn variants (v .given .1) (variant .ensures)) in
+    (m .4 .0 .fields, m .4 .2 .fields)
 
 add-number : tie.Need-add-number Inv-loop μ-loop
 add-number c =
-    let pre = c .before .before .before .before .before .before .before .before .before .before .before .before .before .before .before .before .before .before .before .before .before .before .before .pre in
-    let loop = c .before .before .before .before .before .before .before .before .before .before .before .before .before .before .before .before .before .before .before .loop in
-    omega (arith, loop .inv .0 .few, loop .inv .0 .inList .within, pre .1 .0)
+    let after-put-variant = c .before .before .before .before .before .before .before .before .before .before in
+    let after-loop = after-put-variant .before .before .before .before .before .before .before .before .before in
+    let loop = after-loop .loop in
+    let start = after-loop .before .before .before .before in
+    omega (arith, loop .inv .few, loop .inv .inList .within, start .good)
 
 loop-less : tie.Need-loop-less Inv-loop μ-loop
 loop-less c =
-    let args = c .before .before .before .before .before .before .before .before .before .before .before .before .before .before .before .before .before .before .before .before .before .before .before .args in
-    let loop = c .before .before .before .before .before .before .before .before .before .before .before .before .before .before .before .before .before .before .before .loop in
-    let variant = c .before .before .before .before .before .before .before .before .before .before .before .before .before .before .before .before .before .variant in
-    let v-2 =
-    c .before .before .before .before .before .before .before .before .before .before .before .before .before .v in
-    let n = forward reading.variant conserved.variant-round
-    (meeting.say (contract.variantShown (args .s .now) (loop .c)) contract.variantSaid (v-2 .given .1)
-    (variant .ensures)) (λ v h. (h .0, h .1, h .2)) in omega (arith, n .0, n .1 .within)
+    let after-put-variant = c .before .before .before .before .before .before .before .before .before .before in
+    let v = after-put-variant .before .before .before .v in
+    let variant = after-put-variant .before .before .before .before .before .before .before .variant in
+    let loop = after-put-variant .before .before .before .before .before .before .before .before .before .loop in
+    lined-less variants (loop .inv) (turn variants (v .given .1) (variant .ensures)) (λ w h. (h .0, h .1, h .2))
 
 loop-again : tie.Need-loop-again Inv-loop μ-loop
 loop-again c =
-    let args = c .before .before .before .before .before .before .before .before .before .before .before .before .before .before .before .before .before .before .before .before .before .before .before .args in
-    let loop = c .before .before .before .before .before .before .before .before .before .before .before .before .before .before .before .before .before .before .before .loop in
-    let variant = c .before .before .before .before .before .before .before .before .before .before .before .before .before .before .before .before .before .variant in
-    let v-2 =
-    c .before .before .before .before .before .before .before .before .before .before .before .before .before .v in
-    let put-variant = c .before .before .before .before .before .before .before .before .before .before .put-variant in
-    let field-lines = c .before .before .before .before .before .field-lines in (
-      lined-more variantLines reading.variant conserved.variant-round (loop .inv .0)
-          (meeting.say (contract.variantShown (args .s .now) (loop .c)) contract.variantSaid (v-2 .given .1)
-          (variant .ensures))
-          (λ v h. (h .0, h .1, h .2)) (λ a t. joined (put-variant .ensures .0 a t)
-          (field-lines .ensures .0 (a .fields) (t .fields))),
-      omega
-          (arith, put-variant .ensures .1, field-lines .ensures .1, loop .inv .1),
-      field-lines .kept .1 .1 .0 ∙ variant .kept .1 .1 .0 ∙ loop .inv .2,
-      field-lines .kept .1 .1 .1 .0 ∙ put-variant .kept .1 .1 .1 .0 ∙ loop .inv .3,
-    )
+    let field-lines = c .before .before .before .before .before .field-lines in
+    let after-put-variant = c .before .before .before .before .before .before .before .before .before .before in
+    let put-variant = after-put-variant .put-variant in
+    let v = after-put-variant .before .before .before .v in
+    let variant = after-put-variant .before .before .before .before .before .before .before .variant in
+    let loop = after-put-variant .before .before .before .before .before .before .before .before .before .loop in
+    lined-more variants (loop .inv) (turn variants (v .given .1) (variant .ensures)) (λ w h. (h .0, h .1, h .2))
+    (λ a t. joined (put-variant .ensures a t) (field-lines .ensures (a .fields) (t .fields)))
+    (field-lines .kept .1 .1 .0 ∙ variant .kept .1 .1 .0)
+    (field-lines .kept .1 .1 .1 .0 ∙ put-variant .kept .1 .1 .1 .0)
 
 enum-told : tie.Need-enum-told Inv-loop μ-loop
 enum-told c = search needs
@@ -128,26 +77,18 @@ same-length : tie.Need-same-length Inv-loop μ-loop
 same-length c =
     let loop = c .before .before .before .before .before .before .loop in
     let variant = c .before .before .before .before .variant in
-    variant .kept .1 .1 .0 ∙ loop .inv .2
+    variant .kept .1 .1 .0 ∙ loop .inv .rolesKept
 
 same-length-2 : tie.Need-same-length-2 Inv-loop μ-loop
 same-length-2 c =
     let loop = c .before .before .before .before .before .before .loop in
-    loop .inv .3
+    loop .inv .outKept
 
 returns : tie.Need-returns Inv-loop μ-loop
 returns c =
-    let args = c .before .before .before .before .before .before .before .before .before .before .args in
-    let pre = c .before .before .before .before .before .before .before .before .before .before .pre in
     let loop = c .before .before .before .before .before .before .loop in
-    let variant = c .before .before .before .before .variant in (
-      λ xs k.
-          lined-done variantLines reading.variant conserved.variant-round (loop .inv .0)
-          (meeting.say (contract.variantShown (args .s .now) (loop .c)) contract.variantSaid ((c .enum-told) .given .1)
-          (variant .ensures))
-          (λ v h. h) xs k,
-      omega (arith, loop .inv .1, loop .inv .0 .few, loop .inv .0 .inList .within, pre .1 .0),
-    )
+    let variant = c .before .before .before .before .variant in
+    λ xs k. lined-done variants (loop .inv) (turn variants (c .enum-told .given .1) (variant .ensures)) (λ v h. h) xs k
 
 enum-told-2 : tie.Need-enum-told-2 Inv-loop μ-loop
 enum-told-2 c = search needs
@@ -156,26 +97,18 @@ same-length-3 : tie.Need-same-length-3 Inv-loop μ-loop
 same-length-3 c =
     let loop = c .before .before .before .before .before .before .loop in
     let variant = c .before .before .before .before .variant in
-    variant .kept .1 .1 .0 ∙ loop .inv .2
+    variant .kept .1 .1 .0 ∙ loop .inv .rolesKept
 
 same-length-4 : tie.Need-same-length-4 Inv-loop μ-loop
 same-length-4 c =
     let loop = c .before .before .before .before .before .before .loop in
-    loop .inv .3
+    loop .inv .outKept
 
 returns-2 : tie.Need-returns-2 Inv-loop μ-loop
 returns-2 c =
-    let args = c .before .before .before .before .before .before .before .before .before .before .args in
-    let pre = c .before .before .before .before .before .before .before .before .before .before .pre in
     let loop = c .before .before .before .before .before .before .loop in
-    let variant = c .before .before .before .before .variant in (
-      λ xs k.
-          lined-refused variantLines reading.variant conserved.variant-round (loop .inv .0)
-          (meeting.say (contract.variantShown (args .s .now) (loop .c)) contract.variantSaid ((c .enum-told2) .given .1)
-          (variant .ensures))
-          xs k,
-      omega (arith, loop .inv .1, loop .inv .0 .few, loop .inv .0 .inList .within, pre .1 .0),
-    )
+    let variant = c .before .before .before .before .variant in
+    λ xs k. lined-refused variants (loop .inv) (turn variants (c .enum-told2 .given .1) (variant .ensures)) xs k
 
 pub variant-lines-spec : {M : Type 1} → statement M
 variant-lines-spec =

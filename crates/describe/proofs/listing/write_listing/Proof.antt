@@ -2,7 +2,6 @@ use Rattle.parse.proofs.Items.{first-in}
 use Rattle.token_list.specs.Contract.{checked}
 use lib.ListN.{length}
 use mathlib.Core.Path.{sym, _∙_, ap}
-use Rattle.token_list.proofs.Bounds.{bounds}
 use Rattle.describe.proofs.Answers.{listed-as, listed-refused, listing-checked, listing-read, listing-refusal}
 use Rattle.describe.specs.Listing.{output}
 use borrow.Author.Needs.{needs}
@@ -23,13 +22,9 @@ slice-aggregate-read-listing c = search needs
 
 read-listing-requires : tie.Need-read-listing-requires
 read-listing-requires c κs =
-    let args = c .before .before .before .before .before .before .before .args in
     let check = c .before .before .before .before .check in
-    let enum-told = c .before .before .enum-told in (
-      first-in _ _ (sym (check .ensures .answer) ∙ ap checked (enum-told .given .1)),
-      bounds (args .list .now)
-          (sym (check .ensures .answer) ∙ ap checked (enum-told .given .1)) .bytes,
-    )
+    let enum-told = c .before .before .enum-told in
+    first-in _ _ (sym (check .ensures .answer) ∙ ap checked (enum-told .given .1))
 
 returns : tie.Need-returns
 returns c =

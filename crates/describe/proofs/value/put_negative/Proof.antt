@@ -1,6 +1,6 @@
 use native.Mathlib.Omega.{arith}
 use Rattle.output.proofs.Texts.{joined}
-use Rattle.describe.proofs.Worths.{negative-none, negative-some, decimal-i64, put-as}
+use Rattle.describe.proofs.Worths.{negative-none, negative-some, put-as}
 use borrow.Author.Needs.{needs}
 use Rattle.describe.proofs.value.put_negative.Statement.{statement}
 use Rattle.describe.proofs.value.put_negative.Tie as tie
@@ -14,7 +14,7 @@ same-length c = search needs
 returns : tie.Need-returns
 returns c =
     let put-byte = c .before .before .put-byte in
-    (put-as (negative-none _ (omega arith)) (put-byte .ensures), omega (arith, put-byte .ensures .next))
+    put-as (negative-none _ (omega arith)) (put-byte .ensures)
 
 put-byte-requires-2 : tie.Need-put-byte-requires-2
 put-byte-requires-2 c κs = search needs
@@ -27,13 +27,9 @@ same-length-2 c = search needs
 
 returns-2 : tie.Need-returns-2
 returns-2 c =
-    let pre = c .before .before .before .before .before .before .before .before .before .before .pre in
     let put-byte2 = c .before .before .before .before .before .before .put-byte2 in
-    let put-number = c .before .before .put-number in (
-      put-as (negative-some _ (λ h. omega arith)) (joined (put-byte2 .ensures) (put-number .ensures .0)),
-      omega
-          (arith, put-byte2 .ensures .next, put-number .ensures .0 .next, decimal-i64 _ (pre .1)),
-    )
+    let put-number = c .before .before .put-number in
+    put-as (negative-some _ (λ h. omega arith)) (joined (put-byte2 .ensures) (put-number .ensures))
 
 pub put-negative-spec : {M : Type 1} → statement M
 put-negative-spec =

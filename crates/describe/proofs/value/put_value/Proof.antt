@@ -1,4 +1,3 @@
-use native.Mathlib.Omega.{arith}
 use mathlib.Core.Path.{ap, sym, _∙_, subst}
 use Rattle.reading.specs.Token.{negatable}
 use Rattle.parse.specs.Contract as contract
@@ -24,7 +23,7 @@ worth-requires c κs =
     (h .1 .within, ap negatable (sym (h .1 .bytes)) ∙ h .2)
 
 put-negative-requires : tie.Need-put-negative-requires
-put-negative-requires c κs = (omega arith, (c .before .worth) .ensures .1)
+put-negative-requires c κs = search needs
 
 returns : tie.Need-returns
 returns c = λ x w k room. placed-absent x w k _ ((c .enum-told) .given .1)
@@ -42,8 +41,7 @@ returns-3 c =
     let worth = c .before .before .before .before .worth in
     let put-negative = c .before .before .put-negative in
     λ x w k room.
-    placed-negative x w k _ (v2 .given .1) (worth .ensures .0) (put-negative .ensures .0) (put-negative .ensures .1)
-    room
+    placed-negative x w k _ (v2 .given .1) (worth .ensures .0) (worth .ensures .1) (put-negative .ensures) room
 
 pub put-value-spec : {M : Type 1} → statement M
 put-value-spec =

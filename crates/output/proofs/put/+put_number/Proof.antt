@@ -1,10 +1,6 @@
-use Rattle.output.proofs.Texts.{joined, kept, decimal-one, decimal-more, decimal-few}
-use Rattle.output.specs.Text.{decimal}
-use lib.ListN.{length, length-append}
-use mathlib.Core.List.{[], _∷_}
+use Rattle.output.proofs.Texts.{joined, kept, decimal-one, decimal-more}
 use native.Mathlib.Omega.{arith}
-use mathlib.Core.Path.{ap}
-use Prim.Native.Nat.{ℕ, _+_, _/_, _%_, _<_}
+use Prim.Native.Nat.{ℕ, _<_}
 use borrow.Fn.Kinds.{In}
 use borrow.Fn.PlainCycle.{Measures, is, falls, and}
 use Rattle.output.proofs.put.put_number.Reads as put-number
@@ -47,7 +43,7 @@ put-number-put-byte-requires : (t : ℕ) → put-number-lts.Need-put-byte-requir
   put-number-below t,
   put-number.Post,
 ) (put-number-at t) put-number.Post
-put-number-put-byte-requires t c κs = omega (arith, c .before .before .before .pre .1)
+put-number-put-byte-requires t c κs = tt
 
 put-number-same-length : (t : ℕ) → put-number-lts.Need-same-length (
   put-byte-reads.Asked,
@@ -65,10 +61,8 @@ put-number-returns : (t : ℕ) → put-number-lts.Need-returns (
 ) (put-number-at t) put-number.Post
 put-number-returns t c =
     let d = c .before .before in
-    let a = d .before .before .before .before .args in (
-      rw (decimal-one (a .n) (d .before .before .if1 .taken)) (d .put-byte .ensures),
-      omega (arith, d .put-byte .ensures .next),
-    )
+    let a = d .before .before .before .before .args in
+    rw (decimal-one (a .n) (d .before .before .if1 .taken)) (d .put-byte .ensures)
 
 put-number-put-number-requires : (t : ℕ) → put-number-lts.Need-put-number-requires (
   put-byte-reads.Asked,
@@ -78,7 +72,7 @@ put-number-put-number-requires : (t : ℕ) → put-number-lts.Need-put-number-re
 ) (put-number-at t) put-number.Post
 put-number-put-number-requires t c κs =
     let a = c .before .before .before in
-    (omega (arith, a .pre .0), a .pre .1)
+    (omega (arith, a .pre .0), tt)
 
 put-number-cast-digit-2 : (t : ℕ) → put-number-lts.Need-cast-digit-2 (
   put-byte-reads.Asked,
@@ -102,19 +96,7 @@ put-number-put-byte-requires-2 : (t : ℕ) → put-number-lts.Need-put-byte-requ
   put-number-below t,
   put-number.Post,
 ) (put-number-at t) put-number.Post
-put-number-put-byte-requires-2 t c κs =
-    let d = c .before .before .before in
-    let a = d .before .before .before .before in
-    let n = a .args .n in
-    let more = ap length (decimal-more n (d .before .before .if1 .left)) in
-    omega (
-      arith,
-      a .pre .1,
-      d .put-number .ensures .0 .next,
-      more,
-      length-append (decimal (n / 10)) ((48 + n % 10) ∷ []),
-      decimal-few n (omega arith),
-    )
+put-number-put-byte-requires-2 t c κs = tt
 
 put-number-same-length-2 : (t : ℕ) → put-number-lts.Need-same-length-2 (
   put-byte-reads.Asked,
@@ -124,7 +106,7 @@ put-number-same-length-2 : (t : ℕ) → put-number-lts.Need-same-length-2 (
 ) (put-number-at t) put-number.Post
 put-number-same-length-2 t c =
     kept
-    (joined (c .before .before .before .before .before .before .put-number .ensures .0)
+    (joined (c .before .before .before .before .before .before .put-number .ensures)
     (c .before .before .put-byte2 .ensures))
 
 put-number-returns-2 : (t : ℕ) → put-number-lts.Need-returns-2 (
@@ -135,13 +117,9 @@ put-number-returns-2 : (t : ℕ) → put-number-lts.Need-returns-2 (
 ) (put-number-at t) put-number.Post
 put-number-returns-2 t c =
     let d = c .before .before .before .before .before .before in
-    let a = d .before .before .before .before in
-    let n = a .args .n in
-    let written = joined (d .put-number .ensures .0) (c .before .before .put-byte2 .ensures) in
-    let more = decimal-more n (d .before .before .if1 .left) in (
-      rw more written,
-      omega (arith, written .next, ap length more, decimal-few n (omega arith)),
-    )
+    let n = d .before .before .before .before .args .n in
+    rw (decimal-more n (d .before .before .if1 .left))
+    (joined (d .put-number .ensures) (c .before .before .put-byte2 .ensures))
 
 pub +put-number-spec : {M : Type 1} → statement M
 +put-number-spec = close μ-put-number λ t. put-number-lts.spec (

@@ -1,5 +1,5 @@
-use mathlib.Core.Path.{refl, sym}
-use lib.Seq.{set-out}
+use native.Mathlib.Omega.{arith}
+use Rattle.output.proofs.Texts.{left-out}
 use borrow.Author.Needs.{needs}
 use Rattle.output.proofs.put.put_byte.Statement.{statement}
 use Rattle.output.proofs.put.put_byte.Tie as tie
@@ -20,10 +20,12 @@ add-result-2 : tie.Need-add-result-2
 add-result-2 c = search needs
 
 returns-2 : tie.Need-returns-2
-returns-2 c =
-    let a = c .before .args in
-    record { next = refl; bytes = sym (set-out (a .out .now) (a .at) (a .b) (c .if1 .left)) }
+returns-2 c = left-out (c .before .if1 .left) (omega (arith, c .before .before .good)) (omega arith)
+
+returns-3 : tie.Need-returns-3
+returns-3 c = left-out (c .before .if1 .left) (omega (arith, c .before .before .good)) (omega arith)
 
 pub put-byte-spec : {M : Type 1} → statement M
 put-byte-spec =
-    tie.close (tie.spec slice-write-out add-result same-length returns add-result-2 returns-2)
+    tie.close
+    (tie.spec slice-write-out add-result same-length returns add-result-2 returns-2 returns-3)

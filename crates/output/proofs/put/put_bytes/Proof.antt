@@ -1,9 +1,10 @@
 use Rattle.output.proofs.Texts.{nothing, joined, kept}
 use Rattle.output.specs.Contract.{Put}
-use lib.Seq.{take-suc, take-all, length-take-le}
+use lib.Seq.{take-suc, take-all}
 use lib.ListN.{length, take}
 use Prim.Native.Nat.{_-_, _≤_, _<_}
 use native.Mathlib.Omega.{arith}
+use borrow.Author.Needs.{needs}
 use native.Mathlib.Numerals.{add-one}
 use Rattle.output.proofs.put.put_bytes.Statement.{statement}
 use Rattle.output.proofs.put.put_bytes.Tie as tie
@@ -15,16 +16,13 @@ abbrev μ-loop : tie.MeasureT-loop
 μ-loop out₀ at text i₀ end₀ out i end = length text - i
 
 loop-holds : tie.Need-loop-holds Inv-loop μ-loop
-loop-holds c = (omega arith, nothing _ _)
+loop-holds c = (omega arith, nothing _ _ (omega (arith, c .before .before .good)))
 
 shared-slice-read-put-byte : tie.Need-shared-slice-read-put-byte Inv-loop μ-loop
 shared-slice-read-put-byte c = omega arith
 
 put-byte-requires : tie.Need-put-byte-requires Inv-loop μ-loop
-put-byte-requires c κs =
-    let l = c .before .before .before in
-    let a = l .before .before .before .args in
-    omega (arith, l .loop .inv .1 .next, length-take-le (l .loop .i) (a .text .now) (l .loop .inv .0))
+put-byte-requires c κs = search needs
 
 add-i : tie.Need-add-i Inv-loop μ-loop
 add-i c = omega arith
@@ -34,8 +32,7 @@ loop-less c = omega arith
 
 loop-again : tie.Need-loop-again Inv-loop μ-loop
 loop-again c =
-    let before = c .before .before .before .before .before .before in
-    let l = before in
+    let l = c .before .before .before .before .before .before in
     let t = l .before .before .before .args .text .now in
     let more : l .loop .i < length t = omega arith in (
       omega arith,

@@ -1,7 +1,6 @@
 use Rattle.output.specs.Text.{placeText}
 use Rattle.token_list.specs.Check.{END}
 use borrow.Author.Tests.{eq-eqb, ne-eqb}
-use native.Mathlib.Omega.{arith}
 use borrow.Author.Needs.{needs}
 use Rattle.output.proofs.put.put_place.Statement.{statement}
 use Rattle.output.proofs.put.put_place.Tie as tie
@@ -16,10 +15,8 @@ returns : tie.Need-returns
 unfolding placeText
 returns c =
     let d = c .before .before in
-    let a = d .before .before .before .before .args in (
-      rw (eq-eqb (a .place) END (d .before .before .if1 .taken)) (d .put-byte .ensures),
-      omega (arith, d .put-byte .ensures .next),
-    )
+    let a = d .before .before .before .before .args in
+    rw (eq-eqb (a .place) END (d .before .before .if1 .taken)) (d .put-byte .ensures)
 
 put-number-requires : tie.Need-put-number-requires
 put-number-requires c κs = search needs
@@ -32,7 +29,7 @@ unfolding placeText
 returns-2 c =
     let d = c .before .before in
     let a = d .before .before .before .before .args in
-    (rw (ne-eqb (a .place) END (d .before .before .if1 .left)) (d .put-number .ensures .0), d .put-number .ensures .1)
+    rw (ne-eqb (a .place) END (d .before .before .if1 .left)) (d .put-number .ensures)
 
 pub put-place-spec : {M : Type 1} → statement M
 put-place-spec =

@@ -1,6 +1,6 @@
-use Rattle.output.proofs.Texts.{joined}
-use Rattle.output.specs.Text.{refusalText}
+use Rattle.output.proofs.Texts.{joined, printed, refusal-few}
 use native.Mathlib.Omega.{arith}
+use Rattle.output.specs.Text.{refusalText}
 use borrow.Author.Needs.{needs}
 use Rattle.output.proofs.put.put_refusal.Statement.{statement}
 use Rattle.output.proofs.put.put_refusal.Tie as tie
@@ -36,19 +36,14 @@ returns c =
     let d = e .before .before .before .before in
     let b = d .before .before .before .before in
     let n = b .before .before .before .before in
-    let t = n .before .before .before .before .before in (
-      joined (t .put-bytes .ensures)
-          (joined (n .put-number .ensures .0) (joined (b .put-byte .ensures)
-          (joined (d .put-place .ensures .0) (e .put-byte2 .ensures)))),
-      omega (
-        arith,
-        t .put-bytes .ensures .next,
-        n .put-number .ensures .1,
-        b .put-byte .ensures .next,
-        d .put-place .ensures .1,
-        e .put-byte2 .ensures .next,
-      ),
-    )
+    let t = n .before .before .before .before .before in
+    let refusal = t .before .before .before .before .args .refusal in
+    let few = refusal-few (refusal .number) (refusal .place) (omega arith) (omega arith) in
+    let text = joined (t .put-bytes .ensures)
+    (joined (n .put-number .ensures)
+    (joined (b .put-byte .ensures) (joined (d .put-place .ensures) (e .put-byte2 .ensures)))) in
+    let p = printed text (omega (arith, few)) in
+    (p, omega (arith, p .counted, few))
 
 pub put-refusal-spec : {M : Type 1} → statement M
 put-refusal-spec =

@@ -1,4 +1,3 @@
-use native.Mathlib.Omega.{arith}
 use borrow.Author.Needs.{needs}
 use Rattle.replay.proofs.header.put_topic.Statement.{statement}
 use Rattle.replay.proofs.header.put_topic.Tie as tie
@@ -46,7 +45,7 @@ returns : tie.Need-returns
 returns c =
     let enum-told = c .before .before .before .before .before .enum-told in
     let put-bytes = c .before .before .put-bytes in
-    (rw (enum-told .given .1) (put-bytes .ensures), omega (arith, put-bytes .ensures .next))
+    rw (enum-told .given .1) (put-bytes .ensures)
 
 same-length-2 : tie.Need-same-length-2
 same-length-2 c = search needs
@@ -55,7 +54,7 @@ returns-2 : tie.Need-returns-2
 returns-2 c =
     let enum-told2 = c .before .before .before .before .before .enum-told2 in
     let put-bytes2 = c .before .before .put-bytes2 in
-    (rw (enum-told2 .given .1) (put-bytes2 .ensures), omega (arith, put-bytes2 .ensures .next))
+    rw (enum-told2 .given .1) (put-bytes2 .ensures)
 
 same-length-3 : tie.Need-same-length-3
 same-length-3 c = search needs
@@ -64,7 +63,7 @@ returns-3 : tie.Need-returns-3
 returns-3 c =
     let enum-told3 = c .before .before .before .before .before .enum-told3 in
     let put-bytes3 = c .before .before .put-bytes3 in
-    (rw (enum-told3 .given .1) (put-bytes3 .ensures), omega (arith, put-bytes3 .ensures .next))
+    rw (enum-told3 .given .1) (put-bytes3 .ensures)
 
 same-length-4 : tie.Need-same-length-4
 same-length-4 c = search needs
@@ -73,7 +72,7 @@ returns-4 : tie.Need-returns-4
 returns-4 c =
     let enum-told4 = c .before .before .before .before .before .enum-told4 in
     let put-bytes4 = c .before .before .put-bytes4 in
-    (rw (enum-told4 .given .1) (put-bytes4 .ensures), omega (arith, put-bytes4 .ensures .next))
+    rw (enum-told4 .given .1) (put-bytes4 .ensures)
 
 pub put-topic-spec : {M : Type 1} → statement M
 put-topic-spec =

@@ -1,4 +1,5 @@
-use Rattle.output.proofs.Texts.{joined}
+use Rattle.output.proofs.Texts.{joined, printed}
+use Rattle.report.proofs.Lines.{rows-few}
 use native.Mathlib.Omega.{arith}
 use borrow.Author.Needs.{needs}
 use Rattle.report.proofs.check.put_answer.Statement.{statement}
@@ -33,11 +34,11 @@ returns c =
     let e = c .before .before in
     let n = e .before .before .before .before in
     let t = n .before .before .before .before in
-    let m = t .before .before .before .before in (
-      rw (m .answer .given .1) (joined (t .put-bytes .ensures)
-          (joined (n .put-number .ensures .0) (e .put-byte .ensures))),
-      omega (arith, t .put-bytes .ensures .next, n .put-number .ensures .1, e .put-byte .ensures .next),
-    )
+    let m = t .before .before .before .before in
+    let few = rows-few (m .answer .given .0 .0) (omega arith) in
+    let text = joined (t .put-bytes .ensures) (joined (n .put-number .ensures) (e .put-byte .ensures)) in
+    let p = printed text (omega (arith, few)) in
+    (rw (m .answer .given .1) p, omega (arith, p .counted, few))
 
 same-length-2 : tie.Need-same-length-2
 same-length-2 c = search needs

@@ -1,6 +1,7 @@
 use native.Mathlib.Omega.{arith}
+use borrow.Author.Needs.{needs}
 use native.Mathlib.Numerals.{add-one}
-use Prim.Native.Nat.{ℕ, _+_, _*_, _-_, _≤_, _<_}
+use Prim.Native.Nat.{ℕ, _+_, _-_, _≤_, _<_}
 use lib.ListN.{length, take, getD}
 use lib.Seq.{take-suc, take-all, length-take-le}
 use mathlib.Core.List.{_++_}
@@ -14,19 +15,19 @@ use Rattle.report.proofs.roles.put_lines.Tie as tie
 
 abbrev Inv-loop : tie.InvT-loop
 Inv-loop out₀ at roles i₀ end₀ out i end =
-    (i ≤ length roles) × (end ≤ at + 9 * i) × Put out₀ out at end (roleLines 0 (take i roles))
+    (i ≤ length roles) × Put out₀ out at end (roleLines 0 (take i roles))
 
 abbrev μ-loop : tie.MeasureT-loop
 μ-loop out₀ at roles i₀ end₀ out i end = length roles - i
 
 loop-holds : tie.Need-loop-holds Inv-loop μ-loop
-loop-holds c = (omega arith, omega arith, nothing _ _)
+loop-holds c = (omega arith, nothing _ _ (omega (arith, c .before .before .good)))
 
 shared-slice-read-put-line : tie.Need-shared-slice-read-put-line Inv-loop μ-loop
 shared-slice-read-put-line c = omega arith
 
 put-line-requires : tie.Need-put-line-requires Inv-loop μ-loop
-put-line-requires c κs = (omega (arith, (c .before .before .before .loop) .inv .1), omega arith)
+put-line-requires c κs = search needs
 
 add-i : tie.Need-add-i Inv-loop μ-loop
 add-i c = omega arith
@@ -48,20 +49,17 @@ loop-again c =
     lines-more 0 (take (l .i) t) (getD t (l .i) 0) ∙
     ap (λ (k : ℕ). roleLines 0 (take (l .i) t) ++ roleLine k (getD t (l .i) 0)) count in (
       omega arith,
-      omega (arith, l .inv .1, put-line .ensures .1),
-      rw lines (joined (l .inv .2) (put-line .ensures .0)),
+      rw lines (joined (l .inv .1) (put-line .ensures)),
     )
 
 same-length : tie.Need-same-length Inv-loop μ-loop
-same-length c = kept ((c .before .loop) .inv .2)
+same-length c = kept ((c .before .loop) .inv .1)
 
 returns : tie.Need-returns Inv-loop μ-loop
 returns c =
     let args = c .before .before .before .before .args in
-    let t = args .roles .now in (
-      rw (take-all ((c .before .loop) .i) t (omega arith)) at ((c .before .loop) .inv .2),
-      omega (arith, (c .before .loop) .inv .1),
-    )
+    let t = args .roles .now in
+    rw (take-all ((c .before .loop) .i) t (omega arith)) at ((c .before .loop) .inv .1)
 
 pub put-lines-spec : {M : Type 1} → statement M
 put-lines-spec =

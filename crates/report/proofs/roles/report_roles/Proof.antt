@@ -3,8 +3,8 @@ use mathlib.Core.Path.{sym}
 use lib.ListN.{length}
 use lib.Seq.{length-take-le}
 use Rattle.reading.specs.Answer.{answer}
-use Rattle.report.proofs.Lines.{found, not-found, few-roles}
-use Rattle.output.proofs.Texts.{joined}
+use Rattle.report.proofs.Lines.{found, not-found, roles-few}
+use Rattle.output.proofs.Texts.{joined, printed}
 use borrow.Author.Needs.{needs}
 use Rattle.report.proofs.roles.report_roles.Statement.{statement}
 use Rattle.report.proofs.roles.report_roles.Tie as tie
@@ -29,38 +29,26 @@ put-bytes-requires c κs = search needs
 
 slice-reshare-prefix-put-lines : tie.Need-slice-reshare-prefix-put-lines
 slice-reshare-prefix-put-lines c =
-    let args = c .before .before .before .before .before .before .before .before .before .before .before .before .before .before .before .before .args in
-    let read-roles =
-    c .before .before .before .before .before .before .before .before .before .before .before .read-roles in
-    let n = c .before .before .before .before .before .before .before .n in
+    let after-n = c .before .before .before .before .before .before .before in
+    let n = after-n .n in
+    let read-roles = after-n .before .before .before .before .read-roles in
+    let args = after-n .before .before .before .before .before .before .before .before .before .args in
     found (n .given .0 .0) (answer (args .list .now) (length (args .roles .now))) (n .given .1)
     (read-roles .ensures .0) .within
 
 slice-aggregate-put-lines : tie.Need-slice-aggregate-put-lines
 slice-aggregate-put-lines c =
-    let args = c .before .before .before .before .before .before .before .before .before .before .before .before .before .before .before .before .before .args in
-    let read-roles =
-    c .before .before .before .before .before .before .before .before .before .before .before .before .read-roles in
-    let n = c .before .before .before .before .before .before .before .before .n in
+    let after-n = c .before .before .before .before .before .before .before .before in
+    let n = after-n .n in
+    let read-roles = after-n .before .before .before .before .read-roles in
+    let args = after-n .before .before .before .before .before .before .before .before .before .args in
     sym
     (length-take-le (n .given .0 .0) (read-roles .last .1 .0)
     (found (n .given .0 .0) (answer (args .list .now) (length (args .roles .now))) (n .given .1)
     (read-roles .ensures .0) .within))
 
 put-lines-requires : tie.Need-put-lines-requires
-put-lines-requires c κs =
-    let args = c .before .before .before .before .before .before .before .before .before .before .before .before .before .before .before .before .before .args in
-    let read-roles =
-    c .before .before .before .before .before .before .before .before .before .before .before .before .read-roles in
-    let n = c .before .before .before .before .before .before .before .before .n in
-    let put-bytes = c .before .before .before .before .put-bytes in
-    let a = args in
-    let k = read-roles in
-    let f = found (n .given .0 .0) (answer (a .list .now) (length (a .roles .now))) (n .given .1) (k .ensures .0) in (
-      omega (arith, put-bytes .ensures .next),
-      few-roles (a .list .now) (length
-          (a .roles .now)) (f .declaration) _ (f .same),
-    )
+put-lines-requires c κs = search needs
 
 same-length : tie.Need-same-length
 same-length c = search needs
@@ -70,10 +58,11 @@ same-length-2 c = search needs
 
 returns : tie.Need-returns
 returns c =
-    let args = c .before .before .before .before .before .before .before .before .before .before .before .before .before .before .args in
-    let read-roles = c .before .before .before .before .before .before .before .before .before .read-roles in
-    let r = c .before .before .before .before .before .r in
     let put-refusal = c .before .before .put-refusal in
+    let r = c .before .before .before .before .before .r in
+    let after-read-roles = c .before .before .before .before .before .before .before .before .before in
+    let read-roles = after-read-roles .read-roles in
+    let args = after-read-roles .before .before .before .before .before .args in
     let none = not-found (read-roles .last .1 .0) (r .given .0 .0)
     (answer (args .list .now) (length (args .roles .now))) (r .given .1) (read-roles .ensures .0) in (
       rw none (put-refusal .ensures .0),
@@ -91,18 +80,18 @@ same-length-4 c = search needs
 
 returns-2 : tie.Need-returns-2
 returns-2 c =
-    let args = c .before .before .before .before .before .before .before .before .before .before .before .before .before .before .before .before .before .before .before .before .args in
-    let read-roles = c .before .before .before .before .before .before .before .before .before .before .before .before .before .before .before .read-roles in
-    let n = c .before .before .before .before .before .before .before .before .before .before .before .n in
-    let put-bytes = c .before .before .before .before .before .before .before .put-bytes in
     let put-lines = c .before .before .put-lines in
-    let a = args in
-    let k = read-roles in
-    let f = found (n .given .0 .0) (answer (a .list .now) (length (a .roles .now))) (n .given .1) (k .ensures .0) in
-    let count = few-roles (a .list .now) (length (a .roles .now)) (f .declaration) _ (f .same) in (
-      rw (f .same) (joined (put-bytes .ensures) (put-lines .ensures .0)),
-      (k .ensures .1 .0, (omega (arith, put-lines .ensures .1, put-bytes .ensures .next, count), k .ensures .1 .1)),
-    )
+    let put-bytes = c .before .before .before .before .before .before .before .put-bytes in
+    let after-n = c .before .before .before .before .before .before .before .before .before .before .before in
+    let n = after-n .n in
+    let read-roles = after-n .before .before .before .before .read-roles in
+    let args = after-n .before .before .before .before .before .before .before .before .before .args in
+    let list = args .list .now in
+    let room = length (args .roles .now) in
+    let f = found (n .given .0 .0) (answer list room) (n .given .1) (read-roles .ensures .0) in
+    let few = roles-few list room (f .declaration) _ (f .same) in
+    let p = printed (joined (put-bytes .ensures) (put-lines .ensures)) (omega (arith, few)) in
+    (rw (f .same) p, (read-roles .ensures .1 .0, (omega (arith, p .counted, few), read-roles .ensures .1 .1)))
 
 pub report-roles-spec : {M : Type 1} → statement M
 report-roles-spec =
