@@ -25,7 +25,7 @@ use Rattle.output.specs.Contract.{further, Put, Printed}
 use Rattle.output.proofs.Texts.{kept, shown, joined}
 use Rattle.reading.specs.Declaration as declaration
 use Rattle.reading.specs.Token.{MAX-I64, worth}
-use Rattle.reading.specs.Took.{Took, took, refuse, Point}
+use Rattle.reading.specs.Took.{Took, took, Cause, stopped, Point}
 use Rattle.reading.specs.Reading.{item}
 use Rattle.parse.specs.Contract.{on, no, Meets, stands, refuses}
 use Rattle.parse.specs.declared.variants.ValueAt.{ValueAt}
@@ -47,8 +47,8 @@ pub meets-tells : {A : Type 0} {s : List ℕ} {c d : Cursor} {b0 b1 : List ℕ} 
 meets-tells (stands {a = a} {rs = rs} {us = us} m h) = (a, rs, us, refl, h)
 
 pub meets-refusal : {A : Type 0} {s : List ℕ} {c : Cursor} {b0 b1 : List ℕ} {sh : A → Type 0} {n p : ℕ} {t : Took A} →
-    Meets s c b0 b1 sh (no n p) t → t ≡ refuse n p
-meets-refusal (refuses qs q) = refl
+    Meets s c b0 b1 sh (no n p) t → (w : Cause) × (t ≡ stopped w n p)
+meets-refusal (refuses {w = w} qs q) = (w, refl)
 
 -- ## A value
 
@@ -145,9 +145,9 @@ module _ (s : List ℕ) (k n : ℕ) where
       no-refusal (declaration.literal t) q = let z : _≡_ {A = ℕ} 0 1 = cc in absurd (omega arith)
       no-refusal (declaration.negative n) q = let z : _≡_ {A = ℕ} 0 1 = cc in absurd (omega arith)
 
-      plain : (m p : ℕ) (t : Took declaration.Declaration) → itemAnswer (start s) k t ≡ refused m p → t ≡ refuse m p
+      plain : (m p : ℕ) (t : Took declaration.Declaration) → itemAnswer (start s) k t ≡ refused m p → (w : Cause) × (t ≡ stopped w m p)
       plain m p (took d rs us) q = no-refusal (bodyValue k (d .body)) q
-      plain m p (refuse i o) q = cc
+      plain m p (stopped w i o) q = (w, (cc))
 
 -- ## A listing
 
@@ -204,9 +204,9 @@ module _ (s : List ℕ) (n : ℕ) where
       fits (framed listing.refused (λ rows. false) listing.itemAnswer s (list.check s)) e
       (refusals s listing.refused (λ rows. false) listing.itemAnswer (λ n p m o q. ((cc), (cc))) plain m p)
     where
-      plain : (m p : ℕ) (t : Took declaration.Declaration) → listing.itemAnswer t ≡ listing.refused m p → t ≡ refuse m p
+      plain : (m p : ℕ) (t : Took declaration.Declaration) → listing.itemAnswer t ≡ listing.refused m p → (w : Cause) × (t ≡ stopped w m p)
       plain m p (took d rs us) q = let z : _≡_ {A = ℕ} 0 1 = cc in absurd (omega arith)
-      plain m p (refuse i o) q = cc
+      plain m p (stopped w i o) q = (w, (cc))
 
       room : (text : List ℕ) (b : Bool) → cond b (listing.refused 8 list.END) (listing.listed text) ≡
           listing.refused m p → OneRefusal readNumber s m p

@@ -11,8 +11,8 @@ use Rattle.token_list.specs.Row.{Row}
 use Rattle.token_list.specs.Stream.{Trees, end, leaf, group, size}
 use Rattle.token_list.proofs.Bounds.{texts}
 use Rattle.reading.specs.Role as role
-use Rattle.reading.specs.Declaration.{Kind, struct, enum, Parameter, lifetime, type, Field, Fields, unit, named, tuple, Value, absent, literal, negative, Variant, Body, fields, variants, Declaration, parametersOf}
-use Rattle.reading.specs.Took.{Took, took, refuse, Reader, onward, after, _>>=_, pure}
+use Rattle.reading.specs.Declaration.{Kind, struct, enum, Parameter, lifetime, type, Visibility, UnnamedField, Field, Fields, unit, named, tuple, Value, absent, literal, negative, Variant, Body, fields, variants, Declaration, parametersOf}
+use Rattle.reading.specs.Took.{Took, took, Cause, stopped, refuse, Reader, onward, after, _>>=_, pure}
 use Rattle.reading.specs.Reading as r
 use Rattle.reading.specs.Reading.{Maybe, done, one, Word, missing, found, rounds, every, more}
 use Rattle.reading.proofs.Rounds.{Round, another, finished, refused, Conserved, taken}
@@ -41,13 +41,13 @@ parameterCost p = nameCost (parameterName p)
 abbrev pub fieldCost : Field → ℕ
 fieldCost f = nameCost (f .name)
 
-abbrev pub typeCost : Trees → ℕ
-typeCost t = 20
+abbrev pub typeCost : UnnamedField → ℕ
+typeCost f = 20
 
 abbrev pub fieldsCost : Fields → ℕ
 fieldsCost unit = 0
 fieldsCost (named fs) = total fieldCost fs
-fieldsCost (tuple ts) = total typeCost ts
+fieldsCost (tuple fs) = total typeCost fs
 
 abbrev pub valueCost : Value → ℕ
 valueCost absent = 0
@@ -69,7 +69,7 @@ itemCost d = nameCost (d .name) + total parameterCost (parametersOf (d .generics
 -- the weight of the rows that were taken, and a credit of c, cover the cost of what was read
 data Covered {A : Type 0} (cost : A → ℕ) (c : ℕ) (ts : Trees) : Took A → Type 0 where
   covers : (a : A) (rs : List ℕ) (us : Trees) → cost a + weight us ≤ c + weight ts → Covered cost c ts (took a rs us)
-  refuses : {n p : ℕ} → Covered cost c ts (refuse n p)
+  refuses : {w : Cause} {n p : ℕ} → Covered cost c ts (stopped w n p)
 
 abbrev Covering : {A : Type 0} → (A → ℕ) → ℕ → Reader A → Type 0
 Covering cost c m = (row : ℕ) (ts : Trees) → Covered cost c ts (m row ts)
@@ -236,13 +236,13 @@ generics-covering row (leaf q us) =
 
 -- ## Fields
 
-fieldStart-covering : Covering (maybe fieldCost) 0 r.fieldStart
-fieldStart-covering row end = nothing-taken (omega arith)
-fieldStart-covering row (group d ts us) = refuses
-fieldStart-covering row (leaf q us) =
+fieldStart-covering : (a : List Trees) (v : Visibility) → Covering (maybe fieldCost) 0 (r.fieldStart a v)
+fieldStart-covering a v row end = nothing-taken (omega arith)
+fieldStart-covering a v row (group d ts us) = refuses
+fieldStart-covering a v row (leaf q us) =
     choice (r.isIdent q) (from-covered role.field-name row q us (omega arith) (rest (q .text))) refuses
   where
-    rest : (n : List ℕ) → Covering (maybe fieldCost) (nameCost n) (r.fieldAfter n)
+    rest : (n : List ℕ) → Covering (maybe fieldCost) (nameCost n) (r.fieldAfter a v n)
     rest n =
         bind (keeps _ (conserved.punctIf-conserving 58 role.separator))
         (λ t. bind (keeps _ (conserved.must-conserving 23 t refl))
@@ -252,13 +252,13 @@ fieldStart-covering row (leaf q us) =
 namedField-covering : Covering (maybe fieldCost) 0 r.namedField
 namedField-covering =
     bind (keeps 0 conserved.attributes-conserving)
-    (λ a. bind (keeps 0 conserved.visibility-conserving) (λ v. fieldStart-covering))
+    (λ a. bind (keeps 0 conserved.visibility-conserving) (fieldStart-covering a))
 
 -- a row at least is taken
 tupleField-covering : Covering (maybe typeCost) 0 r.tupleField
 tupleField-covering row ts = go (conserved.tupleField-round row ts)
   where
-    go : {t : Took (Maybe Trees)} → Round ts t → Covered (maybe typeCost) 0 ts t
+    go : {t : Took (Maybe UnnamedField)} → Round ts t → Covered (maybe typeCost) 0 ts t
     go (another {a = a} rs us e h) = covers (one a) rs us (omega arith)
     go (finished rs us e) = covers done rs us (omega arith)
     go (refused n) = refuses

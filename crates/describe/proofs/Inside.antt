@@ -7,7 +7,7 @@ use lib.ListN.{length}
 use Rattle.token_list.specs.Stream.{Trees, at}
 use Rattle.token_list.specs.Contract.{InList}
 use Rattle.token_list.specs.declared.check.Cursor.{Cursor}
-use Rattle.reading.specs.Took.{Took, took, refuse, Reader, onward, after, pure}
+use Rattle.reading.specs.Took.{Took, took, Cause, stopped, Reader, onward, after, pure}
 use Rattle.reading.specs.Reading.{Maybe, done, one, more, every}
 use Rattle.parse.specs.Contract.{Moved, on, no, Meets, stands, refuses, stream, InsideAt}
 use Rattle.reading.proofs.Rounds.{Rounding, Round, another, every-step}
@@ -16,13 +16,14 @@ use Rattle.reading.proofs.Rounds.{Rounding, Round, another, every-step}
 
 abbrev value : {A : Type 0} → A → Took A → A
 value a (took b rs us) = b
-value a (refuse n p) = a
+value a (stopped w n p) = a
 
 abbrev accepted : {A : Type 0} → Took A → Type 0
 accepted (took a rs us) = Unit {0}
-accepted (refuse n p) = ⊥
+accepted (stopped w n p) = ⊥
 
-pub took-not-refuse : {A B : Type 0} {a : A} {rs : List ℕ} {us : Trees} {n p : ℕ} → refuse n p ≡ took a rs us → B
+pub took-not-refuse : {A B : Type 0} {a : A} {rs : List ℕ} {us : Trees} {w : Cause} {n p : ℕ} →
+    stopped w n p ≡ took a rs us → B
 took-not-refuse e = absurd (subst⁻¹ accepted e tt)
 
 pub took-value : {A : Type 0} {a b : A} {rs qs : List ℕ} {us vs : Trees} → took a rs us ≡ took b qs vs → a ≡ b
@@ -76,7 +77,7 @@ module _ {A : Type 0} (m : Reader (Maybe A)) (rd : Rounding m) {s : List ℕ} {c
               gives = g;
             };
           }
-      rest a rs us h mv (refuse n p) g e = took-not-refuse e
+      rest a rs us h mv (stopped w n p) g e = took-not-refuse e
 
       go : {t : Took (Maybe A)} → m (c .row) (stream s c) ≡ t → Meets s c b0 b1 sh (on d) t → OneAt m s d told xs
       go e (stands {a = v} {rs = rs} {us = us} mv h) =

@@ -19,7 +19,7 @@ use Rattle.output.specs.Text.{decimal}
 use Rattle.output.specs.Contract.{Printed}
 use Rattle.output.proofs.Texts.{decimal-within}
 use Rattle.reading.specs.Declaration.{Kind, struct, enum, Fields, unit, named, tuple, Value, absent, literal, negative, Body, fields, variants, Declaration, parametersOf, bodyCount}
-use Rattle.reading.specs.Took.{Took, took, refuse}
+use Rattle.reading.specs.Took.{Took, took, stopped}
 use Rattle.reading.specs.Reading.{item}
 use Rattle.reading.proofs.Frame.{framed-cases}
 use Rattle.reading.proofs.Conserved.{Conserved, ownNumber, refusal-number, item-conserving}
@@ -135,7 +135,7 @@ module _ (s : List ℕ) where
       let b = bounds.bounds s e in
       let c : itemCost d ≤ 147456 = omega (arith, item-cost 0 (at s 10 .here) f, passed-list s n e .size) in
       omega (arith, listing-length d (omega arith))
-  by-item e (refuse n p) f = λ q. true≢false
+  by-item e (stopped w n p) f = λ q. true≢false
       (sym (refusal-number (subst (Conserved (at s 10 .here)) f (item-conserving 0 (at s 10 .here)))) ∙ ap ownNumber q)
 
   right : Right (whole s)

@@ -6,22 +6,21 @@ use Prim.Native.Nat.{ℕ, suc, _+_, _-_, _≤_, _<_}
 use native.Mathlib.Omega.{arith}
 use lib.ListN.{length, length-append}
 use Rattle.token_list.specs.Contract.{InList}
-use Rattle.token_list.specs.Stream.{Trees}
 use Rattle.token_list.specs.declared.check.Cursor.{Cursor}
 use Rattle.output.specs.Contract.{FAR, Put}
 use Rattle.output.proofs.Texts.{nothing, joined}
-use Rattle.reading.specs.Declaration.{Parameter, lifetime, constant, type, Field, Variant}
+use Rattle.reading.specs.Declaration.{Parameter, lifetime, constant, type, UnnamedField, Field, Variant}
 use Rattle.reading.specs.Took.{Took, Reader}
 use Rattle.reading.specs.Reading as reading
 use Rattle.reading.specs.Reading.{Maybe, done, one, every}
-use Rattle.reading.specs.Place.{parameterNameRow}
+use Rattle.reading.specs.Place.{parameterNameAt}
 use Rattle.reading.proofs.Rounds.{Rounding}
 use Rattle.reading.proofs.Conserved as conserved
 use Rattle.parse.specs.Contract.{Said, on, no, Meets, stream, point, InsideAt}
-use Rattle.parse.specs.Contract.{fieldShown, fieldSaid, typeShown, typeSaid, variantShown, variantSaid}
-use Rattle.parse.specs.Contract.{isLifetime, parameterText, parameterShown, parameterSaid}
+use Rattle.parse.specs.Contract.{fieldShown, fieldSaid, unnamedShown, unnamedSaid, variantShown, variantSaid}
+use Rattle.parse.specs.Contract.{isLifetime, parameterKind, parameterText, parameterShown, parameterSaid}
 use Rattle.parse.specs.declared.fields.FieldStep.{FieldStep}
-use Rattle.parse.specs.declared.fields.TypeStep.{TypeStep}
+use Rattle.parse.specs.declared.fields.UnnamedFieldStep.{UnnamedFieldStep}
 use Rattle.parse.specs.declared.variants.VariantStep.{VariantStep}
 use Rattle.parse.specs.declared.generics.ParameterStep.{ParameterStep}
 use Rattle.parse.proofs.Meeting as meeting
@@ -59,18 +58,18 @@ named =
       lines = namedLine;
       reader = reading.namedField;
       round = conserved.namedField-round;
-      shown = fieldShown;
+      shown = λ s c. fieldShown s (point s c);
       said = fieldSaid;
     }
 
-abbrev pub tuple : Series TypeStep Trees
+abbrev pub tuple : Series UnnamedFieldStep UnnamedField
 tuple =
     record {
       lines = tupleLine;
       reader = reading.tupleField;
       round = conserved.tupleField-round;
-      shown = λ s c. typeShown;
-      said = typeSaid;
+      shown = λ s c. unnamedShown s (point s c);
+      said = unnamedSaid;
     }
 
 abbrev pub variants : Series VariantStep Variant
@@ -90,7 +89,7 @@ parameters angle =
       lines = parameterLine;
       reader = reading.parameter angle;
       round = conserved.parameter-round angle;
-      shown = λ s c. parameterShown s (parameterNameRow (point s c));
+      shown = λ s c. parameterShown s (parameterNameAt (point s c));
       said = parameterSaid;
     }
 
@@ -190,12 +189,12 @@ turn q {s} {c} e w = meeting.say (q .shown s c) (q .said) e w
 
 -- ## Parameters
 
-pub quoted : (a : Parameter) → isLifetime a ≡ true → parameterName a ≡ 39 ∷ parameterText a
+pub quoted : (a : Parameter) → isLifetime (parameterKind a) ≡ true → parameterName a ≡ 39 ∷ parameterText a
 quoted (lifetime n b) e = refl
 quoted (constant n t) e = absurd (false≢true e)
 quoted (type n b d) e = absurd (false≢true e)
 
-pub unquoted : (a : Parameter) → isLifetime a ≡ false → parameterName a ≡ parameterText a
+pub unquoted : (a : Parameter) → isLifetime (parameterKind a) ≡ false → parameterName a ≡ parameterText a
 unquoted (lifetime n b) e = absurd (false≢true (sym e))
 unquoted (constant n t) e = refl
 unquoted (type n b d) e = refl

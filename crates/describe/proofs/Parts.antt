@@ -9,7 +9,7 @@ use Rattle.token_list.specs.Contract.{LeafAt, GroupAt, rowOf}
 use Rattle.token_list.specs.declared.check.Cursor.{Cursor}
 use Rattle.token_list.specs.declared.stream.Token.{Token}
 use Rattle.reading.specs.Declaration as declaration
-use Rattle.reading.specs.Took.{Took, took, refuse, Reader, onward, after, pure}
+use Rattle.reading.specs.Took.{Took, took, stopped, refuse, Reader, onward, after, pure}
 use Rattle.reading.specs.Reading as reading
 use Rattle.reading.specs.Place.{insideOf, inside}
 use Rattle.parse.specs.Contract.{stream, point, pastOf, InsideAt}
@@ -35,7 +35,7 @@ module _ {A B : Type 0} (m : Reader A) (f : A → B) where
       go : (t : Took A) → m (row + 1) ts ≡ t → reading.closing us (after (row + 1) t (λ a. pure (f a))) ≡ took b rs vs
           → (a : A) × (b ≡ f a) × (qs : List ℕ) × (ws : Trees) × (m (row + 1) ts ≡ took a qs ws)
       go (took a qs ws) g h = (a, sym (took-value h), qs, ws, g)
-      go (refuse n p) g h = took-not-refuse h
+      go (stopped w n p) g h = took-not-refuse h
 
 -- ## Bodies
 
@@ -86,7 +86,7 @@ module _ {A B : Type 0} (f : A → B) where
   pub made : (row : ℕ) (t : Took A) {b : B} {rs : List ℕ} {us : Trees} → after row t (λ a. pure (f a)) ≡ took b rs us
       → (a : A) × (b ≡ f a) × (qs : List ℕ) × (ws : Trees) × (t ≡ took a qs ws)
   made row (took a qs ws) h = (a, sym (took-value h), qs, ws, refl)
-  made row (refuse n p) h = took-not-refuse h
+  made row (stopped w n p) h = took-not-refuse h
 
 module _ {s : List ℕ} {c : Cursor} {b : declaration.Body} (i : InsideAt reading.structBody s c b) where
   -- a struct's body is a group of fields
@@ -165,7 +165,7 @@ module _ {s : List ℕ} {c : Cursor} {v : declaration.Generics} (i : InsideAt re
             gives = g ∙ ap (λ (zs : List declaration.Parameter). took zs qs ws)
                 (ap declaration.parametersOf (took-value h));
           })
-      go (refuse n p) g h = took-not-refuse h
+      go (stopped w n p) g h = took-not-refuse h
 
   pub generics-other : (t : Token) → LeafAt s (c .at) t → reading.isPunct 60 (rowOf s t) ≡ false →
       v ≡ declaration.without

@@ -8,7 +8,7 @@ use lib.Seq.{slice}
 use mathlib.Core.Bool.{Bool, true, false, cond}
 use Rattle.token_list.specs.Byte.{BRACE}
 use Rattle.token_list.specs.Layout.{TEXT-OFFSET, MAX-BYTES}
-use Rattle.token_list.specs.Stream.{Trees, rowStart}
+use Rattle.token_list.specs.Stream.{rowStart}
 use Rattle.token_list.specs.declared.check.Cursor.{Cursor}
 use Rattle.reading.specs.Declaration as declaration
 use Rattle.reading.specs.Reading as reading
@@ -80,7 +80,8 @@ abbrev pub fieldsIn : Bool → List ℕ → Cursor → declaration.Fields → Ty
 fieldsIn true s c f =
     (fs : List declaration.Field) × (f ≡ declaration.named fs) × InsideAt (reading.every reading.namedField) s c fs
 fieldsIn false s c f =
-    (ts : List Trees) × (f ≡ declaration.tuple ts) × InsideAt (reading.every reading.tupleField) s c ts
+    (fs : List declaration.UnnamedField) × (f ≡ declaration.tuple fs) ×
+    InsideAt (reading.every reading.tupleField) s c fs
 
 abbrev pub StructAt : List ℕ → ℕ → Cursor → declaration.Fields → Type 0
 StructAt s mark c f = fieldsIn (eqb mark BRACE) s c f

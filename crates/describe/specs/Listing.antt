@@ -9,10 +9,9 @@ use lib.Seq.{sets}
 use Rattle.token_list.specs.Byte.{bytes, SPACE, LF, QUOTE}
 use Rattle.token_list.specs.Layout.{MAX-BYTES, MAX-ROWS}
 use Rattle.token_list.specs.Check as list
-use Rattle.token_list.specs.Stream.{Trees}
 use Rattle.output.specs.Text.{decimal, refusalText}
-use Rattle.reading.specs.Declaration.{Kind, struct, enum, Parameter, lifetime, constant, type, parametersOf, Field, Fields, unit, named, tuple, Value, absent, literal, negative, Variant, Body, fields, variants, Declaration, bodyCount}
-use Rattle.reading.specs.Took.{Took, took, refuse}
+use Rattle.reading.specs.Declaration.{Kind, struct, enum, Parameter, lifetime, constant, type, parametersOf, UnnamedField, Field, Fields, unit, named, tuple, Value, absent, literal, negative, Variant, Body, fields, variants, Declaration, bodyCount}
+use Rattle.reading.specs.Took.{Took, took, stopped}
 use Rattle.reading.specs.Answer.{framed}
 use Rattle.describe.specs.Value.{negativeText}
 
@@ -61,13 +60,13 @@ parameterLine k p = line PARAM (parameterName p) DASH
 abbrev pub namedLine : ℕ → Field → List ℕ
 namedLine k f = line FIELD (f .name) (decimal k)
 
-abbrev pub tupleLine : ℕ → Trees → List ℕ
-tupleLine k t = line FIELD DASH (decimal k)
+abbrev pub tupleLine : ℕ → UnnamedField → List ℕ
+tupleLine k f = line FIELD DASH (decimal k)
 
 abbrev pub fieldLines : Fields → List ℕ
 fieldLines unit = []
 fieldLines (named fs) = numbered namedLine 0 fs
-fieldLines (tuple ts) = numbered tupleLine 0 ts
+fieldLines (tuple fs) = numbered tupleLine 0 fs
 
 -- the written value, or the position k
 abbrev pub number : ℕ → Value → List ℕ
@@ -105,7 +104,7 @@ pub data Answer : Type 0 where
 
 abbrev pub itemAnswer : Took Declaration → Answer
 itemAnswer (took d rs us) = listed (listing d)
-itemAnswer (refuse n p) = refused n p
+itemAnswer (stopped w n p) = refused n p
 
 -- for a list, where there is room
 unfoldable pub whole : List ℕ → Answer

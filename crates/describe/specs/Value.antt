@@ -8,7 +8,7 @@ use Rattle.token_list.specs.Byte.{ZERO, MINUS}
 use Rattle.token_list.specs.Check as list
 use Rattle.output.specs.Text.{decimal}
 use Rattle.reading.specs.Declaration.{Value, absent, literal, negative, Variant, Body, fields, variants, Declaration}
-use Rattle.reading.specs.Took.{Took, took, refuse, Point}
+use Rattle.reading.specs.Took.{Took, took, stopped, Point}
 use Rattle.reading.specs.Answer.{framed}
 use Rattle.reading.specs.Place.{start, inside, bodyAt, variantAt, valueRow}
 
@@ -51,7 +51,7 @@ variantAnswer x k v = valueAnswer (valueRow (variantAt k (inside (bodyAt x))) v)
 
 abbrev pub itemAnswer : Point → ℕ → Took Declaration → Answer
 itemAnswer x k (took d rs us) = variantAnswer x k (bodyValue k (d .body))
-itemAnswer x k (refuse n p) = refused n p
+itemAnswer x k (stopped w n p) = refused n p
 
 -- for a list s, the variant at position k, and a scratch of n bytes
 unfoldable pub answer : List ℕ → ℕ → ℕ → Answer

@@ -7,6 +7,7 @@ use output::put::put_bytes;
 use output::put::put_number;
 use parse::data_type::DataType;
 use parse::generics::ParameterAt;
+use parse::generics::is_lifetime;
 use parse::item::ItemAt;
 use parse::variants::ValueAt;
 use parse::variants::VariantAt;
@@ -94,7 +95,8 @@ pub fn put_variant(s: &[u8], v: VariantAt, n: usize, out: &mut [u8], at: usize) 
     ensures { λ r. ⌜ ((a : Variant) → VariantOf (now (s .entry)) v a →
         Put (now (out .entry)) (now (out .exit)) at r (variantLine n a)) ⌝ }
 {
-    let name = v.name;
+    let word = v.name;
+    let name = word.token;
     let head = put_head(s, b"variant ", name, out, at);
     let space = put_byte(out, head, b' ');
     let value = v.value;
@@ -103,12 +105,13 @@ pub fn put_variant(s: &[u8], v: VariantAt, n: usize, out: &mut [u8], at: usize) 
 }
 
 pub fn put_parameter(s: &[u8], p: ParameterAt, out: &mut [u8], at: usize) -> usize
-    requires { ⌜ ((a : Parameter) × ParameterOf (now s) (p .lifetime) (p .name) a) ⌝ }
-    ensures { λ r. ⌜ ((a : Parameter) → ParameterOf (now (s .entry)) (p .lifetime) (p .name) a →
+    requires { ⌜ ((a : Parameter) × ParameterOf (now s) (p .kind) (p .name) a) ⌝ }
+    ensures { λ r. ⌜ ((a : Parameter) → ParameterOf (now (s .entry)) (p .kind) (p .name) a →
         Put (now (out .entry)) (now (out .exit)) at r (parameterLine 0 a)) ⌝ }
 {
     let name = p.name;
-    if p.lifetime {
+    let kind = p.kind;
+    if is_lifetime(kind) {
         let quoted = put_head(s, b"param '", name, out, at);
         return put_bytes(out, quoted, b" -\n");
     }
@@ -135,7 +138,8 @@ pub fn put_item(s: &[u8], d: ItemAt, out: &mut [u8]) -> usize
 {
     let names = put_bytes(out, 0, b"part name number\n");
     let kind = d.kind;
-    let name = d.name;
+    let word = d.name;
+    let name = word.token;
     let head = put_kind(s, kind, name, out, names);
     let count = d.count;
     put_position(out, head, count)

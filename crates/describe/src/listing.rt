@@ -8,7 +8,7 @@ use crate::lines::put_variant;
 use output::put::put_refusal;
 use parse::data_type::DataType;
 use parse::fields::FieldStep;
-use parse::fields::TypeStep;
+use parse::fields::UnnamedFieldStep;
 use parse::fields::named_field;
 use parse::fields::tuple_field;
 use parse::generics::ParameterStep;
@@ -35,11 +35,11 @@ ghost use mathlib.Core.List.{List};
 ghost use Prim.Native.Nat.{ℕ};
 ghost use lib.ListN.{length};
 ghost use Rattle.token_list.specs.Layout.{FIRST-ROW};
-ghost use Rattle.token_list.specs.Stream.{Trees, at};
+ghost use Rattle.token_list.specs.Stream.{at};
 ghost use Rattle.token_list.specs.Place.{OneRefusal};
 ghost use Rattle.token_list.specs.Contract.{InList};
 ghost use Rattle.output.specs.Contract.{Put};
-ghost use Rattle.reading.specs.Declaration.{Parameter, Generics, parametersOf, Field, Fields, Variant, Body, Declaration};
+ghost use Rattle.reading.specs.Declaration.{Parameter, Generics, parametersOf, UnnamedField, Field, Fields, Variant, Body, Declaration};
 ghost use Rattle.reading.specs.Reading.{every, namedField, tupleField, variant, parameter, generics, bodyOf, item};
 ghost use Rattle.reading.specs.Answer.{readNumber};
 ghost use Rattle.parse.specs.Contract.{kindOf, InsideAt, FieldsOf, ItemOf};
@@ -66,7 +66,8 @@ fn named_lines(s: &[u8], from: Cursor, roles: &mut [u8], out: &mut [u8], start: 
             FieldStep::One(f) => {
                 let name = f.name;
                 at = put_named(s, name, out, at, count);
-                c = f.next;
+                let field = f.field;
+                c = field.next;
                 count += 1;
             }
             FieldStep::Done(_) => {
@@ -82,23 +83,23 @@ fn named_lines(s: &[u8], from: Cursor, roles: &mut [u8], out: &mut [u8], start: 
 // The lines of the fields without names that are read from `from` on.
 fn tuple_lines(s: &[u8], from: Cursor, roles: &mut [u8], out: &mut [u8], start: usize) -> usize
     requires { ⌜ InList (now s) from ⌝ }
-    ensures { λ r. ⌜ ((ts : List Trees) → InsideAt (every tupleField) (now (s .entry)) from ts →
-        Put (now (out .entry)) (now (out .exit)) start r (numbered tupleLine 0 ts)) ⌝ }
+    ensures { λ r. ⌜ ((fs : List UnnamedField) → InsideAt (every tupleField) (now (s .entry)) from fs →
+        Put (now (out .entry)) (now (out .exit)) start r (numbered tupleLine 0 fs)) ⌝ }
 {
     let mut c = from;
     let mut at = start;
     let mut count = 0;
     loop {
         match tuple_field(s, c, roles) {
-            TypeStep::One(next) => {
+            UnnamedFieldStep::One(f) => {
                 at = put_unnamed(out, at, count);
-                c = next;
+                c = f.next;
                 count += 1;
             }
-            TypeStep::Done(_) => {
+            UnnamedFieldStep::Done(_) => {
                 return at;
             }
-            TypeStep::Refused(_) => {
+            UnnamedFieldStep::Refused(_) => {
                 return at;
             }
         }

@@ -1,5 +1,5 @@
 -- Laws on fields, groups and values.
-use mathlib.Core.Path.{_≡_, refl, ap, _∙_, sym, subst, subst⁻¹}
+use mathlib.Core.Path.{_≡_, refl, ap, _∙_, sym, subst, subst⁻¹, fun-ext}
 use mathlib.Core.Bool.{Bool, true, false, _&&_}
 use mathlib.Core.List.{List, [], _∷_, _++_, append-nil}
 use Prim.Native.Nat.{ℕ, suc, _+_, _-_, _*_, _≤_, _<_}
@@ -14,16 +14,28 @@ use Rattle.token_list.specs.Contract.{InList, TokenAt, GroupAt, Skipped}
 use Rattle.token_list.specs.declared.check.Cursor.{Cursor}
 use Rattle.token_list.specs.declared.stream.Token.{Token}
 use Rattle.token_list.proofs.Texts.{and-both, and-fails, and-last, slice-next, slice-none}
-use Rattle.reading.specs.Took.{Took, took, refuse, Reader, onward, after, pure, _>>=_}
-use Rattle.reading.specs.Reading.{one, comma, punctIf, closing, worthFrom}
+use Rattle.reading.specs.Took.{Took, took, stopped, Reader, onward, after, pure, _>>=_}
+use Rattle.reading.specs.Reading.{attributes, visibility, one, comma, punctIf, closing, worthFrom}
 use Rattle.reading.specs.Token.{negatable}
-use Rattle.parse.specs.Contract.{Said, on, no, Meets, stands, refuses, stream, pastOf, Inside, InsideAt, countShown, bodyShown}
-use Rattle.reading.specs.Declaration.{Field, named, tuple, Variant, fields, variants}
-use Rattle.parse.specs.declared.generics.Counted.{Counted}
-use Rattle.parse.specs.declared.generics.Counted.the-variants as counts
+use Rattle.parse.specs.Contract.{Prefix, prefix, Said, on, no, Meets, stands, refuses, stream, pastOf, Inside, InsideAt, countShown, bodyShown}
+use Rattle.reading.specs.Declaration.{Visibility, UnnamedField, Field, named, tuple, Variant, fields, variants}
+use Rattle.parse.specs.declared.generics.CountStep.{CountStep}
+use Rattle.parse.specs.declared.generics.CountStep.the-variants as counts
 use Rattle.parse.proofs.Buffer.{sets-append}
-use Rattle.parse.proofs.Meeting.{past-fits, past-in-of, meets-as}
+use Rattle.parse.proofs.Meeting.{past-fits, past-in-of, meets-as, after-assoc, after-pure}
 use Rattle.reading.proofs.Conserved.{Ended, ended-at}
+
+-- ## What stands before an item or a field, and then its other parts
+
+pub prefix-then : {B : Type 0} (row : ℕ) (ts : Trees) (k : List Trees → Visibility → Reader B) →
+    (attributes >>= λ a. visibility >>= k a) row ts ≡
+    after row (prefix row ts) (λ p. k (p .attributes) (p .visibility))
+prefix-then row ts k =
+    ap (after row (attributes row ts)) (fun-ext (λ a. fun-ext (λ r. fun-ext (λ us.
+    sym (after-pure r (visibility r us) (λ v. record { attributes = a; visibility = v })
+    (λ p. k (p .attributes) (p .visibility)))))))
+    ∙ sym (after-assoc row (attributes row ts) (λ a. visibility >>= λ v. pure (record { attributes = a; visibility = v }))
+    (λ p. k (p .attributes) (p .visibility)))
 
 -- ## A value, and the `,` that may follow it
 
@@ -37,8 +49,8 @@ comma-as row (took a rs us) g = go (punctIf 44 10 (row + length rs) us)
     go : (p : Took Bool) → onward rs (after (row + length rs) p (λ u. pure (one (g a)))) ≡
         after row (onward rs (after (row + length rs) p (λ u. pure a))) (λ a. pure (one (g a)))
     go (took u qs vs) = ap (λ (ps : List ℕ). took (one (g a)) ps vs) (sym (append-nil (rs ++ (qs ++ []))))
-    go (refuse n p) = refl
-comma-as row (refuse n p) g = refl
+    go (stopped w n p) = refl
+comma-as row (stopped w n p) g = refl
 
 -- ## The inside of a group
 
@@ -49,7 +61,7 @@ pub closing-map : {A B : Type 0} {s : List ℕ} {c : Cursor} {b0 b1 : List ℕ} 
 closing-map {s = s} {c} {b0} {b1} {sh2 = sh2} us row (took a rs rest) f g (stands {d = d} m h) =
     subst⁻¹ (λ (qs : List ℕ). Meets s c b0 b1 sh2 (on d) (took (f a) (14 ∷ qs ++ 14 ∷ []) us)) (append-nil rs)
     (stands m (g a rs rest refl h))
-closing-map us row (refuse n p) f g (refuses qs e) = refuses qs e
+closing-map us row (stopped w n p) f g (refuses qs e) = refuses qs e
 
 module _ (s : List ℕ) (c inside : Cursor) (t : Token) (i : InList s c) (g : GroupAt s (c .at) t) (b0 b1 : List ℕ)
     (p : inside ≡ pastOf c t) (w : b1 ≡ set b0 (c .row) 14) where
@@ -156,15 +168,15 @@ digits-end s i e n h = ap (Negatable n) (slice-none s i e h)
 
 -- ## What a count tells of a body
 
-pub count-named : (r : Counted) (fs : List Field) → countShown r fs → bodyShown r (fields (named fs))
+pub count-named : (r : CountStep) (fs : List Field) → countShown r fs → bodyShown r (fields (named fs))
 count-named (counts.At d n) fs h = h
 count-named (counts.Refused r) fs h = h
 
-pub count-tuple : (r : Counted) (ts : List Trees) → countShown r ts → bodyShown r (fields (tuple ts))
+pub count-tuple : (r : CountStep) (ts : List UnnamedField) → countShown r ts → bodyShown r (fields (tuple ts))
 count-tuple (counts.At d n) ts h = h
 count-tuple (counts.Refused r) ts h = h
 
-pub count-variants : (r : Counted) (vs : List Variant) → countShown r vs → bodyShown r (variants vs)
+pub count-variants : (r : CountStep) (vs : List Variant) → countShown r vs → bodyShown r (variants vs)
 count-variants (counts.At d n) vs h = h
 count-variants (counts.Refused r) vs h = h
 

@@ -15,14 +15,12 @@ use Rattle.token_list.proofs.Texts.{chosen, passed-over}
 use Rattle.token_list.proofs.Passed.{passed-list}
 use Rattle.token_list.proofs.Starts.{first-start}
 use Rattle.reading.specs.Declaration.{Declaration}
-use Rattle.reading.specs.Took.{Took, Point, beyond}
-use Rattle.reading.specs.Reading.{item, generics, clause}
-use Rattle.reading.specs.Place.{itemNameRow, genericsAt, bodyAt}
+use Rattle.reading.specs.Took.{Took}
+use Rattle.reading.specs.Reading.{item}
 use Rattle.reading.specs.Answer.{Answer, declared, refused, itemAnswer, answer, buffer, accepts}
-use Rattle.parse.specs.Contract.{Meets, stands, refuses, on, no, ItemOf, parsedOf, parsedBy, kindOf, ParsedAs, Answered, accepted, stream, point, TokenIn, CursorAt, itemShown, itemSaid, partsShown}
+use Rattle.parse.specs.Contract.{Meets, stands, refuses, on, no, parsedOf, parsedBy, kindOf, ParsedAs, Answered, accepted, stream, point, itemShown, itemSaid, partsShown}
 use Rattle.parse.specs.declared.data_type.DataType.{DataType}
 use Rattle.parse.specs.declared.data_type.DataType.the-variants as kinds
-use Rattle.token_list.specs.declared.stream.Token.{Token}
 use Rattle.parse.specs.declared.item.ItemAt.{ItemAt}
 use Rattle.parse.specs.declared.item.ItemStep.{ItemStep}
 use Rattle.parse.specs.declared.item.ItemStep.the-variants as itemSteps
@@ -110,33 +108,12 @@ first-in s rows e =
       whole = p .whole;
     }
 
--- ## Where an item's parts stand
-
--- all but where it ends
-abbrev Placed : List ℕ → Cursor → ItemStep → Declaration → Type 0
-Placed s c (itemSteps.At i) d =
-    ItemOf s i d × TokenIn s (itemNameRow (point s c)) (i .name) × CursorAt s (genericsAt (point s c)) (i .generics)
-    × CursorAt s (bodyAt (point s c)) (i .body)
-Placed s c (itemSteps.Refused r) d = ⊥
-
-pub parts-placed : (s : List ℕ) (c g : Cursor) (name : Token) → TokenIn s (itemNameRow (point s c)) name →
-    CursorAt s (genericsAt (point s c)) g
-    → (r : ItemStep) (d : Declaration) → partsShown s g name r d → Placed s c r d
-parts-placed s c g name n k (itemSteps.At i) d h =
-    let p = h .1 in (
-      h .0,
-      subst⁻¹ (TokenIn s (itemNameRow (point s c))) (p .name) n,
-      subst⁻¹ (CursorAt s (genericsAt (point s c))) (p .generics) k,
-      subst (λ (x : Point). CursorAt s (beyond clause (beyond generics x)) (i .body)) (k .here) (p .body),
-    )
-parts-placed s c g name n k (itemSteps.Refused r) d h = h
-
-pub item-placed : {s : List ℕ} {c : Cursor} {b0 b1 : List ℕ} (r : ItemStep) →
-    Meets s c b0 b1 (Placed s c r) (itemSaid r) (item (c .row) (stream s c))
+-- an item's parts, and where it ends
+pub item-ends : {s : List ℕ} {c : Cursor} {b0 b1 : List ℕ} (r : ItemStep) →
+    Meets s c b0 b1 (partsShown s (point s c) r) (itemSaid r) (item (c .row) (stream s c))
     → Meets s c b0 b1 (itemShown s c r) (itemSaid r) (item (c .row) (stream s c))
-item-placed (itemSteps.At i) m =
-    meets-show (λ d h. (h .0, record { name = h .1; generics = h .2; body = h .3; next = meets-beyond item m })) m
-item-placed (itemSteps.Refused r) m = meets-none m
+item-ends (itemSteps.At i) m = meets-show (λ d h. (h .0, h .1, meets-beyond item m)) m
+item-ends (itemSteps.Refused r) m = meets-none m
 
 -- ## The code's answers
 
@@ -154,8 +131,8 @@ answered-refused s b0 {b1} r w e q =
 
 parsed-as : (s : List ℕ) (i : ItemAt) (k : DataType) (d : Declaration) (rs : List ℕ) → i .kind ≡ k →
     itemShown s first (itemSteps.At i) d → ParsedAs s (parsedBy k i) (declared d rs)
-parsed-as s i kinds.Struct d rs e o = (o .0 .kind ∙ ap kindOf e, o .0, o .1)
-parsed-as s i kinds.Enum d rs e o = (o .0 .kind ∙ ap kindOf e, o .0, o .1)
+parsed-as s i kinds.Struct d rs e o = (o .0 .kind ∙ ap kindOf e, o)
+parsed-as s i kinds.Enum d rs e o = (o .0 .kind ∙ ap kindOf e, o)
 
 module _ (s : List ℕ) (rows : ℕ) (e : list.check s ≡ list.passed rows) (b0 : List ℕ) (room : rows ≤ length b0) where
   pub read-refused : {b1 b2 : List ℕ} {sh : Declaration → Type 0} {p : Parse} (r : Refusal) →

@@ -8,5 +8,6 @@ pub mod Marks
 pub mod Looks
 pub mod Heads
 pub mod Loops
+pub mod Parameters
 pub mod Bodies
 pub mod Items

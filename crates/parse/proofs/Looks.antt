@@ -9,6 +9,7 @@ use Rattle.token_list.specs.Text.{same}
 use Rattle.token_list.specs.Row.{first}
 use Rattle.token_list.specs.Stream.{Trees, end, leaf, group, firstKind, firstMark}
 use Rattle.token_list.proofs.Texts.{passed-over, and-fails}
+use Rattle.reading.specs.Declaration.{default}
 use Rattle.reading.specs.Took.{took}
 use Rattle.reading.specs.Token.{starts}
 use Rattle.reading.specs.Reading.{isPunct, isIdent, PUB, punctIf, attributes, visibility, tupleField, tupleType, variant, variantHere}
@@ -23,7 +24,7 @@ no-punct b n row end e = refl
 no-punct b n row (leaf r us) e = passed-over _ _ _ e
 no-punct b n row (group d ts us) e = refl
 
-pub no-attribute : (row : ℕ) (ts : Trees) → starts (isPunct 35) ts ≡ false → attributes row ts ≡ took tt [] ts
+pub no-attribute : (row : ℕ) (ts : Trees) → starts (isPunct 35) ts ≡ false → attributes row ts ≡ took [] [] ts
 no-attribute row end e = refl
 no-attribute row (leaf r us) e = passed-over _ _ _ e
 no-attribute row (group d ts us) e = refl
@@ -38,7 +39,7 @@ last-fails true b e = e
 last-fails false b e = refl
 
 pub no-visibility : (row : ℕ) (ts : Trees) → (firstKind ts ≡ 111 → ⊥) → (firstMark ts ≡ 112 → ⊥) →
-    visibility row ts ≡ took tt [] ts
+    visibility row ts ≡ took default [] ts
 no-visibility row end k m = refl
 no-visibility row (leaf r us) k m = passed-over _ _ _ (last-fails (isIdent r) _ (no-pub (r .text) m))
 no-visibility row (group d ts us) k m = absurd (k refl)

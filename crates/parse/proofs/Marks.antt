@@ -12,23 +12,24 @@ use Rattle.token_list.specs.Contract.{InList, LeafAt, GroupAt, rowOf}
 use Rattle.token_list.specs.declared.check.Cursor.{Cursor}
 use Rattle.token_list.specs.declared.stream.Token.{Token}
 use Rattle.token_list.proofs.Texts.{chosen, passed-over}
-use Rattle.reading.specs.Took.{Took, took, refuse, onward}
+use Rattle.reading.specs.Took.{Took, took, refuse, ranOut, onward, gathered}
 use Rattle.reading.specs.Reading.{isPunct, attributes, marked, copied, whole}
-use Rattle.parse.specs.Contract.{Moved, stream, pastOf, Belonged}
+use Rattle.parse.specs.Contract.{Moved, stream, pastOf, Gained}
+use Rattle.parse.proofs.Loops.{gathered-onward, gathered-one}
 use Rattle.parse.proofs.Meeting.{leaf-taken, leaf-then, moved-on, group-stream}
 
 module _ (s : List ℕ) (c : Cursor) (inList : InList s c) (t : Token) (l : LeafAt s (c .at) t) where
-  abbrev here : Took (Unit {0})
+  abbrev here : Took (List Trees)
   here = attributes (c .row) (stream s c)
 
-  pub no-mark : isPunct 35 (rowOf s t) ≡ false → here ≡ took tt [] (stream s c)
-  no-mark e = ap (attributes (c .row)) (l .here) ∙ passed-over _ _ _ e ∙ ap (took tt []) (sym (l .here))
+  pub no-mark : isPunct 35 (rowOf s t) ≡ false → here ≡ took [] [] (stream s c)
+  no-mark e = ap (attributes (c .row)) (l .here) ∙ passed-over _ _ _ e ∙ ap (took [] []) (sym (l .here))
 
   module _ (e : isPunct 35 (rowOf s t) ≡ true) (d : Cursor) (p : d ≡ pastOf c t) where
     after-mark : (us : Trees) → stream s d ≡ us → here ≡ marked (c .row) us
     after-mark us q = ap (attributes (c .row)) (leaf-then s c d t us l p q) ∙ chosen _ _ _ e
 
-    pub mark-end : stream s d ≡ end → here ≡ refuse 13 END
+    pub mark-end : stream s d ≡ end → here ≡ ranOut 13 END
     mark-end q = after-mark end q
 
     below : d .row ≡ c .row + 1
@@ -36,17 +37,18 @@ module _ (s : List ℕ) (c : Cursor) (inList : InList s c) (t : Token) (l : Leaf
 
     module _ (q : Token) (n : LeafAt s (d .at) q) where
       pub mark-other : isPunct 35 (rowOf s q) ≡ false → here ≡ refuse 13 (d .row)
-      mark-other f = after-mark _ (n .here) ∙ passed-over _ _ _ f ∙ ap (refuse 13) (sym below)
+      mark-other f = after-mark _ (n .here) ∙ passed-over _ _ _ f ∙ ap (λ (n : ℕ). refuse 13 n) (sym below)
 
       pub mark-idle : (b0 b1 : List ℕ) → b1 ≡ set b0 (c .row) 3 → isPunct 35 (rowOf s q) ≡ true →
-          Belonged s c d b0 b1 here (attributes (d .row) (stream s d))
+          Gained s c d b0 b1 [] here (attributes (d .row) (stream s d))
       mark-idle b0 b1 w f =
           record {
             roles = 3 ∷ [];
             moved = leaf-taken attributes s c inList (λ x. Unit) t l d b0 b1 3 p w;
             some = omega arith;
             same = after-mark _ (n .here) ∙ chosen _ _ _ f ∙ sym
-                (ap (onward (3 ∷ [])) ((λ i. attributes (below i) (n .here i)) ∙ chosen _ _ _ f));
+                (ap (onward (3 ∷ [])) ((λ i. attributes (below i) (n .here i)) ∙ chosen _ _ _ f)) ∙
+                gathered-onward (3 ∷ []) (attributes (d .row) (stream s d));
           }
 
     module _ (q : Token) (k : InList s d) (g : GroupAt s (d .at) q) where
@@ -57,12 +59,12 @@ module _ (s : List ℕ) (c : Cursor) (inList : InList s c) (t : Token) (l : Leaf
       aft = head (at s (q .next) .outer)
 
       pub mark-wrong : (q .mark ≡ 91 → ⊥) → here ≡ refuse 12 (d .row)
-      mark-wrong f = after-mark _ (group-stream s d q k g) ∙ passed-over _ _ _ (ne-eqb _ _ f) ∙ ap (refuse 12)
-          (sym below)
+      mark-wrong f = after-mark _ (group-stream s d q k g) ∙ passed-over _ _ _ (ne-eqb _ _ f) ∙
+          ap (λ (n : ℕ). refuse 12 n) (sym below)
 
       pub mark-group : (b0 b1 b2 : List ℕ) (x : Cursor) → q .mark ≡ 91 → b1 ≡ set b0 (c .row) 1 →
           Moved s d x (copied 2 ins) aft b1 b2
-          → Belonged s c x b0 b2 here (attributes (x .row) (stream s x))
+          → Gained s c x b0 b2 (ins ∷ []) here (attributes (x .row) (stream s x))
       mark-group b0 b1 b2 x f w m =
           let h : length (copied 2 ins) ≡ whole ins = length-replicate (whole ins) 2 in
           let r : c .row + 1 + whole ins ≡ x .row = omega (arith, m .row, h, below) in
@@ -72,6 +74,7 @@ module _ (s : List ℕ) (c : Cursor) (inList : InList s c) (t : Token) (l : Leaf
             moved = record
                 { inList = n .inList; row = n .row; forth = n .forth; here = refl; outer = n .outer; roles = n .roles };
             some = omega arith;
-            same = after-mark _ (group-stream s d q k g) ∙ chosen _ _ _
-                (eq-eqb _ _ f) ∙ (λ i. onward (1 ∷ copied 2 ins) (attributes (r i) (sym (m .here) i)));
+            same = after-mark _ (group-stream s d q k g) ∙ chosen _ _ _ (eq-eqb _ _ f) ∙
+                gathered-one (c .row + 1 + whole ins) ins (1 ∷ copied 2 ins) (attributes (c .row + 1 + whole ins) aft) ∙
+                (λ i. gathered (ins ∷ []) (1 ∷ copied 2 ins) (attributes (r i) (sym (m .here) i)));
           }

@@ -1,5 +1,5 @@
 -- Laws on the readers' contract: one law for each way to put readers together.
-use mathlib.Core.Path.{_≡_, refl, ap, _∙_, sym, subst, subst⁻¹}
+use mathlib.Core.Path.{_≡_, refl, ap, _∙_, sym, subst, subst⁻¹, fun-ext}
 use mathlib.Core.Bool.{Bool, true, false, _&&_, false≢true}
 use mathlib.Core.List.{List, [], _∷_, _++_, append-assoc, append-nil}
 use Prim.Native.Nat.{ℕ, _+_, _-_, _≤_, _<_}
@@ -13,10 +13,10 @@ use Rattle.token_list.specs.Contract.{InList, TokenAt, LeafAt, GroupAt, Skipped
 use Rattle.token_list.specs.declared.stream.Peeked.{Peeked}
 use Rattle.token_list.specs.declared.check.Cursor.{Cursor}
 use Rattle.token_list.specs.declared.stream.Token.{Token}
-use Rattle.reading.specs.Took.{Took, took, refuse, Reader, onward, after, _>>=_, placeOf, pure}
-use Rattle.reading.specs.Reading.{copied, whole, lone, isPunct, isIdent, isWord, textOf, Word, missing, found, Ending, kept}
-use Rattle.parse.specs.Contract.{Moved, Said, on, no, Meets, stands, refuses, refusal, any, stream, pastOf, Belonged, TextOf, InsideAt, point, TokenIn, wordShown, wordSaid}
-use Rattle.reading.specs.Place.{wordRow}
+use Rattle.reading.specs.Took.{Took, took, Cause, stopped, Reader, onward, after, _>>=_, placeOf, pure}
+use Rattle.reading.specs.Reading.{copied, whole, lone, isPunct, isIdent, isWord, textOf, Word, missing, found}
+use Rattle.parse.specs.Contract.{Moved, Said, on, no, Meets, stands, refuses, refusal, stream, pastOf, Belonged, InsideAt, point, wordShown, wordSaid}
+use Rattle.parse.specs.Contract.{WordAt as WordOf}
 use Rattle.parse.specs.declared.utils.Word.{Word as WordAt}
 use Rattle.parse.specs.declared.utils.MaybeWord.{MaybeWord}
 use Rattle.parse.specs.declared.utils.MaybeWord.the-variants as words
@@ -134,6 +134,17 @@ pub meets-onward : {A : Type 0} {s : List ℕ} {c d : Cursor} {rs : List ℕ} {u
 meets-onward m (stands n h) = stands (moved-on m n) h
 meets-onward {rs = rs} m (refuses qs e) = refuses (rs ++ qs) (marked-on qs m e)
 
+-- a part that was taken, and what is left
+pub meets-belonged : {A : Type 0} {s : List ℕ} {c d : Cursor} {b0 b1 b2 : List ℕ} {sh : A → Type 0} {x : Said}
+    {t u : Took A} → Belonged s c d b0 b1 t u → Meets s d b1 b2 sh x u → Meets s c b0 b2 sh x t
+meets-belonged b g = meets-as (b .same) (meets-onward (b .moved) g)
+
+-- nothing is taken
+pub meets-still : {A : Type 0} {s : List ℕ} {c : Cursor} {b0 b1 : List ℕ} {sh : A → Type 0} {t : Took A} (a : A) →
+    InList s c → t ≡ took a [] (stream s c) → b1 ≡ b0 → sh a → Meets s c b0 b1 sh (on c) t
+meets-still {s = s} {c} {b0} {b1} {sh} {t} a i e q h =
+    subst⁻¹ (λ (b : List ℕ). Meets s c b0 b sh (on c) t) q (meets-as e (meets-stay s c b0 sh a i h))
+
 -- a reader, and then another from where it stopped
 pub meets-then : {A B : Type 0} {s : List ℕ} {c d : Cursor} {b0 b1 b2 : List ℕ} {sh : A → Type 0} {sh2 : B → Type 0}
     {x : Said} {t : Took A}
@@ -175,7 +186,7 @@ module _ {A : Type 0} (m : Reader A) (s : List ℕ) (c : Cursor) (inList : InLis
   meets-same b ts a e q h = meets-as (ap (m (c .row)) e ∙ q ∙ ap (took a []) (sym e)) (meets-stay s c b sh a inList h)
 
   -- it refuses
-  pub meets-refused : (b : List ℕ) (ts : Trees) (n p : ℕ) → stream s c ≡ ts → m (c .row) ts ≡ refuse n p
+  pub meets-refused : (b : List ℕ) (ts : Trees) {w : Cause} (n p : ℕ) → stream s c ≡ ts → m (c .row) ts ≡ stopped w n p
       → Meets s c b b sh (no n p) (m (c .row) (stream s c))
   meets-refused b ts n p e q = meets-as (ap (m (c .row)) e ∙ q) (refuses [] refl)
 
@@ -194,12 +205,22 @@ module _ {A : Type 0} (m : Reader A) (s : List ℕ) (c : Cursor) (inList : InLis
         meets-as (ap (m (c .row)) (l .here) ∙ k ∙ ap (took a (r ∷ [])) (sym f)) (stands leaf-taken h)
 
     -- it takes the token and goes on
+    pub leaf-belonged : (k : Reader A) →
+        m (c .row) (leaf (rowOf s t) (at s (t .next) .here)) ≡ onward (r ∷ []) (k (c .row + 1) (at s (t .next) .here))
+        → Belonged s c d b0 b1 (m (c .row) (stream s c)) (k (d .row) (stream s d))
+    leaf-belonged k f =
+        record {
+          roles = r ∷ [];
+          moved = leaf-taken;
+          some = omega arith;
+          same = ap (m (c .row)) (l .here) ∙ f ∙
+              ap (λ (y : Cursor). onward (r ∷ []) (k (y .row) (stream s y))) (sym e);
+        }
+
     pub meets-from : (b2 : List ℕ) (x : Said) (k : Reader A) →
         m (c .row) (leaf (rowOf s t) (at s (t .next) .here)) ≡ onward (r ∷ []) (k (c .row + 1) (at s (t .next) .here))
         → Meets s d b1 b2 sh x (k (d .row) (stream s d)) → Meets s c b0 b2 sh x (m (c .row) (stream s c))
-    meets-from b2 x k f g =
-        meets-as (ap (m (c .row)) (l .here) ∙ f ∙ ap (λ (y : Cursor). onward (r ∷ []) (k (y .row) (stream s y)))
-        (sym e)) (meets-onward leaf-taken g)
+    meets-from b2 x k f g = meets-belonged (leaf-belonged k f) g
 
   module _ (t : Token) (g : GroupAt s (c .at) t) (d : Cursor) (b0 b1 rs : List ℕ)
       (moved : Moved s c d rs (head (at s (t .next) .outer)) b0 b1) where
@@ -209,16 +230,31 @@ module _ {A : Type 0} (m : Reader A) (s : List ℕ) (c : Cursor) (inList : InLis
         → Meets s c b0 b1 sh (on d) (m (c .row) (stream s c))
     meets-group a k h = meets-as (ap (m (c .row)) (group-stream s c t inList g) ∙ k) (stands moved h)
 
-    -- it takes the group and goes on
-    pub meets-group-from : (b2 : List ℕ) (x : Said) (k : Reader A)
-        → m (c .row) (group (t .mark) (at s (t .next) .here) (head (at s (t .next) .outer))) ≡ onward rs
-        (k (c .row + length rs) (head (at s (t .next) .outer)))
-        → Meets s d b1 b2 sh x (k (d .row) (stream s d)) → Meets s c b0 b2 sh x (m (c .row) (stream s c))
-    meets-group-from b2 x k f n =
-        meets-as
-        (ap (m (c .row))
-        (group-stream s c t inList g) ∙ f ∙ (λ i. onward rs (k (sym (moved .row) i) (sym (moved .here) i))))
-        (meets-onward moved n)
+-- it takes the group, with the role r for all its rows, and goes on
+pub group-belonged : {A : Type 0} (m k : Reader A) {s : List ℕ} {c d : Cursor} (t : Token) (r : ℕ) {b0 b1 : List ℕ}
+    → InList s c → GroupAt s (c .at) t
+    → Moved s c d (copied r (at s (t .next) .here)) (head (at s (t .next) .outer)) b0 b1
+    → m (c .row) (group (t .mark) (at s (t .next) .here) (head (at s (t .next) .outer))) ≡
+    onward (copied r (at s (t .next) .here)) (k (c .row + whole (at s (t .next) .here)) (head (at s (t .next) .outer)))
+    → Belonged s c d b0 b1 (m (c .row) (stream s c)) (k (d .row) (stream s d))
+group-belonged m k {s} {c} {d} t r i g mv f =
+    let ins = at s (t .next) .here in
+    let w : length (copied r ins) ≡ whole ins = length-replicate (whole ins) r in
+    let q : c .row + whole ins ≡ d .row = omega (arith, w, mv .row) in
+    record {
+      roles = copied r ins;
+      moved = record {
+        inList = mv .inList;
+        row = mv .row;
+        forth = mv .forth;
+        here = refl;
+        outer = mv .outer;
+        roles = mv .roles;
+      };
+      some = omega (arith, w);
+      same = ap (m (c .row)) (group-stream s c t i g) ∙ f ∙
+          (λ j. onward (copied r ins) (k (q j) (sym (mv .here) j)));
+    }
 
 -- past the closing row of a group, from before a token in it
 pub leaf-skipped : (s : List ℕ) (c d : Cursor) (t : Token) → LeafAt s (c .at) t → Skipped s (pastOf c t) d →
@@ -259,11 +295,11 @@ pub record Going {A : Type 0} (s : List ℕ) (from : Cursor) (before : List ℕ)
 
 onward-none : {A : Type 0} (t : Took A) → onward [] t ≡ t
 onward-none (took a rs us) = refl
-onward-none (refuse n p) = refl
+onward-none (stopped w n p) = refl
 
 onward-append : {A : Type 0} (rs qs : List ℕ) (t : Took A) → onward rs (onward qs t) ≡ onward (rs ++ qs) t
 onward-append rs qs (took a ps us) = simp append-assoc
-onward-append rs qs (refuse n p) = refl
+onward-append rs qs (stopped w n p) = refl
 
 pub going-start : {A : Type 0} (s : List ℕ) (c : Cursor) (b : List ℕ) (t : Took A) → InList s c → Going s c b c b t t
 going-start s c b t i = record { taken = []; moved = moved-none s c b i; same = sym (onward-none t) }
@@ -300,11 +336,11 @@ going-length k = ap length (k .moved .roles) ∙ simp length-sets
 module _ {B : Type 0} (f : Word → Reader B) {s : List ℕ} {c : Cursor} {b0 b1 b2 : List ℕ} {sh : B → Type 0} {x : Said}
     {t : Took Word} where
   pub meets-word : (w : WordAt) → Meets s c b0 b1 (wordShown s c (words.Found w)) (on (w .next)) t
-      → ((text : List ℕ) → TextOf s (w .token) text → TokenIn s (wordRow (point s c)) (w .token) →
+      → ((text : List ℕ) → WordOf s (point s c) w text →
       Meets s (w .next) b1 b2 sh x (f (found text (w .row)) (w .next .row) (stream s (w .next))))
       → Meets s c b0 b2 sh x (after (c .row) t f)
   meets-word w m k = meets-then f m (λ a h. subst⁻¹ (λ (y : Word). Meets s (w .next) b1 b2 sh x
-      (f y (w .next .row) (stream s (w .next)))) (h .2) (k (h .0) (h .1) (h .3)))
+      (f y (w .next .row) (stream s (w .next)))) (h .1) (k (h .0) (h .2)))
 
   pub meets-missing : Meets s c b0 b1 (wordShown s c words.Missing) (on c) t →
       Meets s c b1 b2 sh x (f missing (c .row) (stream s c)) → Meets s c b0 b2 sh x (after (c .row) t f)
@@ -314,8 +350,8 @@ module _ {B : Type 0} (f : Word → Reader B) {s : List ℕ} {c : Cursor} {b0 b1
 -- a refusal at what stands at the cursor
 pub meets-wrong : {A : Type 0} {s : List ℕ} {c : Cursor} {b : List ℕ} {sh : A → Type 0} (r : Refusal) (n : ℕ)
     → (r .number ≡ n) × (r .place ≡ placeOf (c .row) (stream s c)) →
-    Meets s c b b sh (refusal r) (refuse n (placeOf (c .row) (stream s c)))
-meets-wrong r n e = meets-say (λ i. no (sym (e .0) i) (sym (e .1) i)) (refuses [] refl)
+    {w : Cause} → Meets s c b b sh (refusal r) (stopped w n (placeOf (c .row) (stream s c)))
+meets-wrong r n e {w} = meets-say (λ i. no (sym (e .0) i) (sym (e .1) i)) (refuses [] refl)
 
 -- ## Readers in a row may be bracketed otherwise
 
@@ -324,12 +360,24 @@ after-onward : {A B : Type 0} (row : ℕ) (rs : List ℕ) (t : Took A) (g : A �
 after-onward row rs (took a qs us) g =
     let e : row + length (rs ++ qs) ≡ row + length rs + length qs = omega (arith, length-append rs qs) in
     ap (λ (k : ℕ). onward (rs ++ qs) (g a k us)) e ∙ sym (onward-append rs qs (g a (row + length rs + length qs) us))
-after-onward row rs (refuse n p) g = refl
+after-onward row rs (stopped w n p) g = refl
 
 pub after-assoc : {A B C : Type 0} (row : ℕ) (t : Took A) (f : A → Reader B) (g : B → Reader C) →
     after row (after row t f) g ≡ after row t (λ a. f a >>= g)
 after-assoc row (took a rs us) f g = after-onward row rs (f a (row + length rs) us) g
-after-assoc row (refuse n p) f g = refl
+after-assoc row (stopped w n p) f g = refl
+
+pub pure-then : {A B : Type 0} (a : A) (g : A → Reader B) (row : ℕ) (ts : Trees) → (pure a >>= g) row ts ≡ g a row ts
+pure-then a g row ts =
+    let e : row + length {A = ℕ} [] ≡ row = omega arith in
+    onward-none (g a (row + length {A = ℕ} []) ts) ∙ ap (λ (n : ℕ). g a n ts) e
+
+-- a value made, and then a reader that goes on with it
+pub after-pure : {A B C : Type 0} (row : ℕ) (t : Took A) (f : A → B) (g : B → Reader C) →
+    after row (after row t (λ a. pure (f a))) g ≡ after row t (λ a. g (f a))
+after-pure row t f g =
+    after-assoc row t (λ a. pure (f a)) g ∙
+    ap (after row t) (fun-ext (λ a. fun-ext (λ r. fun-ext (λ us. pure-then (f a) g r us))))
 
 -- ## A word that stands alone
 
@@ -354,7 +402,7 @@ say-word {s} {c} {b0} {b1} {t} e m = subst (λ (p : MaybeWord). Meets s c b0 b1 
 
 pub word-within : {s : List ℕ} {c : Cursor} {b0 b1 : List ℕ} {t : Took Word} (w : WordAt) →
     Meets s c b0 b1 (wordShown s c (words.Found w)) (on (w .next)) t → w .token .end ≤ length s
-word-within w (stands m h) = h .1 .within
+word-within w (stands m h) = h .2 .text .within
 
 -- what a reader answered, by its own enum
 pub say : {R A : Type 0} (sh : R → A → Type 0) (f : R → Said) {s : List ℕ} {c : Cursor} {b0 b1 : List ℕ} {t : Took A}
@@ -369,12 +417,6 @@ pub meets-map : {A B : Type 0} {s : List ℕ} {c : Cursor} {b0 b1 : List ℕ} {s
 meets-map {s = s} {c} {b0} {b1} {sh2 = sh2} row f g (stands {d = d} {a = a} {rs = rs} {us = us} m h) =
     subst⁻¹ (λ (qs : List ℕ). Meets s c b0 b1 sh2 (on d) (took (f a) qs us)) (append-nil rs) (stands m (g a h))
 meets-map row f g (refuses qs e) = refuses qs e
-
--- a run with what it holds
-pub meets-kept : {s : List ℕ} {c : Cursor} {b0 b1 : List ℕ} {sh : Ending → Type 0} {x : Said} {t : Took Ending}
-    (ts : Trees) → Meets s c b0 b1 sh x t → Meets s c b0 b1 any x (kept ts t)
-meets-kept ts (stands m h) = stands m tt
-meets-kept ts (refuses qs e) = refuses qs e
 
 pub leaf-not-end : {r : Row} {us : Trees} → leaf r us ≡ end → ⊥
 leaf-not-end e = let z : _≡_ {A = ℕ} 0 1 = cc in omega arith

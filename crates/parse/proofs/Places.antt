@@ -1,21 +1,22 @@
 -- Laws on where cursors and tokens stand.
 use mathlib.Core.Path.{_≡_, refl, ap, _∙_, sym, subst, subst⁻¹}
-use mathlib.Core.Bool.{Bool, true, false, cond, _||_}
-use mathlib.Core.List.{List, [], _++_}
+use mathlib.Core.Bool.{Bool, true, false, cond, _||_, false≢true}
+use mathlib.Core.List.{List, [], _∷_}
 use Prim.Native.Nat.{ℕ, _+_}
 use native.Mathlib.Omega.{arith}
-use lib.ListN.{length, length-append}
-use Rattle.token_list.specs.Stream.{Trees, end, leaf, group}
+use lib.ListN.{length, length-replicate}
+use Rattle.token_list.specs.Stream.{Trees, end, leaf, group, head, at}
 use Rattle.token_list.specs.Contract.{InList, TokenAt, LeafAt, GroupAt, rowOf}
 use Rattle.token_list.specs.declared.check.Cursor.{Cursor}
 use Rattle.token_list.specs.declared.stream.Token.{Token}
 use Rattle.token_list.proofs.Texts.{chosen, passed-over}
 use Rattle.reading.specs.Token.{starts, isPunct, isWord, CONST}
 use Rattle.reading.specs.Declaration.{Value}
-use Rattle.reading.specs.Took.{Took, took, refuse, Reader, after, _>>=_, Point, pastTaken, beyond}
-use Rattle.reading.specs.Reading.{attributes, visibility, isLiteral, negatable, negativeValue}
-use Rattle.reading.specs.Place.{identRow, wordRow, startAt, marksName, parameterNameRow, literalRow}
-use Rattle.parse.specs.Contract.{Said, on, Meets, stands, refuses, stream, point, CursorAt, TokenIn, pastOf, fieldPrefix, ValueIn, valueShown, valueSaid}
+use Rattle.reading.specs.Took.{Took, took, Cause, stopped, Reader, after, _>>=_, Point, pastTaken, beyond}
+use Rattle.reading.specs.Reading.{punctIf, copied, whole, isLiteral, negatable, negativeValue}
+use Rattle.reading.specs.Place.{identRow, wordRow, tokenEnd, pastToken, marksName, parameterNameAt, literalRow}
+use Rattle.parse.specs.Contract.{Moved, Said, on, Meets, stands, refuses, stream, point, CursorAt, TokenIn, pastOf, ValueIn, valueShown, valueSaid}
+use Rattle.parse.proofs.Meeting.{past-in-of, group-stream}
 use Rattle.parse.specs.declared.variants.ValueStep.{ValueStep}
 use Rattle.parse.specs.declared.variants.ValueStep.the-variants as valueSteps
 
@@ -31,36 +32,6 @@ meets-beyond {A} m {s} {c} {d} {b0} {b1} {sh} w = go refl w
         let there : point s d ≡ record { row = c .row + length rs; stream = us } =
         λ i. record { row = mv .row i; stream = mv .here i } in
         record { inList = mv .inList; here = there ∙ sym (ap (pastTaken (point s c)) e) }
-
--- two readers, one after the other
-both-beyond : {A B : Type 0} (m : Reader A) (k : Reader B) (x : Point) {b : B} {rs : List ℕ} {us : Trees}
-    → (m >>= λ a. k) (x .row) (x .stream) ≡ took b rs us → beyond (m >>= λ a. k) x ≡ beyond k (beyond m x)
-both-beyond {A} {B} m k x {b} {rs} {us} e = first (m (x .row) (x .stream)) e
-  where
-    refused : {n p : ℕ} {C : Type 0} → _≡_ {A = Took B} (refuse n p) (took b rs us) → C
-    refused q = let z : _≡_ {A = ℕ} 0 1 = cc in absurd (omega arith)
-
-    first : (t : Took A) → after (x .row) t (λ a. k) ≡ took b rs us
-        → pastTaken x (after (x .row) t (λ a. k)) ≡ beyond k (pastTaken x t)
-    first (refuse n p) q = refused q
-    first (took a qs vs) q = second (k (x .row + length qs) vs) q
-      where
-        second : (t : Took B) → after (x .row) (took a qs vs) (λ a row us. t) ≡ took b rs us
-            → pastTaken x (after (x .row) (took a qs vs) (λ a row us. t)) ≡
-            pastTaken (record { row = x .row + length qs; stream = vs }) t
-        second (refuse n p) q = refused q
-        second (took c ps ws) q =
-            let n : x .row + length (qs ++ ps) ≡ x .row + length qs + length ps = omega (arith, length-append qs ps) in
-            λ i. record { row = n i; stream = ws }
-
--- past attributes and visibility
-pub start-beyond : {s : List ℕ} {c d : Cursor} {b0 b1 : List ℕ} {sh : Unit {0} → Type 0}
-    → Meets s c b0 b1 sh (on d) (fieldPrefix (c .row) (stream s c)) → point s d ≡ startAt (point s c)
-start-beyond {s} {c} {d} {b0} {b1} {sh} w = meets-beyond fieldPrefix w .here ∙ go refl w
-  where
-    go : {t : Took (Unit {0})} → fieldPrefix (c .row) (stream s c) ≡ t → Meets s c b0 b1 sh (on d) t
-        → beyond fieldPrefix (point s c) ≡ startAt (point s c)
-    go e (stands mv h) = both-beyond attributes visibility (point s c) e
 
 -- ## Tokens
 
@@ -80,24 +51,62 @@ ident-group s c g t k h = subst⁻¹ (λ (n : ℕ). TokenIn s n t) (ap (identRow
 pub word-at : (s : List ℕ) (t : Token) {x y : Point} → x ≡ y → TokenIn s (wordRow x) t → TokenIn s (wordRow y) t
 word-at s t e h = subst (λ (x : Point). TokenIn s (wordRow x) t) e h
 
+-- past the token that was taken at c
+pub token-past : (s : List ℕ) (c d : Cursor) (t : Token) → InList s c → LeafAt s (c .at) t → d ≡ pastOf c t →
+    CursorAt s (pastToken (point s c)) d
+token-past s c d t i l e =
+    record {
+      inList = past-in-of s c d t e i (l .token);
+      here = ap (point s) e ∙ sym (ap (tokenEnd (c .row)) (l .here));
+    }
+
+pub group-past : {s : List ℕ} {c d : Cursor} (t : Token) (r : ℕ) {b0 b1 : List ℕ} → InList s c → GroupAt s (c .at) t
+    → Moved s c d (copied r (at s (t .next) .here)) (head (at s (t .next) .outer)) b0 b1
+    → CursorAt s (pastToken (point s c)) d
+group-past {s} {c} {d} t r i g m =
+    let ins = at s (t .next) .here in
+    let n : d .row ≡ c .row + whole ins = omega (arith, m .row, length-replicate {A = ℕ} (whole ins) r) in
+    record {
+      inList = m .inList;
+      here = (λ j. record { row = n j; stream = m .here j }) ∙ sym (ap (tokenEnd (c .row)) (group-stream s c t i g));
+    }
+
+-- past a punctuation that stands at x
+pub punct-past : (b r : ℕ) (x : Point) → starts (isPunct b) (x .stream) ≡ true → beyond (punctIf b r) x ≡ pastToken x
+punct-past b r x e = go (x .stream) e
+  where
+    go : (ts : Trees) → starts (isPunct b) ts ≡ true →
+        pastTaken x (punctIf b r (x .row) ts) ≡ tokenEnd (x .row) ts
+    go end e = absurd (false≢true e)
+    go (group d ts us) e = absurd (false≢true e)
+    go (leaf q us) e =
+        let n : x .row + length (r ∷ []) ≡ x .row + 1 = omega arith in
+        ap (pastTaken x) (chosen _ _ _ e) ∙ (λ i. record { row = n i; stream = us })
+
+-- the same point, said otherwise
+pub cursor-at : {s : List ℕ} {c : Cursor} {x y : Point} → x ≡ y → CursorAt s x c → CursorAt s y c
+cursor-at {s} {c} e k = subst (λ (x : Point). CursorAt s x c) e k
+
 -- ## A parameter's name
 
-module _ (s : List ℕ) (c d : Cursor) (t : Token) (l : LeafAt s (c .at) t) where
-  name-row : {b : Bool} → marksName (rowOf s t) ≡ b → parameterNameRow (point s c) ≡ cond b (c .row + 1) (c .row)
-  name-row {b} q =
-      ap (λ (ts : Trees). cond (starts marksName ts) (c .row + 1) (c .row)) (l .here) ∙
-      ap (λ (x : Bool). cond x (c .row + 1) (c .row)) q
+module _ (s : List ℕ) (c d : Cursor) (t : Token) (i : InList s c) (l : LeafAt s (c .at) t) where
+  name-at : {b : Bool} → marksName (rowOf s t) ≡ b →
+      parameterNameAt (point s c) ≡ cond b (pastToken (point s c)) (point s c)
+  name-at {b} q =
+      ap (λ (ts : Trees). cond (starts marksName ts) (pastToken (point s c)) (point s c)) (l .here) ∙
+      ap (λ (x : Bool). cond x (pastToken (point s c)) (point s c)) q
 
-  pub after-quote : d ≡ pastOf c t → isPunct 39 (rowOf s t) ≡ true → d .row ≡ parameterNameRow (point s c)
-  after-quote e q = ap (λ (x : Cursor). x .row) e ∙ sym (name-row (ap (λ (b : Bool). b || isWord CONST (rowOf s t)) q))
+  pub after-quote : d ≡ pastOf c t → isPunct 39 (rowOf s t) ≡ true → point s d ≡ parameterNameAt (point s c)
+  after-quote e q =
+      token-past s c d t i l e .here ∙ sym (name-at (ap (λ (b : Bool). b || isWord CONST (rowOf s t)) q))
 
   pub after-const : d ≡ pastOf c t → isPunct 39 (rowOf s t) ≡ false → isWord CONST (rowOf s t) ≡ true →
-      d .row ≡ parameterNameRow (point s c)
-  after-const e q r = ap (λ (x : Cursor). x .row) e ∙ sym (name-row (λ i. q i || r i))
+      point s d ≡ parameterNameAt (point s c)
+  after-const e q r = token-past s c d t i l e .here ∙ sym (name-at (λ j. q j || r j))
 
   pub name-itself : isPunct 39 (rowOf s t) ≡ false → isWord CONST (rowOf s t) ≡ false →
-      c .row ≡ parameterNameRow (point s c)
-  name-itself q r = sym (name-row (λ i. q i || r i))
+      point s c ≡ parameterNameAt (point s c)
+  name-itself q r = sym (name-at (λ j. q j || r j))
 
 -- ## A value's literal
 
@@ -105,7 +114,7 @@ module _ (s : List ℕ) (c d : Cursor) (t : Token) (l : LeafAt s (c .at) t) wher
 data PastMinus : Took Value → Type 0 where
   negative : {v : Value} {rs : List ℕ} {us : Trees} → ((row : ℕ) → literalRow row v ≡ row + 1) →
       PastMinus (took v rs us)
-  refused : {n p : ℕ} → PastMinus (refuse n p)
+  refused : {w : Cause} {n p : ℕ} → PastMinus (stopped w n p)
 
 choice : (b : Bool) {t u : Took Value} → PastMinus t → PastMinus u → PastMinus (cond b t u)
 choice true h k = h

@@ -1,5 +1,5 @@
 -- Laws on runs, a token at a time.
-use mathlib.Core.Path.{_≡_, refl, ap, _∙_, sym, subst}
+use mathlib.Core.Path.{_≡_, refl, ap, _∙_, sym, subst, subst⁻¹}
 use mathlib.Core.Bool.{Bool, true, false, cond, _&&_, _||_}
 use mathlib.Core.List.{List, [], _∷_}
 use Prim.Native.Nat.{ℕ, _+_, _-_, _≤_}
@@ -11,10 +11,14 @@ use Rattle.token_list.specs.Stream.{Trees, end, leaf, group, head, at}
 use Rattle.token_list.specs.Contract.{InList, TokenAt, LeafAt, GroupAt, rowOf}
 use Rattle.token_list.specs.declared.check.Cursor.{Cursor}
 use Rattle.token_list.specs.declared.stream.Token.{Token}
+use Rattle.token_list.proofs.Texts.{chosen, passed-over}
 use Rattle.reading.specs.Took.{Took, took, refuse, onward}
-use Rattle.reading.specs.Reading.{Stops, Ending, atEnd, atAngle, atComma, atGroup, Verdict, belongs, ends, unopened, judge, judgePunct, judgeGroup, judged, runFrom, copied, whole}
-use Rattle.parse.specs.Contract.{Moved, stream, pastOf, Belonged}
-use Rattle.parse.proofs.Meeting.{leaf-taken, group-stream, Going, going-start}
+use Rattle.reading.specs.Reading.{Stops, stopping, Ending, atEnd, atAngle, atComma, atGroup, RunEnd, ended, Verdict, belongs, ends, unopened, judge, judgePunct, judged, runFrom, front, kept, run, copied, whole}
+use Rattle.parse.specs.Contract.{Moved, on, no, any, Meets, stands, refuses, stream, point, CursorAt, InsideAt, pastOf, Belonged, runEndOf, RunAt}
+use Rattle.parse.specs.declared.runs.Run.{Run}
+use Rattle.reading.specs.Place.{endOf}
+use Rattle.parse.proofs.Meeting.{leaf-belonged, group-belonged, group-stream, Going, going-start, meets-as}
+use Rattle.parse.proofs.Places.{meets-beyond}
 
 pub judge-of : (st : Stops) (depth : ℕ) (m : Bool) (s : List ℕ) (i : ℕ) (t : Token) → TokenAt s i t
     → judge st depth m (rowOf s t) ≡ cond (eqb (t .kind) 112) (judgePunct st depth m (t .mark)) (belongs depth false)
@@ -52,47 +56,35 @@ pub deep-after : (st : Stops) (depth e : ℕ) (m n : Bool) (r : Row) → judge s
 unfolding depthOf
 deep-after st depth e m n r q = subst (λ (v : Verdict). depthOf v ≤ depth + 1) q (deepened st depth m r)
 
-pub deep-after-group : (st : Stops) (depth e d : ℕ) (n : Bool) → judgeGroup st depth d ≡ belongs e n → e ≤ depth
-unfolding depthOf
-deep-after-group st depth e d n q =
-    subst (λ (v : Verdict). depthOf v ≤ depth) q (go (eqb depth 0 && (st .group && (eqb d 123 || eqb d 40))))
-  where
-    go : (b : Bool) → depthOf (cond b (ends atGroup) (belongs depth false)) ≤ depth
-    go true = omega arith
-    go false = omega arith
-
 -- ## One token
 
 module _ (st : Stops) (r : ℕ) (s : List ℕ) (c : Cursor) (inList : InList s c) (depth : ℕ) (m : Bool) where
-  abbrev here : Took Ending
+  abbrev here : Took RunEnd
   here = runFrom st r depth m (c .row) (stream s c)
 
-  pub turn-end : stream s c ≡ end → here ≡ took atEnd [] (stream s c)
-  turn-end e = ap (runFrom st r depth m (c .row)) e ∙ ap (took atEnd []) (sym e)
+  pub turn-end : stream s c ≡ end → here ≡ took (ended atEnd depth) [] (stream s c)
+  turn-end e = ap (runFrom st r depth m (c .row)) e ∙ ap (took (ended atEnd depth) []) (sym e)
 
   module _ (t : Token) (l : LeafAt s (c .at) t) where
     leaf-judged : (v : Verdict) → judge st depth m (rowOf s t) ≡ v
-        → here ≡ judged v (λ e n. onward (r ∷ []) (runFrom st r e n (c .row + 1) (at s (t .next) .here)))
+        → here ≡ judged depth v (λ e n. onward (r ∷ []) (runFrom st r e n (c .row + 1) (at s (t .next) .here)))
         (leaf (rowOf s t) (at s (t .next) .here)) (c .row)
     leaf-judged v q =
         ap (runFrom st r depth m (c .row)) (l .here)
-        ∙ ap (λ (x : Verdict). judged x (λ e n. onward (r ∷ []) (runFrom st r e n (c .row + 1) (at s (t .next) .here)))
+        ∙ ap (λ (x : Verdict). judged depth x (λ e n. onward (r ∷ []) (runFrom st r e n (c .row + 1) (at s (t .next) .here)))
         (leaf (rowOf s t) (at s (t .next) .here)) (c .row)) q
 
     pub turn-leaf : (d : Cursor) (b0 b1 : List ℕ) (e : ℕ) (n : Bool) → d ≡ pastOf c t → b1 ≡ set b0 (c .row) r →
         judge st depth m (rowOf s t) ≡ belongs e n
         → Belonged s c d b0 b1 here (runFrom st r e n (d .row) (stream s d))
     turn-leaf d b0 b1 e n p q v =
-        record {
-          roles = r ∷ [];
-          moved = leaf-taken (runFrom st r depth m) s c inList (λ x. Unit) t l d b0 b1 r p q;
-          some = omega arith;
-          same = leaf-judged (belongs e n) v ∙ ap (λ (y : Cursor). onward (r ∷ [])
-              (runFrom st r e n (y .row) (stream s y))) (sym p);
-        }
+        leaf-belonged (runFrom st r depth m) s c inList (λ x. Unit) t l d b0 b1 r p q (runFrom st r e n)
+        (ap (λ (x : Verdict). judged depth x
+        (λ e n. onward (r ∷ []) (runFrom st r e n (c .row + 1) (at s (t .next) .here)))
+        (leaf (rowOf s t) (at s (t .next) .here)) (c .row)) v)
 
-    pub turn-leaf-ends : (x : Ending) → judge st depth m (rowOf s t) ≡ ends x → here ≡ took x [] (stream s c)
-    turn-leaf-ends x v = leaf-judged (ends x) v ∙ ap (took x []) (sym (l .here))
+    pub turn-leaf-ends : (x : Ending) → judge st depth m (rowOf s t) ≡ ends x → here ≡ took (ended x depth) [] (stream s c)
+    turn-leaf-ends x v = leaf-judged (ends x) v ∙ ap (took (ended x depth) []) (sym (l .here))
 
     pub turn-leaf-unopened : judge st depth m (rowOf s t) ≡ unopened → here ≡ refuse 15 (c .row)
     turn-leaf-unopened v = leaf-judged unopened v
@@ -104,33 +96,16 @@ module _ (st : Stops) (r : ℕ) (s : List ℕ) (c : Cursor) (inList : InList s c
     abbrev aft : Trees
     aft = head (at s (t .next) .outer)
 
-    group-judged : (v : Verdict) → judgeGroup st depth (t .mark) ≡ v
-        → here ≡ judged v (λ e n. onward (copied r ins) (runFrom st r e n (c .row + whole ins) aft))
-        (group (t .mark) ins aft) (c .row)
-    group-judged v q =
-        ap (runFrom st r depth m (c .row)) (group-stream s c t inList g)
-        ∙ ap (λ (x : Verdict). judged x (λ e n. onward (copied r ins) (runFrom st r e n (c .row + whole ins) aft))
-        (group (t .mark) ins aft) (c .row)) q
+    pub turn-group : (d : Cursor) (b0 b1 : List ℕ) → Moved s c d (copied r ins) aft b0 b1 →
+        stopping st depth (t .mark) ≡ false → Belonged s c d b0 b1 here (runFrom st r depth false (d .row) (stream s d))
+    turn-group d b0 b1 k v =
+        group-belonged (runFrom st r depth m) (runFrom st r depth false) t r inList g k (passed-over _ _ _ v)
 
-    pub turn-group : (d : Cursor) (b0 b1 : List ℕ) (e : ℕ) (n : Bool) → Moved s c d (copied r ins) aft b0 b1 →
-        judgeGroup st depth (t .mark) ≡ belongs e n
-        → Belonged s c d b0 b1 here (runFrom st r e n (d .row) (stream s d))
-    turn-group d b0 b1 e n k v =
-        let w : length (copied r ins) ≡ whole ins = length-replicate (whole ins) r in
-        let q : c .row + whole ins ≡ d .row = omega (arith, w, k .row) in
-        record {
-          roles = copied r ins;
-          moved = record
-              { inList = k .inList; row = k .row; forth = k .forth; here = refl; outer = k .outer; roles = k .roles };
-          some = omega (arith, w);
-          same = group-judged (belongs e n) v ∙ (λ i. onward (copied r ins) (runFrom st r e n (q i) (sym (k .here) i)));
-        }
-
-    pub turn-group-ends : (x : Ending) → judgeGroup st depth (t .mark) ≡ ends x → here ≡ took x [] (stream s c)
-    turn-group-ends x v = group-judged (ends x) v ∙ ap (took x []) (sym (group-stream s c t inList g))
-
-    pub turn-group-unopened : judgeGroup st depth (t .mark) ≡ unopened → here ≡ refuse 15 (c .row)
-    turn-group-unopened v = group-judged unopened v
+    pub turn-group-ends : stopping st depth (t .mark) ≡ true → here ≡ took (ended atGroup depth) [] (stream s c)
+    turn-group-ends v =
+        let group-here = group-stream s c t inList g in
+        ap (runFrom st r depth m (c .row)) group-here ∙ chosen _ _ _ v ∙
+        ap (took (ended atGroup depth) []) (sym group-here)
 
 -- ## A whole run: it came from the cursor `from` to c
 
@@ -143,3 +118,37 @@ pub record Running (s : List ℕ) (st : Stops) (r : ℕ) (from : Cursor) (before
 pub run-start : (s : List ℕ) (st : Stops) (r : ℕ) (c : Cursor) (b : List ℕ) → InList s c →
     Running s st r c b c 0 false b
 run-start s st r c b i = record { going = going-start s c b _ i; deep = omega arith }
+
+-- the whole run, with its record
+module _ (s : List ℕ) (c : Cursor) {b0 b1 : List ℕ} (st : Stops) (role : ℕ) where
+  pub run-read : (r : Run) → InList s c → r .from ≡ c →
+      Meets s c b0 b1 (λ (v : RunEnd). runEndOf r ≡ v) (on (r .to)) (runFrom st role 0 false (c .row) (stream s c))
+      → Meets s c b0 b1 (RunAt s st role (point s c) r) (on (r .to)) (run st role (c .row) (stream s c))
+  run-read r i f w = go refl w
+    where
+      go : {t : Took RunEnd} → runFrom st role 0 false (c .row) (stream s c) ≡ t → Meets s c b0 b1 (λ (v : RunEnd). runEndOf r ≡ v) (on (r .to)) t
+          → Meets s c b0 b1 (RunAt s st role (point s c) r) (on (r .to)) (run st role (c .row) (stream s c))
+      go e (stands {rs = rs} {us = us} mv h) =
+          let tokens = front (stream s c) (length rs) in
+          let gives : run st role (c .row) (stream s c) ≡ took tokens rs us = ap (kept (stream s c)) e in
+          let plain : Meets s c b0 b1 any (on (r .to)) (run st role (c .row) (stream s c)) =
+          meets-as gives (stands mv tt) in
+          let first : CursorAt s (point s c) c = record { inList = i; here = refl } in
+          let inside : InsideAt (run st role) s c tokens =
+          record { inList = i; roles = rs; rest = us; gives = gives } in
+          meets-as gives
+          (stands mv (record {
+            from = subst⁻¹ (CursorAt s (point s c)) f first;
+            to = meets-beyond (run st role) plain;
+            ended = h ∙ sym (ap endOf e);
+            tokens = subst⁻¹ (λ (x : Cursor). InsideAt (run st role) s x tokens) f inside;
+          }))
+
+  pub run-refused : {n p : ℕ} {sh : RunEnd → Type 0} {sh2 : Trees → Type 0} → Meets s c b0 b1 sh (no n p)
+      (runFrom st role 0 false (c .row) (stream s c))
+      → Meets s c b0 b1 sh2 (no n p) (run st role (c .row) (stream s c))
+  run-refused {n} {p} {sh} {sh2} w = go refl w
+    where
+      go : {t : Took RunEnd} → runFrom st role 0 false (c .row) (stream s c) ≡ t → Meets s c b0 b1 sh (no n p) t
+          → Meets s c b0 b1 sh2 (no n p) (run st role (c .row) (stream s c))
+      go e (refuses qs q) = meets-as (ap (kept (stream s c)) e) (refuses qs q)

@@ -10,69 +10,80 @@ use token_list::check::Cursor;
 use token_list::check::END;
 use token_list::check::Refusal;
 use token_list::stream::Peeked;
+use token_list::stream::Token;
 use token_list::stream::peek;
 ghost use Rattle.token_list.specs.Contract.{InList};
 ghost use Rattle.reading.specs.Reading.{attributes};
 ghost use Rattle.parse.specs.Contract.{Meets, any, stream, stepSaid, AttributeRead};
 
+// An attribute: its group's opening row, and the cursor after it.
+pub struct AttributeAt {
+    pub group: Token,
+    pub next: Cursor,
+}
+
 // One `#`: an attribute or an idle mark was taken, none stands here, or a refusal.
-pub enum Marked {
-    On(Cursor),
+pub enum AttributeStep {
+    One(AttributeAt),
+    Idle(Cursor),
     Done,
     Refused(Refusal),
 }
 
 // One `#` with its group, or an idle one.
-fn attribute(s: &[u8], c: Cursor, roles: &mut [u8]) -> Marked
+pub fn attribute(s: &[u8], c: Cursor, roles: &mut [u8]) -> AttributeStep
     requires { ⌜ InList (now s) c ⌝ }
     ensures { λ r. ⌜ AttributeRead (now (s .entry)) c (now (roles .entry)) (now (roles .exit)) r ⌝ }
 {
     if !stands_punct(s, c, b'#') {
-        return Marked::Done;
+        return AttributeStep::Done;
     }
     marked_attribute(s, c, roles)
 }
 
 // The same by the tokens themselves, where a look has found a `#`.
-fn marked_attribute(s: &[u8], c: Cursor, roles: &mut [u8]) -> Marked
+fn marked_attribute(s: &[u8], c: Cursor, roles: &mut [u8]) -> AttributeStep
     requires { ⌜ InList (now s) c ⌝ }
     ensures { λ r. ⌜ AttributeRead (now (s .entry)) c (now (roles .entry)) (now (roles .exit)) r ⌝ }
 {
     let row = c.row;
     match peek(s, c) {
-        Peeked::Nothing => Marked::Done,
-        Peeked::Group(_) => Marked::Done,
+        Peeked::Nothing => AttributeStep::Done,
+        Peeked::Group(_) => AttributeStep::Done,
         Peeked::Leaf(t) => {
             if !is_punct(t, b'#') {
-                return Marked::Done;
+                return AttributeStep::Done;
             }
             let next = past(s, c, t);
             let below = next.row;
             match peek(s, next) {
-                Peeked::Nothing => Marked::Refused(Refusal {
+                Peeked::Nothing => AttributeStep::Refused(Refusal {
                     number: 13,
                     place: END,
                 }),
                 Peeked::Leaf(q) => {
                     if !is_punct(q, b'#') {
-                        return Marked::Refused(Refusal {
+                        return AttributeStep::Refused(Refusal {
                             number: 13,
                             place: below,
                         });
                     }
                     mark(roles, row, role::IDLE_MARK);
-                    Marked::On(next)
+                    AttributeStep::Idle(next)
                 }
                 Peeked::Group(g) => {
                     if g.mark != b'[' {
-                        return Marked::Refused(Refusal {
+                        return AttributeStep::Refused(Refusal {
                             number: 12,
                             place: below,
                         });
                     }
                     mark(roles, row, role::ATTRIBUTE_MARK);
                     let after = take_group(s, next, g, roles, role::ATTRIBUTE_GROUP);
-                    Marked::On(after)
+                    AttributeStep::One(AttributeAt {
+                        group: g,
+                        next: after,
+                    })
                 }
             }
         }
@@ -88,13 +99,16 @@ pub fn try_take(s: &[u8], from: Cursor, roles: &mut [u8]) -> Step
     let mut c = from;
     loop {
         match attribute(s, c, roles) {
-            Marked::On(next) => {
+            AttributeStep::One(a) => {
+                c = a.next;
+            }
+            AttributeStep::Idle(next) => {
                 c = next;
             }
-            Marked::Done => {
+            AttributeStep::Done => {
                 return Step::At(c);
             }
-            Marked::Refused(r) => {
+            AttributeStep::Refused(r) => {
                 return Step::Refused(r);
             }
         }

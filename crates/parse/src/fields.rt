@@ -1,16 +1,17 @@
 // Fields (virtue's parse/body.rs: UnnamedField and what reads it).
-use crate::attributes;
-use crate::generics::Counted;
+use crate::generics::CountStep;
+use crate::prefix::PrefixAt;
+use crate::prefix::PrefixStep;
+use crate::prefix::take_prefix;
 use crate::role;
-use crate::runs::Ran;
+use crate::runs::Run;
+use crate::runs::RunStep;
 use crate::runs::Stops;
 use crate::runs::read_tokens_until_punct;
-use crate::utils::Step;
 use crate::utils::consume_punct_if;
 use crate::utils::mark;
 use crate::utils::take_token;
 use crate::utils::wrong_token;
-use crate::visibility;
 use token_list::check::Cursor;
 use token_list::check::Refusal;
 use token_list::stream::Peeked;
@@ -26,44 +27,51 @@ ghost use lib.ListN.{set};
 ghost use Rattle.token_list.specs.Stream.{at, follows};
 ghost use Rattle.token_list.specs.Contract.{InList, GroupAt, Skipped};
 ghost use Rattle.reading.specs.Role.{delimiter};
+ghost use Rattle.reading.specs.Place.{pastToken};
 ghost use Rattle.reading.specs.Reading.{every, fieldAfter, namedField, tupleType, tupleField};
-ghost use Rattle.parse.specs.Contract.{Meets, any, stream, stepSaid, fieldPrefix, fieldType, FieldNamed, fieldShown, fieldSaid, typeShown, typeSaid, countShown, countSaid, Inside};
+ghost use Rattle.parse.specs.Contract.{Meets, stream, point, Prefix, fieldType, typeAtShown, typeSaid, NamedAt, fieldShown, fieldSaid, unnamedShown, unnamedSaid, countShown, countSaid, Inside};
 
-// Where a named field's name stands, and the cursor after the field.
-pub struct FieldAt {
-    pub name: Token,
+// A type: its run, and the cursor after the `,` that may follow.
+pub struct TypeAt {
+    pub run: Run,
     pub next: Cursor,
 }
 
+pub enum TypeStep {
+    At(TypeAt),
+    Refused(Refusal),
+}
+
+// Where a field's attributes, visibility and type stand, and the cursor after the field.
+pub struct UnnamedFieldAt {
+    pub prefix: PrefixAt,
+    pub run: Run,
+    pub next: Cursor,
+}
+
+pub struct FieldAt {
+    pub name: Token,
+    pub field: UnnamedFieldAt,
+}
+
+// A named field; the end, after attributes and visibility that belong to none; or a refusal.
 pub enum FieldStep {
     One(FieldAt),
-    Done(Cursor),
+    Done(PrefixAt),
     Refused(Refusal),
 }
 
-// A field without a name: the cursor after it.
-pub enum TypeStep {
-    One(Cursor),
+pub enum UnnamedFieldStep {
+    One(UnnamedFieldAt),
     Done(Cursor),
     Refused(Refusal),
-}
-
-// Attributes and visibility, which stand before a field.
-fn field_start(s: &[u8], c: Cursor, roles: &mut [u8]) -> Step
-    requires { ⌜ InList (now s) c ⌝ }
-    ensures { λ r. ⌜ Meets (now (s .entry)) c (now (roles .entry)) (now (roles .exit)) any (stepSaid r)
-        (fieldPrefix (c .row) (stream (now (s .entry)) c)) ⌝ }
-{
-    match attributes::try_take(s, c, roles) {
-        Step::Refused(r) => Step::Refused(r),
-        Step::At(d) => Step::At(visibility::try_take(s, d, roles)),
-    }
 }
 
 // A type's run and the `,` that may follow.
-fn field_type(s: &[u8], c: Cursor, roles: &mut [u8]) -> Step
+fn field_type(s: &[u8], c: Cursor, roles: &mut [u8]) -> TypeStep
     requires { ⌜ InList (now s) c ⌝ }
-    ensures { λ r. ⌜ Meets (now (s .entry)) c (now (roles .entry)) (now (roles .exit)) any (stepSaid r)
+    ensures { λ r. ⌜ Meets (now (s .entry)) c (now (roles .entry)) (now (roles .exit))
+        (typeAtShown (now (s .entry)) (point (now (s .entry)) c) r) (typeSaid r)
         (fieldType (c .row) (stream (now (s .entry)) c)) ⌝ }
 {
     match read_tokens_until_punct(
@@ -77,25 +85,27 @@ fn field_type(s: &[u8], c: Cursor, roles: &mut [u8]) -> Step
         },
         role::TYPE,
     ) {
-        Ran::Refused(r) => Step::Refused(r),
-        Ran::At(d, _) => {
-            let p = consume_punct_if(s, d, roles, b',', role::SEPARATOR);
+        RunStep::Refused(r) => TypeStep::Refused(r),
+        RunStep::At(run) => {
+            let to = run.to;
+            let p = consume_punct_if(s, to, roles, b',', role::SEPARATOR);
             let next = p.next;
-            Step::At(next)
+            TypeStep::At(TypeAt { run, next })
         }
     }
 }
 
 // `:` and a type.
-fn field_after(s: &[u8], c: Cursor, roles: &mut [u8]) -> Step
+fn field_after(s: &[u8], c: Cursor, roles: &mut [u8]) -> TypeStep
     requires { ⌜ InList (now s) c ⌝ }
-    ensures { λ r. ⌜ ((n : List ℕ) → Meets (now (s .entry)) c (now (roles .entry)) (now (roles .exit)) (FieldNamed n)
-        (stepSaid r) (fieldAfter n (c .row) (stream (now (s .entry)) c))) ⌝ }
+    ensures { λ r. ⌜ ((p : Prefix) (n : List ℕ) → Meets (now (s .entry)) c (now (roles .entry)) (now (roles .exit))
+        (NamedAt (now (s .entry)) (pastToken (point (now (s .entry)) c)) p n r) (typeSaid r)
+        (fieldAfter (p .attributes) (p .visibility) n (c .row) (stream (now (s .entry)) c))) ⌝ }
 {
     let p = consume_punct_if(s, c, roles, b':', role::SEPARATOR);
     let next = p.next;
     if !p.taken {
-        return Step::Refused(wrong_token(s, next, 23));
+        return TypeStep::Refused(wrong_token(s, next, 23));
     }
     field_type(s, next, roles)
 }
@@ -103,15 +113,17 @@ fn field_after(s: &[u8], c: Cursor, roles: &mut [u8]) -> Step
 // One named field, or the end.
 pub fn named_field(s: &[u8], c: Cursor, roles: &mut [u8]) -> FieldStep
     requires { ⌜ InList (now s) c ⌝ }
-    ensures { λ r. ⌜ Meets (now (s .entry)) c (now (roles .entry)) (now (roles .exit)) (fieldShown (now (s .entry)) c r)
-        (fieldSaid r) (namedField (c .row) (stream (now (s .entry)) c)) ⌝ }
+    ensures { λ r. ⌜ Meets (now (s .entry)) c (now (roles .entry)) (now (roles .exit))
+        (fieldShown (now (s .entry)) (point (now (s .entry)) c) r) (fieldSaid r)
+        (namedField (c .row) (stream (now (s .entry)) c)) ⌝ }
 {
-    match field_start(s, c, roles) {
-        Step::Refused(r) => FieldStep::Refused(r),
-        Step::At(d) => {
+    match take_prefix(s, c, roles) {
+        PrefixStep::Refused(r) => FieldStep::Refused(r),
+        PrefixStep::At(prefix) => {
+            let d = prefix.next;
             let row = d.row;
             match peek(s, d) {
-                Peeked::Nothing => FieldStep::Done(d),
+                Peeked::Nothing => FieldStep::Done(prefix),
                 Peeked::Group(_) => FieldStep::Refused(Refusal {
                     number: 22,
                     place: row,
@@ -123,10 +135,15 @@ pub fn named_field(s: &[u8], c: Cursor, roles: &mut [u8]) -> FieldStep
                             place: row,
                         });
                     }
-                    let next = take_token(s, d, t, roles, role::FIELD_NAME);
-                    match field_after(s, next, roles) {
-                        Step::Refused(r) => FieldStep::Refused(r),
-                        Step::At(e) => FieldStep::One(FieldAt { name: t, next: e }),
+                    let after = take_token(s, d, t, roles, role::FIELD_NAME);
+                    match field_after(s, after, roles) {
+                        TypeStep::Refused(r) => FieldStep::Refused(r),
+                        TypeStep::At(typed) => {
+                            let run = typed.run;
+                            let next = typed.next;
+                            let field = UnnamedFieldAt { prefix, run, next };
+                            FieldStep::One(FieldAt { name: t, field })
+                        }
                     }
                 }
             }
@@ -135,34 +152,43 @@ pub fn named_field(s: &[u8], c: Cursor, roles: &mut [u8]) -> FieldStep
 }
 
 // One field without a name, or the end.
-pub fn tuple_field(s: &[u8], c: Cursor, roles: &mut [u8]) -> TypeStep
+pub fn tuple_field(s: &[u8], c: Cursor, roles: &mut [u8]) -> UnnamedFieldStep
     requires { ⌜ InList (now s) c ⌝ }
-    ensures { λ r. ⌜ Meets (now (s .entry)) c (now (roles .entry)) (now (roles .exit)) (typeShown r) (typeSaid r)
+    ensures { λ r. ⌜ Meets (now (s .entry)) c (now (roles .entry)) (now (roles .exit))
+        (unnamedShown (now (s .entry)) (point (now (s .entry)) c) r) (unnamedSaid r)
         (tupleField (c .row) (stream (now (s .entry)) c)) ⌝ }
 {
     let l = look(s, c);
     if l.kind == 0 {
-        return TypeStep::Done(c);
+        return UnnamedFieldStep::Done(c);
     }
     tuple_type(s, c, roles)
 }
 
-fn tuple_type(s: &[u8], c: Cursor, roles: &mut [u8]) -> TypeStep
+fn tuple_type(s: &[u8], c: Cursor, roles: &mut [u8]) -> UnnamedFieldStep
     requires { ⌜ InList (now s) c ⌝ }
-    ensures { λ r. ⌜ Meets (now (s .entry)) c (now (roles .entry)) (now (roles .exit)) (typeShown r) (typeSaid r)
+    ensures { λ r. ⌜ Meets (now (s .entry)) c (now (roles .entry)) (now (roles .exit))
+        (unnamedShown (now (s .entry)) (point (now (s .entry)) c) r) (unnamedSaid r)
         (tupleType (c .row) (stream (now (s .entry)) c)) ⌝ }
 {
-    match field_start(s, c, roles) {
-        Step::Refused(r) => TypeStep::Refused(r),
-        Step::At(d) => match field_type(s, d, roles) {
-            Step::Refused(r) => TypeStep::Refused(r),
-            Step::At(e) => TypeStep::One(e),
-        },
+    match take_prefix(s, c, roles) {
+        PrefixStep::Refused(r) => UnnamedFieldStep::Refused(r),
+        PrefixStep::At(prefix) => {
+            let d = prefix.next;
+            match field_type(s, d, roles) {
+                TypeStep::Refused(r) => UnnamedFieldStep::Refused(r),
+                TypeStep::At(typed) => {
+                    let run = typed.run;
+                    let next = typed.next;
+                    UnnamedFieldStep::One(UnnamedFieldAt { prefix, run, next })
+                }
+            }
+        }
     }
 }
 
 // virtue's UnnamedField::parse_with_name
-fn parse_with_name(s: &[u8], from: Cursor, roles: &mut [u8]) -> Counted
+fn parse_with_name(s: &[u8], from: Cursor, roles: &mut [u8]) -> CountStep
     requires { ⌜ InList (now s) from ⌝ }
     ensures { λ r. ⌜ Meets (now (s .entry)) from (now (roles .entry)) (now (roles .exit)) (countShown r) (countSaid r)
         (every namedField (from .row) (stream (now (s .entry)) from)) ⌝ }
@@ -172,21 +198,23 @@ fn parse_with_name(s: &[u8], from: Cursor, roles: &mut [u8]) -> Counted
     loop {
         match named_field(s, c, roles) {
             FieldStep::One(f) => {
-                c = f.next;
+                let field = f.field;
+                c = field.next;
                 count += 1;
             }
-            FieldStep::Done(d) => {
-                return Counted::At(d, count);
+            FieldStep::Done(p) => {
+                let end = p.next;
+                return CountStep::At(end, count);
             }
             FieldStep::Refused(r) => {
-                return Counted::Refused(r);
+                return CountStep::Refused(r);
             }
         }
     }
 }
 
 // virtue's UnnamedField::parse
-fn parse(s: &[u8], from: Cursor, roles: &mut [u8]) -> Counted
+fn parse(s: &[u8], from: Cursor, roles: &mut [u8]) -> CountStep
     requires { ⌜ InList (now s) from ⌝ }
     ensures { λ r. ⌜ Meets (now (s .entry)) from (now (roles .entry)) (now (roles .exit)) (countShown r) (countSaid r)
         (every tupleField (from .row) (stream (now (s .entry)) from)) ⌝ }
@@ -195,15 +223,15 @@ fn parse(s: &[u8], from: Cursor, roles: &mut [u8]) -> Counted
     let mut count = 0;
     loop {
         match tuple_field(s, c, roles) {
-            TypeStep::One(d) => {
-                c = d;
+            UnnamedFieldStep::One(f) => {
+                c = f.next;
                 count += 1;
             }
-            TypeStep::Done(d) => {
-                return Counted::At(d, count);
+            UnnamedFieldStep::Done(d) => {
+                return CountStep::At(d, count);
             }
-            TypeStep::Refused(r) => {
-                return Counted::Refused(r);
+            UnnamedFieldStep::Refused(r) => {
+                return CountStep::Refused(r);
             }
         }
     }
@@ -222,7 +250,7 @@ pub fn close_group(s: &[u8], c: Cursor, roles: &mut [u8]) -> Cursor
 }
 
 // The group of named fields that opens at c, with its delimiters.
-pub fn named_group(s: &[u8], c: Cursor, t: Token, roles: &mut [u8]) -> Counted
+pub fn named_group(s: &[u8], c: Cursor, t: Token, roles: &mut [u8]) -> CountStep
     requires { ⌜ InList (now s) c ⌝ }
     requires { ⌜ GroupAt (now s) (c .at) t ⌝ }
     ensures { λ r. ⌜ Meets (now (s .entry)) c (now (roles .entry)) (now (roles .exit)) (countShown r) (countSaid r)
@@ -230,16 +258,16 @@ pub fn named_group(s: &[u8], c: Cursor, t: Token, roles: &mut [u8]) -> Counted
 {
     let inside = take_token(s, c, t, roles, role::DELIMITER);
     match parse_with_name(s, inside, roles) {
-        Counted::Refused(r) => Counted::Refused(r),
-        Counted::At(d, count) => {
+        CountStep::Refused(r) => CountStep::Refused(r),
+        CountStep::At(d, count) => {
             let after = close_group(s, d, roles);
-            Counted::At(after, count)
+            CountStep::At(after, count)
         }
     }
 }
 
 // The group of fields without names that opens at c, with its delimiters.
-pub fn tuple_group(s: &[u8], c: Cursor, t: Token, roles: &mut [u8]) -> Counted
+pub fn tuple_group(s: &[u8], c: Cursor, t: Token, roles: &mut [u8]) -> CountStep
     requires { ⌜ InList (now s) c ⌝ }
     requires { ⌜ GroupAt (now s) (c .at) t ⌝ }
     ensures { λ r. ⌜ Meets (now (s .entry)) c (now (roles .entry)) (now (roles .exit)) (countShown r) (countSaid r)
@@ -247,10 +275,10 @@ pub fn tuple_group(s: &[u8], c: Cursor, t: Token, roles: &mut [u8]) -> Counted
 {
     let inside = take_token(s, c, t, roles, role::DELIMITER);
     match parse(s, inside, roles) {
-        Counted::Refused(r) => Counted::Refused(r),
-        Counted::At(d, count) => {
+        CountStep::Refused(r) => CountStep::Refused(r),
+        CountStep::At(d, count) => {
             let after = close_group(s, d, roles);
-            Counted::At(after, count)
+            CountStep::At(after, count)
         }
     }
 }

@@ -1,13 +1,14 @@
 // Generics and the where clause (virtue's parse/generics.rs, its readers).
 use crate::role;
-use crate::runs::Ran;
+use crate::runs::Run;
+use crate::runs::RunStep;
 use crate::runs::Stops;
 use crate::runs::read_tokens_until_punct;
 use crate::utils::NameStep;
-use crate::utils::Step;
 use crate::utils::consume_punct_if;
 use crate::utils::ident_eq;
 use crate::utils::is_punct;
+use crate::utils::stands_punct;
 use crate::utils::take_token;
 use token_list::check::Cursor;
 use token_list::check::END;
@@ -15,19 +16,46 @@ use token_list::check::Refusal;
 use token_list::stream::Peeked;
 use token_list::stream::Token;
 use token_list::stream::peek;
+ghost use mathlib.Core.Path.{_≡_};
 ghost use mathlib.Core.List.{List};
 ghost use Prim.Native.Nat.{ℕ};
+ghost use Rattle.token_list.specs.Byte.{COLON};
 ghost use Rattle.token_list.specs.Contract.{InList};
-ghost use Rattle.reading.specs.Role.{bound};
 ghost use Rattle.reading.specs.Declaration.{Parameter};
-ghost use Rattle.reading.specs.Reading.{run, parameterStops, parameterName, marked-run, typeAfter, comma, parameter, every, generics, clause};
-ghost use Rattle.reading.specs.Place.{parameterNameRow};
-ghost use Rattle.parse.specs.Contract.{Meets, any, stream, point, TokenIn, TextOf, stepSaid, nameShown, nameSaid, ParameterOf, TypeNamed, parameterShown, parameterSaid, namedParameter, afterQuote, afterConst, afterName, countShown, countSaid, genericsShown};
+ghost use Rattle.reading.specs.Took.{Point};
+ghost use Rattle.reading.specs.Reading.{parameterName, marked-run, typeAfter, comma, parameter, every, generics, clause};
+ghost use Rattle.reading.specs.Place.{pastToken, parameterNameAt};
+ghost use Rattle.parse.specs.Contract.{isLifetime, Meets, stream, point, TokenIn, TextOf, nameShown, nameSaid, markedRunShown, markedRunSaid, boundShown, parameterRunSaid, boundOf, defaultOf, ParameterRunAt, ParameterOf, typeShown, parameterShown, parameterSaid, namedParameter, afterQuote, afterConst, afterName, countShown, countSaid, genericsShown, clauseShown, clauseSaid};
 
-// Where a parameter's name stands, and the cursor after the parameter.
+pub enum ParameterKind {
+    Lifetime,
+    Const,
+    Type,
+}
+
+// virtue's Generic::is_lifetime
+pub fn is_lifetime(kind: ParameterKind) -> bool
+    ensures { λ r. ⌜ r ≡ isLifetime kind ⌝ }
+{
+    match kind {
+        ParameterKind::Lifetime => true,
+        ParameterKind::Const => false,
+        ParameterKind::Type => false,
+    }
+}
+
+// A parameter's run: none, that of a bound or a const's type after `:`, or that of a default after `=`.
+pub enum ParameterRun {
+    Absent,
+    Bound(Run),
+    Default(Run),
+}
+
+// Where a parameter's name and run stand, and the cursor after the parameter.
 pub struct ParameterAt {
-    pub lifetime: bool,
+    pub kind: ParameterKind,
     pub name: Token,
+    pub run: ParameterRun,
     pub next: Cursor,
 }
 
@@ -38,9 +66,33 @@ pub enum ParameterStep {
     Refused(Refusal),
 }
 
+// No mark, or the run after it.
+pub enum MarkedRunStep {
+    Absent,
+    At(Run),
+    Refused(Refusal),
+}
+
+// A parameter's run, and the cursor after it.
+pub enum ParameterRunStep {
+    At(ParameterRun, Cursor),
+    Refused(Refusal),
+}
+
 // Where a list of things ended, and how many there were.
-pub enum Counted {
+pub enum CountStep {
     At(Cursor, usize),
+    Refused(Refusal),
+}
+
+// No where clause, or its run.
+pub enum ClauseAt {
+    Absent,
+    Where(Run),
+}
+
+pub enum ClauseStep {
+    At(ClauseAt, Cursor),
     Refused(Refusal),
 }
 
@@ -48,7 +100,7 @@ pub enum Counted {
 fn parameter_name(s: &[u8], c: Cursor, roles: &mut [u8], number: u8, or: usize) -> NameStep
     requires { ⌜ InList (now s) c ⌝ }
     ensures { λ r. ⌜ Meets (now (s .entry)) c (now (roles .entry)) (now (roles .exit))
-        (nameShown (now (s .entry)) (c .row) r) (nameSaid r)
+        (nameShown (now (s .entry)) (point (now (s .entry)) c) r) (nameSaid r)
         (parameterName number or (c .row) (stream (now (s .entry)) c)) ⌝ }
 {
     let row = c.row;
@@ -65,15 +117,21 @@ fn parameter_name(s: &[u8], c: Cursor, roles: &mut [u8], number: u8, or: usize) 
     }
 }
 
-// A bound's, a default's or a const type's run.
-fn parameter_run(s: &[u8], c: Cursor, roles: &mut [u8]) -> Step
+// `punct` and a bound's, a default's or a const type's run, where it stands.
+fn marked_run(s: &[u8], c: Cursor, roles: &mut [u8], punct: u8) -> MarkedRunStep
     requires { ⌜ InList (now s) c ⌝ }
-    ensures { λ r. ⌜ Meets (now (s .entry)) c (now (roles .entry)) (now (roles .exit)) any (stepSaid r)
-        (run parameterStops bound (c .row) (stream (now (s .entry)) c)) ⌝ }
+    ensures { λ r. ⌜ Meets (now (s .entry)) c (now (roles .entry)) (now (roles .exit))
+        (markedRunShown (now (s .entry)) punct (point (now (s .entry)) c) r) (markedRunSaid c r)
+        (marked-run punct (c .row) (stream (now (s .entry)) c)) ⌝ }
 {
+    let p = consume_punct_if(s, c, roles, punct, role::SEPARATOR);
+    if !p.taken {
+        return MarkedRunStep::Absent;
+    }
+    let next = p.next;
     match read_tokens_until_punct(
         s,
-        c,
+        next,
         roles,
         Stops {
             comma: true,
@@ -82,37 +140,50 @@ fn parameter_run(s: &[u8], c: Cursor, roles: &mut [u8]) -> Step
         },
         role::BOUND,
     ) {
-        Ran::At(d, _) => Step::At(d),
-        Ran::Refused(r) => Step::Refused(r),
+        RunStep::At(r) => MarkedRunStep::At(r),
+        RunStep::Refused(r) => MarkedRunStep::Refused(r),
     }
 }
 
-// `punct` and its run, where it stands.
-fn marked_run(s: &[u8], c: Cursor, roles: &mut [u8], punct: u8) -> Step
+// The bound or const type that may follow a parameter's name.
+fn bounds(s: &[u8], c: Cursor, roles: &mut [u8]) -> ParameterRunStep
     requires { ⌜ InList (now s) c ⌝ }
-    ensures { λ r. ⌜ Meets (now (s .entry)) c (now (roles .entry)) (now (roles .exit)) any (stepSaid r)
-        (marked-run punct (c .row) (stream (now (s .entry)) c)) ⌝ }
+    ensures { λ r. ⌜ Meets (now (s .entry)) c (now (roles .entry)) (now (roles .exit))
+        (boundShown (now (s .entry)) (point (now (s .entry)) c) r) (parameterRunSaid r)
+        (marked-run COLON (c .row) (stream (now (s .entry)) c)) ⌝ }
 {
-    let p = consume_punct_if(s, c, roles, punct, role::SEPARATOR);
-    let next = p.next;
-    if p.taken {
-        return parameter_run(s, next, roles);
+    match marked_run(s, c, roles, b':') {
+        MarkedRunStep::Refused(r) => ParameterRunStep::Refused(r),
+        MarkedRunStep::Absent => ParameterRunStep::At(ParameterRun::Absent, c),
+        MarkedRunStep::At(r) => {
+            let to = r.to;
+            ParameterRunStep::At(ParameterRun::Bound(r), to)
+        }
     }
-    Step::At(next)
 }
 
-// A parameter is finished by the `,` that may follow.
-fn finished(s: &[u8], c: Cursor, roles: &mut [u8], lifetime: bool, name: Token) -> ParameterStep
+// A parameter ends with the `,` that may follow.
+fn parameter_end(
+    s: &[u8],
+    c: Cursor,
+    roles: &mut [u8],
+    kind: ParameterKind,
+    name: Token,
+    run: ParameterRun,
+) -> ParameterStep
     requires { ⌜ InList (now s) c ⌝ }
-    ensures { λ r. ⌜ ((a : Parameter) (row : ℕ) → ParameterOf (now (s .entry)) lifetime name a →
-        TokenIn (now (s .entry)) row name → Meets (now (s .entry)) c (now (roles .entry)) (now (roles .exit))
-        (parameterShown (now (s .entry)) row r) (parameterSaid r) (comma a (c .row) (stream (now (s .entry)) c))) ⌝ }
+    ensures { λ r. ⌜ ((a : Parameter) (x : Point) → ParameterOf (now (s .entry)) kind name a →
+        TokenIn (now (s .entry)) (x .row) name →
+        ParameterRunAt (now (s .entry)) (pastToken x) (boundOf a) (defaultOf a) run →
+        Meets (now (s .entry)) c (now (roles .entry)) (now (roles .exit)) (parameterShown (now (s .entry)) x r)
+        (parameterSaid r) (comma a (c .row) (stream (now (s .entry)) c))) ⌝ }
 {
     let p = consume_punct_if(s, c, roles, b',', role::SEPARATOR);
     let next = p.next;
     ParameterStep::One(ParameterAt {
-        lifetime,
+        kind,
         name,
+        run,
         next,
     })
 }
@@ -124,18 +195,18 @@ fn named_parameter(
     roles: &mut [u8],
     number: u8,
     or: usize,
-    lifetime: bool,
+    kind: ParameterKind,
 ) -> ParameterStep
     requires { ⌜ InList (now s) c ⌝ }
     ensures { λ r. ⌜ Meets (now (s .entry)) c (now (roles .entry)) (now (roles .exit))
-        (parameterShown (now (s .entry)) (c .row) r) (parameterSaid r)
-        (namedParameter number or lifetime (c .row) (stream (now (s .entry)) c)) ⌝ }
+        (parameterShown (now (s .entry)) (point (now (s .entry)) c) r) (parameterSaid r)
+        (namedParameter number or kind (c .row) (stream (now (s .entry)) c)) ⌝ }
 {
     match parameter_name(s, c, roles, number, or) {
         NameStep::Refused(r) => ParameterStep::Refused(r),
-        NameStep::At(name, d) => match marked_run(s, d, roles, b':') {
-            Step::Refused(r) => ParameterStep::Refused(r),
-            Step::At(e) => finished(s, e, roles, lifetime, name),
+        NameStep::At(name, d) => match bounds(s, d, roles) {
+            ParameterRunStep::Refused(r) => ParameterStep::Refused(r),
+            ParameterRunStep::At(run, e) => parameter_end(s, e, roles, kind, name, run),
         },
     }
 }
@@ -144,46 +215,55 @@ fn named_parameter(
 fn lifetime(s: &[u8], c: Cursor, roles: &mut [u8], quote: usize) -> ParameterStep
     requires { ⌜ InList (now s) c ⌝ }
     ensures { λ r. ⌜ Meets (now (s .entry)) c (now (roles .entry)) (now (roles .exit))
-        (parameterShown (now (s .entry)) (c .row) r) (parameterSaid r)
+        (parameterShown (now (s .entry)) (point (now (s .entry)) c) r) (parameterSaid r)
         (afterQuote quote (c .row) (stream (now (s .entry)) c)) ⌝ }
 {
-    named_parameter(s, c, roles, 24, quote, true)
+    named_parameter(s, c, roles, 24, quote, ParameterKind::Lifetime)
 }
 
 // virtue's ConstGeneric::take, after `const`.
 fn const_generic(s: &[u8], c: Cursor, roles: &mut [u8]) -> ParameterStep
     requires { ⌜ InList (now s) c ⌝ }
     ensures { λ r. ⌜ Meets (now (s .entry)) c (now (roles .entry)) (now (roles .exit))
-        (parameterShown (now (s .entry)) (c .row) r) (parameterSaid r)
+        (parameterShown (now (s .entry)) (point (now (s .entry)) c) r) (parameterSaid r)
         (afterConst (c .row) (stream (now (s .entry)) c)) ⌝ }
 {
-    named_parameter(s, c, roles, 27, END, false)
+    named_parameter(s, c, roles, 27, END, ParameterKind::Const)
 }
 
 // `:` and bounds, or `=` and a default.
-fn type_runs(s: &[u8], c: Cursor, roles: &mut [u8]) -> Step
+fn bounds_or_default(s: &[u8], c: Cursor, roles: &mut [u8]) -> ParameterRunStep
     requires { ⌜ InList (now s) c ⌝ }
-    ensures { λ r. ⌜ ((n : List ℕ) → Meets (now (s .entry)) c (now (roles .entry)) (now (roles .exit)) (TypeNamed n)
-        (stepSaid r) (typeAfter n (c .row) (stream (now (s .entry)) c))) ⌝ }
+    ensures { λ r. ⌜ ((n : List ℕ) → Meets (now (s .entry)) c (now (roles .entry)) (now (roles .exit))
+        (typeShown (now (s .entry)) (point (now (s .entry)) c) n r) (parameterRunSaid r)
+        (typeAfter n (c .row) (stream (now (s .entry)) c))) ⌝ }
 {
-    let p = consume_punct_if(s, c, roles, b':', role::SEPARATOR);
-    let next = p.next;
-    if p.taken {
-        return parameter_run(s, next, roles);
+    if stands_punct(s, c, b':') {
+        return bounds(s, c, roles);
     }
-    marked_run(s, next, roles, b'=')
+    match marked_run(s, c, roles, b'=') {
+        MarkedRunStep::Refused(r) => ParameterRunStep::Refused(r),
+        MarkedRunStep::Absent => ParameterRunStep::At(ParameterRun::Absent, c),
+        MarkedRunStep::At(r) => {
+            let to = r.to;
+            ParameterRunStep::At(ParameterRun::Default(r), to)
+        }
+    }
 }
 
 // virtue's SimpleGeneric::take, after its name.
 fn simple_generic(s: &[u8], c: Cursor, roles: &mut [u8], name: Token) -> ParameterStep
     requires { ⌜ InList (now s) c ⌝ }
-    ensures { λ r. ⌜ ((n : List ℕ) (row : ℕ) → TextOf (now (s .entry)) name n → TokenIn (now (s .entry)) row name →
-        Meets (now (s .entry)) c (now (roles .entry)) (now (roles .exit)) (parameterShown (now (s .entry)) row r)
+    ensures { λ r. ⌜ ((n : List ℕ) (x : Point) → TextOf (now (s .entry)) name n →
+        TokenIn (now (s .entry)) (x .row) name → point (now (s .entry)) c ≡ pastToken x →
+        Meets (now (s .entry)) c (now (roles .entry)) (now (roles .exit)) (parameterShown (now (s .entry)) x r)
         (parameterSaid r) (afterName n (c .row) (stream (now (s .entry)) c))) ⌝ }
 {
-    match type_runs(s, c, roles) {
-        Step::Refused(r) => ParameterStep::Refused(r),
-        Step::At(d) => finished(s, d, roles, false, name),
+    match bounds_or_default(s, c, roles) {
+        ParameterRunStep::Refused(r) => ParameterStep::Refused(r),
+        ParameterRunStep::At(run, d) => {
+            parameter_end(s, d, roles, ParameterKind::Type, name, run)
+        }
     }
 }
 
@@ -191,7 +271,7 @@ fn simple_generic(s: &[u8], c: Cursor, roles: &mut [u8], name: Token) -> Paramet
 pub fn parameter(s: &[u8], c: Cursor, roles: &mut [u8], angle: usize) -> ParameterStep
     requires { ⌜ InList (now s) c ⌝ }
     ensures { λ r. ⌜ Meets (now (s .entry)) c (now (roles .entry)) (now (roles .exit))
-        (parameterShown (now (s .entry)) (parameterNameRow (point (now (s .entry)) c)) r) (parameterSaid r)
+        (parameterShown (now (s .entry)) (parameterNameAt (point (now (s .entry)) c)) r) (parameterSaid r)
         (parameter angle (c .row) (stream (now (s .entry)) c)) ⌝ }
 {
     let row = c.row;
@@ -229,7 +309,7 @@ pub fn parameter(s: &[u8], c: Cursor, roles: &mut [u8], angle: usize) -> Paramet
 }
 
 // The parameters after the `<` in the row `angle`, with the closing `>`.
-fn parameters(s: &[u8], from: Cursor, roles: &mut [u8], angle: usize) -> Counted
+fn parameters(s: &[u8], from: Cursor, roles: &mut [u8], angle: usize) -> CountStep
     requires { ⌜ InList (now s) from ⌝ }
     ensures { λ r. ⌜ Meets (now (s .entry)) from (now (roles .entry)) (now (roles .exit)) (countShown r) (countSaid r)
         (every (parameter angle) (from .row) (stream (now (s .entry)) from)) ⌝ }
@@ -243,28 +323,28 @@ fn parameters(s: &[u8], from: Cursor, roles: &mut [u8], angle: usize) -> Counted
                 count += 1;
             }
             ParameterStep::Done(d) => {
-                return Counted::At(d, count);
+                return CountStep::At(d, count);
             }
             ParameterStep::Refused(r) => {
-                return Counted::Refused(r);
+                return CountStep::Refused(r);
             }
         }
     }
 }
 
 // virtue's Generics::try_take
-pub fn try_take(s: &[u8], c: Cursor, roles: &mut [u8]) -> Counted
+pub fn try_take(s: &[u8], c: Cursor, roles: &mut [u8]) -> CountStep
     requires { ⌜ InList (now s) c ⌝ }
     ensures { λ r. ⌜ Meets (now (s .entry)) c (now (roles .entry)) (now (roles .exit)) (genericsShown r) (countSaid r)
         (generics (c .row) (stream (now (s .entry)) c)) ⌝ }
 {
     let row = c.row;
     match peek(s, c) {
-        Peeked::Nothing => Counted::At(c, 0),
-        Peeked::Group(_) => Counted::At(c, 0),
+        Peeked::Nothing => CountStep::At(c, 0),
+        Peeked::Group(_) => CountStep::At(c, 0),
         Peeked::Leaf(t) => {
             if !is_punct(t, b'<') {
-                return Counted::At(c, 0);
+                return CountStep::At(c, 0);
             }
             let next = take_token(s, c, t, roles, role::ANGLE);
             parameters(s, next, roles, row)
@@ -273,17 +353,18 @@ pub fn try_take(s: &[u8], c: Cursor, roles: &mut [u8]) -> Counted
 }
 
 // virtue's GenericConstraints::try_take
-pub fn try_take_constraints(s: &[u8], c: Cursor, roles: &mut [u8]) -> Step
+pub fn try_take_constraints(s: &[u8], c: Cursor, roles: &mut [u8]) -> ClauseStep
     requires { ⌜ InList (now s) c ⌝ }
-    ensures { λ r. ⌜ Meets (now (s .entry)) c (now (roles .entry)) (now (roles .exit)) any (stepSaid r)
+    ensures { λ r. ⌜ Meets (now (s .entry)) c (now (roles .entry)) (now (roles .exit))
+        (clauseShown (now (s .entry)) (point (now (s .entry)) c) r) (clauseSaid r)
         (clause (c .row) (stream (now (s .entry)) c)) ⌝ }
 {
     match peek(s, c) {
-        Peeked::Nothing => Step::At(c),
-        Peeked::Group(_) => Step::At(c),
+        Peeked::Nothing => ClauseStep::At(ClauseAt::Absent, c),
+        Peeked::Group(_) => ClauseStep::At(ClauseAt::Absent, c),
         Peeked::Leaf(t) => {
             if !ident_eq(s, t, b"where") {
-                return Step::At(c);
+                return ClauseStep::At(ClauseAt::Absent, c);
             }
             let next = take_token(s, c, t, roles, role::WHERE_WORD);
             match read_tokens_until_punct(
@@ -297,8 +378,11 @@ pub fn try_take_constraints(s: &[u8], c: Cursor, roles: &mut [u8]) -> Step
                 },
                 role::WHERE_RUN,
             ) {
-                Ran::At(d, _) => Step::At(d),
-                Ran::Refused(r) => Step::Refused(r),
+                RunStep::Refused(r) => ClauseStep::Refused(r),
+                RunStep::At(r) => {
+                    let to = r.to;
+                    ClauseStep::At(ClauseAt::Where(r), to)
+                }
             }
         }
     }

@@ -1,43 +1,48 @@
 // The item (virtue's parse/mod.rs).
-use crate::attributes;
 use crate::body::take_enum;
 use crate::body::take_struct;
 use crate::data_type;
 use crate::data_type::DataType;
-use crate::data_type::Headed;
+use crate::data_type::HeadStep;
 use crate::generics;
-use crate::generics::Counted;
+use crate::generics::ClauseAt;
+use crate::generics::ClauseStep;
+use crate::generics::CountStep;
+use crate::prefix::PrefixAt;
+use crate::prefix::PrefixStep;
+use crate::prefix::take_prefix;
 use crate::role;
-use crate::utils::Step;
+use crate::utils::Word;
 use crate::utils::fill;
-use crate::visibility;
 use token_list::check::Checked;
 use token_list::check::Cursor;
 use token_list::check::END;
 use token_list::check::Refusal;
 use token_list::check::check;
 use token_list::layout::FIRST_ROW;
-use token_list::stream::Token;
 ghost use mathlib.Core.Path.{_≡_};
-ghost use mathlib.Core.List.{List};
-ghost use Prim.Native.Nat.{ℕ, _-_, _≤_};
+ghost use Prim.Native.Nat.{_-_, _≤_};
 ghost use lib.ListN.{length, replicate};
 ghost use lib.Seq.{sets};
 ghost use Rattle.token_list.specs.Check as list;
 ghost use Rattle.token_list.specs.Contract.{InList};
 ghost use Rattle.reading.specs.Role as role;
-ghost use Rattle.reading.specs.Reading.{item, bodyOf};
+ghost use Rattle.reading.specs.Took.{Point};
+ghost use Rattle.reading.specs.Reading.{Head, item, bodyOf};
 ghost use Rattle.reading.specs.Promise.{SingleAssignment};
-ghost use Rattle.parse.specs.Contract.{Meets, stream, TextOf, bodyShown, countSaid, partsAfter, kindOf, partsShown, itemShown, itemSaid, parsedOf, Answered, accepted};
+ghost use Rattle.parse.specs.Contract.{Meets, stream, Prefix, HeadOf, bodyShown, countSaid, partsAfter, kindOf, partsShown, itemShown, itemSaid, parsedOf, Answered, accepted};
 
-// What was read: the kind, the name's token, how many parameters and fields or variants there are, the
-// cursors at which its generics and its body are read, and where it ended.
+// What was read: where attributes and visibility stand, the kind, the name, how many parameters and
+// fields or variants there are, the cursors at which its generics and its body are read, its where
+// clause, and where it ended.
 pub struct ItemAt {
+    pub prefix: PrefixAt,
     pub kind: DataType,
-    pub name: Token,
+    pub name: Word,
     pub parameters: usize,
     pub count: usize,
     pub generics: Cursor,
+    pub clause: ClauseAt,
     pub body: Cursor,
     pub next: Cursor,
 }
@@ -54,7 +59,7 @@ pub enum Parse {
     Refused(Refusal),
 }
 
-fn body(s: &[u8], c: Cursor, roles: &mut [u8], kind: DataType) -> Counted
+fn body(s: &[u8], c: Cursor, roles: &mut [u8], kind: DataType) -> CountStep
     requires { ⌜ InList (now s) c ⌝ }
     ensures { λ r. ⌜ Meets (now (s .entry)) c (now (roles .entry)) (now (roles .exit)) (bodyShown r) (countSaid r)
         (bodyOf (kindOf kind) (c .row) (stream (now (s .entry)) c)) ⌝ }
@@ -66,24 +71,28 @@ fn body(s: &[u8], c: Cursor, roles: &mut [u8], kind: DataType) -> Counted
 }
 
 // The parts after the name.
-fn parts(s: &[u8], c: Cursor, roles: &mut [u8], kind: DataType, name: Token) -> ItemStep
-    requires { ⌜ InList (now s) c ⌝ }
-    ensures { λ r. ⌜ ((n : List ℕ) → TextOf (now (s .entry)) name n →
-        Meets (now (s .entry)) c (now (roles .entry)) (now (roles .exit)) (partsShown (now (s .entry)) c name r)
-        (itemSaid r) (partsAfter (kindOf kind) n (c .row) (stream (now (s .entry)) c))) ⌝ }
+fn parts(s: &[u8], prefix: PrefixAt, kind: DataType, name: Word, roles: &mut [u8]) -> ItemStep
+    requires { ⌜ InList (now s) (name .next) ⌝ }
+    ensures { λ r. ⌜ ((x : Point) (p : Prefix) (h : Head) → HeadOf (now (s .entry)) x prefix kind name p h →
+        Meets (now (s .entry)) (name .next) (now (roles .entry)) (now (roles .exit))
+        (partsShown (now (s .entry)) x r) (itemSaid r)
+        (partsAfter p h (name .next .row) (stream (now (s .entry)) (name .next)))) ⌝ }
 {
+    let c = name.next;
     match generics::try_take(s, c, roles) {
-        Counted::Refused(r) => ItemStep::Refused(r),
-        Counted::At(d, parameters) => match generics::try_take_constraints(s, d, roles) {
-            Step::Refused(r) => ItemStep::Refused(r),
-            Step::At(e) => match body(s, e, roles, kind) {
-                Counted::Refused(r) => ItemStep::Refused(r),
-                Counted::At(end, count) => ItemStep::At(ItemAt {
+        CountStep::Refused(r) => ItemStep::Refused(r),
+        CountStep::At(d, parameters) => match generics::try_take_constraints(s, d, roles) {
+            ClauseStep::Refused(r) => ItemStep::Refused(r),
+            ClauseStep::At(clause, e) => match body(s, e, roles, kind) {
+                CountStep::Refused(r) => ItemStep::Refused(r),
+                CountStep::At(end, count) => ItemStep::At(ItemAt {
+                    prefix,
                     kind,
                     name,
                     parameters,
                     count,
                     generics: c,
+                    clause,
                     body: e,
                     next: end,
                 }),
@@ -98,17 +107,16 @@ pub fn item(s: &[u8], c: Cursor, roles: &mut [u8]) -> ItemStep
     ensures { λ r. ⌜ Meets (now (s .entry)) c (now (roles .entry)) (now (roles .exit)) (itemShown (now (s .entry)) c r)
         (itemSaid r) (item (c .row) (stream (now (s .entry)) c)) ⌝ }
 {
-    match attributes::try_take(s, c, roles) {
-        Step::Refused(r) => ItemStep::Refused(r),
-        Step::At(d) => {
-            let e = visibility::try_take(s, d, roles);
+    match take_prefix(s, c, roles) {
+        PrefixStep::Refused(r) => ItemStep::Refused(r),
+        PrefixStep::At(prefix) => {
+            let e = prefix.next;
             match data_type::take(s, e, roles) {
-                Headed::Refused(r) => ItemStep::Refused(r),
-                Headed::At(h) => {
+                HeadStep::Refused(r) => ItemStep::Refused(r),
+                HeadStep::At(h) => {
                     let kind = h.kind;
                     let name = h.name;
-                    let next = h.next;
-                    parts(s, next, roles, kind, name)
+                    parts(s, prefix, kind, name, roles)
                 }
             }
         }
@@ -137,7 +145,7 @@ fn refuse(roles: &mut [u8], r: Refusal) -> Parse
 }
 
 // After an item that ended before the row `end`: 0 for the rows left over, then no role.
-fn leave(roles: &mut [u8], end: usize, rows: usize)
+fn mark_left_over(roles: &mut [u8], end: usize, rows: usize)
     ensures { λ _. ⌜ now (roles .exit) ≡ sets (sets (now (roles .entry)) end (replicate (rows - end) role.left-over))
         rows (replicate (length (now (roles .entry)) - rows) role.none) ⌝ }
 {
@@ -161,7 +169,7 @@ fn read(s: &[u8], roles: &mut [u8], rows: usize) -> Parse
         ItemStep::At(i) => {
             let next = i.next;
             let end = next.row;
-            leave(roles, end, rows);
+            mark_left_over(roles, end, rows);
             parsed(i)
         }
     }

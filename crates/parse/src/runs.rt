@@ -14,8 +14,8 @@ ghost use Rattle.token_list.specs.Byte.{GREATER};
 ghost use Rattle.token_list.specs.Layout.{PUNCT};
 ghost use Rattle.token_list.specs.Stream.{at};
 ghost use Rattle.token_list.specs.Contract.{InList};
-ghost use Rattle.reading.specs.Reading.{judgePunct, judgeGroup, belongs, ends, atComma, runFrom};
-ghost use Rattle.parse.specs.Contract.{Meets, stream, stopsOf, verdictOf, Turned, ranSaid, ranShown};
+ghost use Rattle.reading.specs.Reading.{judgePunct, belongs, ends, atComma, stopping, run};
+ghost use Rattle.parse.specs.Contract.{Meets, stream, point, stopsOf, verdictOf, RunTokenRead, runSaid, runShown};
 
 // What a run stops at, at depth 0.
 pub struct Stops {
@@ -32,8 +32,16 @@ pub enum Ending {
     End,
 }
 
-pub enum Ran {
-    At(Cursor, Ending),
+// A run: where it begins and where it stopped, what ended it, and whether an angle was open there.
+pub struct Run {
+    pub from: Cursor,
+    pub to: Cursor,
+    pub ending: Ending,
+    pub unclosed: bool,
+}
+
+pub enum RunStep {
+    At(Run),
     Refused(Refusal),
 }
 
@@ -45,8 +53,9 @@ pub enum Verdict {
     Unopened,
 }
 
-// A turn of a run: the cursor, the depth and whether a `-` was last, after a token that belongs.
-pub enum RunTurn {
+// A token of a run: the cursor, the depth and whether a `-` was last, after one that belongs; or the
+// run ended before it.
+pub enum RunToken {
     On(Cursor, usize, bool),
     Ended(Ending),
     Refused(Refusal),
@@ -103,20 +112,19 @@ fn judge_punct(stops: Stops, depth: usize, minus: bool, b: u8) -> Verdict
     Verdict::Belongs(depth, minus)
 }
 
-fn judge_group(stops: Stops, depth: usize, d: u8) -> Verdict
-    ensures { λ r. ⌜ verdictOf r ≡ judgeGroup (stopsOf stops) depth d ⌝ }
+// Whether a group with this delimiter ends a run at this depth.
+fn ends_run(stops: Stops, depth: usize, d: u8) -> bool
+    ensures { λ r. ⌜ r ≡ stopping (stopsOf stops) depth d ⌝ }
 {
     if depth == 0 {
         if stops.group {
             if d == b'{' {
-                return Verdict::Ends(Ending::Group);
+                return true;
             }
-            if d == b'(' {
-                return Verdict::Ends(Ending::Group);
-            }
+            return d == b'(';
         }
     }
-    Verdict::Belongs(depth, false)
+    false
 }
 
 // What a token that is no group is to a run.
@@ -133,7 +141,7 @@ fn judge(stops: Stops, depth: usize, minus: bool, t: Token) -> Verdict
 }
 
 // One token of a run.
-fn turn(
+fn run_token(
     s: &[u8],
     c: Cursor,
     roles: &mut [u8],
@@ -141,22 +149,22 @@ fn turn(
     role: u8,
     depth: usize,
     minus: bool,
-) -> RunTurn
+) -> RunToken
     requires { ⌜ InList (now s) c ⌝ }
     requires { ⌜ depth ≤ c .at ⌝ }
-    ensures { λ r. ⌜ Turned (now (s .entry)) c (now (roles .entry)) (now (roles .exit)) stops role depth minus r ⌝ }
+    ensures { λ r. ⌜ RunTokenRead (now (s .entry)) c (now (roles .entry)) (now (roles .exit)) stops role depth minus r ⌝ }
 {
     match peek(s, c) {
-        Peeked::Nothing => RunTurn::Ended(Ending::End),
+        Peeked::Nothing => RunToken::Ended(Ending::End),
         Peeked::Leaf(t) => match judge(stops, depth, minus, t) {
             Verdict::Belongs(e, m) => {
                 let next = take_token(s, c, t, roles, role);
-                RunTurn::On(next, e, m)
+                RunToken::On(next, e, m)
             }
-            Verdict::Ends(e) => RunTurn::Ended(e),
+            Verdict::Ends(e) => RunToken::Ended(e),
             Verdict::Unopened => {
                 let row = c.row;
-                RunTurn::Refused(Refusal {
+                RunToken::Refused(Refusal {
                     number: 15,
                     place: row,
                 })
@@ -164,51 +172,49 @@ fn turn(
         },
         Peeked::Group(t) => {
             let d = t.mark;
-            match judge_group(stops, depth, d) {
-                Verdict::Belongs(e, m) => {
-                    let next = take_group(s, c, t, roles, role);
-                    RunTurn::On(next, e, m)
-                }
-                Verdict::Ends(e) => RunTurn::Ended(e),
-                Verdict::Unopened => {
-                    let row = c.row;
-                    RunTurn::Refused(Refusal {
-                        number: 15,
-                        place: row,
-                    })
-                }
+            if ends_run(stops, depth, d) {
+                return RunToken::Ended(Ending::Group);
             }
+            let next = take_group(s, c, t, roles, role);
+            RunToken::On(next, depth, false)
         }
     }
 }
 
-// Reads a run from c on; its rows get `role`.
+// Reads a run from a cursor on; its rows get `role`.
 pub fn read_tokens_until_punct(
     s: &[u8],
     from: Cursor,
     roles: &mut [u8],
     stops: Stops,
     role: u8,
-) -> Ran
+) -> RunStep
     requires { ⌜ InList (now s) from ⌝ }
-    ensures { λ r. ⌜ Meets (now (s .entry)) from (now (roles .entry)) (now (roles .exit)) (ranShown r) (ranSaid r)
-        (runFrom (stopsOf stops) role 0 false (from .row) (stream (now (s .entry)) from)) ⌝ }
+    ensures { λ r. ⌜ Meets (now (s .entry)) from (now (roles .entry)) (now (roles .exit))
+        (runShown (now (s .entry)) (stopsOf stops) role (point (now (s .entry)) from) r) (runSaid r)
+        (run (stopsOf stops) role (from .row) (stream (now (s .entry)) from)) ⌝ }
 {
     let mut c = from;
     let mut depth = 0;
     let mut minus = false;
     loop {
-        match turn(s, c, roles, stops, role, depth, minus) {
-            RunTurn::On(next, e, m) => {
+        match run_token(s, c, roles, stops, role, depth, minus) {
+            RunToken::On(next, e, m) => {
                 c = next;
                 depth = e;
                 minus = m;
             }
-            RunTurn::Ended(e) => {
-                return Ran::At(c, e);
+            RunToken::Ended(ending) => {
+                let unclosed = 0 < depth;
+                return RunStep::At(Run {
+                    from,
+                    to: c,
+                    ending,
+                    unclosed,
+                });
             }
-            RunTurn::Refused(r) => {
-                return Ran::Refused(r);
+            RunToken::Refused(r) => {
+                return RunStep::Refused(r);
             }
         }
     }

@@ -9,7 +9,7 @@ use token_list::stream::peek;
 use token_list::stream::skip;
 use token_list::text::text_is;
 ghost use mathlib.Core.Path.{_≡_};
-ghost use mathlib.Core.Bool.{Bool, true, _&&_};
+ghost use mathlib.Core.Bool.{Bool, true, false, _&&_};
 ghost use Prim.Native.Nat.{_-_, _≤_};
 ghost use lib.Dec.{eqb};
 ghost use lib.ListN.{length, set, replicate};
@@ -28,10 +28,12 @@ pub enum Step {
     Refused(Refusal),
 }
 
-// A word: the ident's token and row, and the cursor past it and what wraps it.
+// A word: the ident's token and row, the row where it begins, which is another one where it is
+// wrapped, and the cursor past it and what wraps it.
 pub struct Word {
     pub token: Token,
     pub row: usize,
+    pub place: usize,
     pub next: Cursor,
 }
 
@@ -46,7 +48,13 @@ pub struct MaybePunct {
     pub next: Cursor,
 }
 
-// A name's token and the cursor past it.
+// A word that must stand there, or a refusal.
+pub enum WordStep {
+    At(Word),
+    Refused(Refusal),
+}
+
+// An ident that must stand there, with the cursor past it, or a refusal.
 pub enum NameStep {
     At(Token, Cursor),
     Refused(Refusal),
@@ -193,6 +201,7 @@ pub fn lone_ident(s: &[u8], inside: Cursor) -> MaybeWord
                     MaybeWord::Found(Word {
                         token: t,
                         row,
+                        place: row,
                         next: after,
                     })
                 }
@@ -217,6 +226,7 @@ pub fn consume_ident(s: &[u8], c: Cursor, roles: &mut [u8], role: u8) -> MaybeWo
             MaybeWord::Found(Word {
                 token: t,
                 row,
+                place: row,
                 next,
             })
         }
@@ -228,7 +238,14 @@ pub fn consume_ident(s: &[u8], c: Cursor, roles: &mut [u8], role: u8) -> MaybeWo
                     let next = w.next;
                     let to = next.row;
                     fill(roles, row, to, role);
-                    MaybeWord::Found(w)
+                    let token = w.token;
+                    let ident = w.row;
+                    MaybeWord::Found(Word {
+                        token,
+                        row: ident,
+                        place: row,
+                        next,
+                    })
                 }
             }
         }
@@ -251,6 +268,8 @@ pub fn consume_punct_if(s: &[u8], c: Cursor, roles: &mut [u8], punct: u8, role: 
     requires { ⌜ InList (now s) c ⌝ }
     ensures { λ r. ⌜ Meets (now (s .entry)) c (now (roles .entry)) (now (roles .exit)) (λ (v : Bool). r .taken ≡ v)
         (on (r .next)) (punctIf punct role (c .row) (stream (now (s .entry)) c)) ⌝ }
+    ensures { λ r. ⌜ (r .taken ≡ starts (isPunct punct) (stream (now (s .entry)) c)) ⌝ }
+    ensures { λ r. ⌜ (r .taken ≡ false → r .next ≡ c) ⌝ }
 {
     if !stands_punct(s, c, punct) {
         return MaybePunct {
@@ -266,6 +285,8 @@ fn take_punct(s: &[u8], c: Cursor, roles: &mut [u8], punct: u8, role: u8) -> May
     requires { ⌜ InList (now s) c ⌝ }
     ensures { λ r. ⌜ Meets (now (s .entry)) c (now (roles .entry)) (now (roles .exit)) (λ (v : Bool). r .taken ≡ v)
         (on (r .next)) (punctIf punct role (c .row) (stream (now (s .entry)) c)) ⌝ }
+    ensures { λ r. ⌜ (r .taken ≡ starts (isPunct punct) (stream (now (s .entry)) c)) ⌝ }
+    ensures { λ r. ⌜ (r .taken ≡ false → r .next ≡ c) ⌝ }
 {
     match peek(s, c) {
         Peeked::Nothing => MaybePunct {

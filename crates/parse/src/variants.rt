@@ -3,11 +3,12 @@ use crate::attributes;
 use crate::fields::close_group;
 use crate::fields::named_group;
 use crate::fields::tuple_group;
-use crate::generics::Counted;
+use crate::generics::CountStep;
 use crate::role;
 use crate::utils::MaybeWord;
-use crate::utils::NameStep;
 use crate::utils::Step;
+use crate::utils::Word;
+use crate::utils::WordStep;
 use crate::utils::consume_ident;
 use crate::utils::consume_punct_if;
 use crate::utils::is_punct;
@@ -28,8 +29,8 @@ ghost use lib.Seq.{slice};
 ghost use Rattle.token_list.specs.Stream.{at};
 ghost use Rattle.token_list.specs.Contract.{InList, GroupAt};
 ghost use Rattle.reading.specs.Reading.{every, variantFields, negatable, negativeValue, discriminant, valueIf, variantHere, variant};
-ghost use Rattle.reading.specs.Place.{variantName, variantNameRow, literalRow};
-ghost use Rattle.parse.specs.Contract.{Meets, stream, point, countShown, countSaid, Inside, fieldsShown, fieldsSaid, valueShown, valueSaid, nameShown, nameSaid, variantValue, variantShown, variantSaid};
+ghost use Rattle.reading.specs.Place.{variantHead, literalRow};
+ghost use Rattle.parse.specs.Contract.{Meets, stream, countShown, countSaid, Inside, fieldsShown, fieldsSaid, valueShown, valueSaid, variantNameShown, wordStepSaid, variantValue, variantShown, variantSaid};
 
 // The largest i64, and a tenth of it: a number above that has no room for one more digit.
 const MAX_I64: u64 = 9223372036854775807;
@@ -60,9 +61,10 @@ pub enum ValueStep {
     Refused(Refusal),
 }
 
-// Where a variant's parts stand, and the cursor after it.
+// Where a variant's attributes are read, where its other parts stand, and the cursor after it.
 pub struct VariantAt {
-    pub name: Token,
+    pub attributes: Cursor,
+    pub name: Word,
     pub fields: FieldsAt,
     pub value: ValueAt,
     pub next: Cursor,
@@ -75,7 +77,7 @@ pub enum VariantStep {
 }
 
 // The group of variants that opens at c, with its delimiters.
-pub fn variants_group(s: &[u8], c: Cursor, t: Token, roles: &mut [u8]) -> Counted
+pub fn variants_group(s: &[u8], c: Cursor, t: Token, roles: &mut [u8]) -> CountStep
     requires { ⌜ InList (now s) c ⌝ }
     requires { ⌜ GroupAt (now s) (c .at) t ⌝ }
     ensures { λ r. ⌜ Meets (now (s .entry)) c (now (roles .entry)) (now (roles .exit)) (countShown r) (countSaid r)
@@ -83,10 +85,10 @@ pub fn variants_group(s: &[u8], c: Cursor, t: Token, roles: &mut [u8]) -> Counte
 {
     let inside = take_token(s, c, t, roles, role::DELIMITER);
     match variants(s, inside, roles) {
-        Counted::Refused(r) => Counted::Refused(r),
-        Counted::At(d, count) => {
+        CountStep::Refused(r) => CountStep::Refused(r),
+        CountStep::At(d, count) => {
             let after = close_group(s, d, roles);
-            Counted::At(after, count)
+            CountStep::At(after, count)
         }
     }
 }
@@ -106,14 +108,14 @@ fn variant_fields(s: &[u8], c: Cursor, roles: &mut [u8]) -> FieldsStep
             let inside = past(s, c, t);
             if d == b'{' {
                 return match named_group(s, c, t, roles) {
-                    Counted::Refused(r) => FieldsStep::Refused(r),
-                    Counted::At(e, _) => FieldsStep::At(FieldsAt::Named(inside), e),
+                    CountStep::Refused(r) => FieldsStep::Refused(r),
+                    CountStep::At(e, _) => FieldsStep::At(FieldsAt::Named(inside), e),
                 };
             }
             if d == b'(' {
                 return match tuple_group(s, c, t, roles) {
-                    Counted::Refused(r) => FieldsStep::Refused(r),
-                    Counted::At(e, _) => FieldsStep::At(FieldsAt::Tuple(inside), e),
+                    CountStep::Refused(r) => FieldsStep::Refused(r),
+                    CountStep::At(e, _) => FieldsStep::At(FieldsAt::Tuple(inside), e),
                 };
             }
             FieldsStep::Refused(Refusal {
@@ -222,7 +224,7 @@ fn discriminant(s: &[u8], c: Cursor, roles: &mut [u8]) -> ValueStep
 }
 
 // A variant's value, where one stands; else a `,` or the end must follow.
-fn value_if(s: &[u8], c: Cursor, roles: &mut [u8]) -> ValueStep
+fn optional_value(s: &[u8], c: Cursor, roles: &mut [u8]) -> ValueStep
     requires { ⌜ InList (now s) c ⌝ }
     ensures { λ r. ⌜ Meets (now (s .entry)) c (now (roles .entry)) (now (roles .exit))
         (valueShown (now (s .entry)) (literalRow (c .row + 1)) r) (valueSaid r)
@@ -252,21 +254,17 @@ fn value_if(s: &[u8], c: Cursor, roles: &mut [u8]) -> ValueStep
 }
 
 // A variant's attributes and name.
-fn variant_name(s: &[u8], c: Cursor, roles: &mut [u8]) -> NameStep
+fn variant_name(s: &[u8], c: Cursor, roles: &mut [u8]) -> WordStep
     requires { ⌜ InList (now s) c ⌝ }
     ensures { λ r. ⌜ Meets (now (s .entry)) c (now (roles .entry)) (now (roles .exit))
-        (nameShown (now (s .entry)) (variantNameRow (point (now (s .entry)) c)) r) (nameSaid r)
-        (variantName (c .row) (stream (now (s .entry)) c)) ⌝ }
+        (variantNameShown (now (s .entry)) c r) (wordStepSaid r)
+        (variantHead (c .row) (stream (now (s .entry)) c)) ⌝ }
 {
     match attributes::try_take(s, c, roles) {
-        Step::Refused(r) => NameStep::Refused(r),
+        Step::Refused(r) => WordStep::Refused(r),
         Step::At(d) => match consume_ident(s, d, roles, role::VARIANT_NAME) {
-            MaybeWord::Missing => NameStep::Refused(wrong_token(s, d, 11)),
-            MaybeWord::Found(w) => {
-                let name = w.token;
-                let next = w.next;
-                NameStep::At(name, next)
-            }
+            MaybeWord::Missing => WordStep::Refused(wrong_token(s, d, 11)),
+            MaybeWord::Found(w) => WordStep::At(w),
         },
     }
 }
@@ -278,7 +276,7 @@ fn variant_value(s: &[u8], c: Cursor, roles: &mut [u8]) -> ValueStep
         (valueShown (now (s .entry)) (literalRow (c .row + 1)) r) (valueSaid r)
         (variantValue (c .row) (stream (now (s .entry)) c)) ⌝ }
 {
-    match value_if(s, c, roles) {
+    match optional_value(s, c, roles) {
         ValueStep::Refused(r) => ValueStep::Refused(r),
         ValueStep::At(v, d) => {
             let p = consume_punct_if(s, d, roles, b',', role::SEPARATOR);
@@ -294,19 +292,23 @@ fn variant_here(s: &[u8], c: Cursor, roles: &mut [u8]) -> VariantStep
         (variantShown (now (s .entry)) c r) (variantSaid r) (variantHere (c .row) (stream (now (s .entry)) c)) ⌝ }
 {
     match variant_name(s, c, roles) {
-        NameStep::Refused(r) => VariantStep::Refused(r),
-        NameStep::At(name, d) => match variant_fields(s, d, roles) {
-            FieldsStep::Refused(r) => VariantStep::Refused(r),
-            FieldsStep::At(fields, e) => match variant_value(s, e, roles) {
-                ValueStep::Refused(r) => VariantStep::Refused(r),
-                ValueStep::At(value, next) => VariantStep::One(VariantAt {
-                    name,
-                    fields,
-                    value,
-                    next,
-                }),
-            },
-        },
+        WordStep::Refused(r) => VariantStep::Refused(r),
+        WordStep::At(name) => {
+            let d = name.next;
+            match variant_fields(s, d, roles) {
+                FieldsStep::Refused(r) => VariantStep::Refused(r),
+                FieldsStep::At(fields, e) => match variant_value(s, e, roles) {
+                    ValueStep::Refused(r) => VariantStep::Refused(r),
+                    ValueStep::At(value, next) => VariantStep::One(VariantAt {
+                        attributes: c,
+                        name,
+                        fields,
+                        value,
+                        next,
+                    }),
+                },
+            }
+        }
     }
 }
 
@@ -323,7 +325,7 @@ pub fn variant(s: &[u8], c: Cursor, roles: &mut [u8]) -> VariantStep
     variant_here(s, c, roles)
 }
 
-fn variants(s: &[u8], from: Cursor, roles: &mut [u8]) -> Counted
+fn variants(s: &[u8], from: Cursor, roles: &mut [u8]) -> CountStep
     requires { ⌜ InList (now s) from ⌝ }
     ensures { λ r. ⌜ Meets (now (s .entry)) from (now (roles .entry)) (now (roles .exit)) (countShown r) (countSaid r)
         (every variant (from .row) (stream (now (s .entry)) from)) ⌝ }
@@ -337,10 +339,10 @@ fn variants(s: &[u8], from: Cursor, roles: &mut [u8]) -> Counted
                 count += 1;
             }
             VariantStep::Done(d) => {
-                return Counted::At(d, count);
+                return CountStep::At(d, count);
             }
             VariantStep::Refused(r) => {
-                return Counted::Refused(r);
+                return CountStep::Refused(r);
             }
         }
     }

@@ -16,7 +16,28 @@ ghost use Prim.Native.Nat.{_≤_};
 ghost use lib.ListN.{length};
 ghost use Rattle.token_list.specs.Contract.{InList, rowOf};
 ghost use Rattle.reading.specs.Reading.{scopeWord, scoped, scopeAfter, anyScope, visibility};
-ghost use Rattle.parse.specs.Contract.{Meets, on, any, stream};
+ghost use Rattle.parse.specs.Contract.{Meets, on, any, stream, point, PubRead, visibilityShown};
+
+// How `pub` stands: not at all, plain, or wrapped in a group.
+pub enum PubWord {
+    Absent,
+    Plain,
+    Wrapped,
+}
+
+// A visibility: how its `pub` stands, the cursor at which its scope is read, and the one after it.
+pub struct VisibilityAt {
+    pub word: PubWord,
+    pub scope: Cursor,
+    pub next: Cursor,
+}
+
+// No `pub`, or the cursor past it.
+pub enum PubStep {
+    Absent,
+    Plain(Cursor),
+    Wrapped(Cursor),
+}
 
 // crate, self, super or in
 fn is_scope_word(s: &[u8], t: Token) -> bool
@@ -83,9 +104,10 @@ fn any_scope(s: &[u8], c: Cursor, roles: &mut [u8]) -> Cursor
 }
 
 // Takes a visibility where one stands (virtue's Visibility::try_take).
-pub fn try_take(s: &[u8], c: Cursor, roles: &mut [u8]) -> Cursor
+pub fn try_take(s: &[u8], c: Cursor, roles: &mut [u8]) -> VisibilityAt
     requires { ⌜ InList (now s) c ⌝ }
-    ensures { λ r. ⌜ Meets (now (s .entry)) c (now (roles .entry)) (now (roles .exit)) any (on r)
+    ensures { λ r. ⌜ Meets (now (s .entry)) c (now (roles .entry)) (now (roles .exit))
+        (visibilityShown (now (s .entry)) (point (now (s .entry)) c) r) (on (r .next))
         (visibility (c .row) (stream (now (s .entry)) c)) ⌝ }
 {
     // Two calls keep `take` out of line, and the short way short.
@@ -96,35 +118,70 @@ pub fn try_take(s: &[u8], c: Cursor, roles: &mut [u8]) -> Cursor
     if l.mark == b'p' {
         return take(s, c, roles);
     }
-    c
+    VisibilityAt {
+        word: PubWord::Absent,
+        scope: c,
+        next: c,
+    }
 }
 
 // The same by the tokens themselves, where a look has found a group or a text that starts with `p`.
-fn take(s: &[u8], c: Cursor, roles: &mut [u8]) -> Cursor
+fn take(s: &[u8], c: Cursor, roles: &mut [u8]) -> VisibilityAt
     requires { ⌜ InList (now s) c ⌝ }
-    ensures { λ r. ⌜ Meets (now (s .entry)) c (now (roles .entry)) (now (roles .exit)) any (on r)
+    ensures { λ r. ⌜ Meets (now (s .entry)) c (now (roles .entry)) (now (roles .exit))
+        (visibilityShown (now (s .entry)) (point (now (s .entry)) c) r) (on (r .next))
         (visibility (c .row) (stream (now (s .entry)) c)) ⌝ }
 {
+    match pub_word(s, c, roles) {
+        PubStep::Absent => VisibilityAt {
+            word: PubWord::Absent,
+            scope: c,
+            next: c,
+        },
+        PubStep::Plain(scope) => {
+            let next = scope_after(s, scope, roles);
+            VisibilityAt {
+                word: PubWord::Plain,
+                scope,
+                next,
+            }
+        }
+        PubStep::Wrapped(scope) => {
+            let next = any_scope(s, scope, roles);
+            VisibilityAt {
+                word: PubWord::Wrapped,
+                scope,
+                next,
+            }
+        }
+    }
+}
+
+// Takes a `pub`, plain or wrapped, where one stands.
+fn pub_word(s: &[u8], c: Cursor, roles: &mut [u8]) -> PubStep
+    requires { ⌜ InList (now s) c ⌝ }
+    ensures { λ r. ⌜ PubRead (now (s .entry)) c (now (roles .entry)) (now (roles .exit)) r ⌝ }
+{
     match peek(s, c) {
-        Peeked::Nothing => c,
+        Peeked::Nothing => PubStep::Absent,
         Peeked::Leaf(t) => {
             if !ident_eq(s, t, b"pub") {
-                return c;
+                return PubStep::Absent;
             }
             let next = take_token(s, c, t, roles, role::VISIBILITY);
-            scope_after(s, next, roles)
+            PubStep::Plain(next)
         }
         Peeked::Group(t) => {
             let inside = past(s, c, t);
             match lone_ident(s, inside) {
-                MaybeWord::Missing => c,
+                MaybeWord::Missing => PubStep::Absent,
                 MaybeWord::Found(w) => {
                     let word = w.token;
                     if !ident_eq(s, word, b"pub") {
-                        return c;
+                        return PubStep::Absent;
                     }
                     let next = take_group(s, c, t, roles, role::VISIBILITY);
-                    any_scope(s, next, roles)
+                    PubStep::Wrapped(next)
                 }
             }
         }

@@ -18,7 +18,7 @@ use Rattle.token_list.proofs.Passed.{passed-list}
 use Rattle.token_list.proofs.Bounds.{bounds}
 use Rattle.reading.proofs.Conserved.{Conserved, conserved, item-conserving}
 use Rattle.reading.specs.Role.{left-over}
-use Rattle.reading.specs.Took.{Took, took, refuse}
+use Rattle.reading.specs.Took.{Took, took, stopped}
 use Rattle.reading.specs.Declaration.{Declaration}
 use Rattle.reading.specs.Reading.{item}
 use Rattle.reading.specs.Grammar.{everything}
@@ -103,7 +103,7 @@ module _ (s : List ℕ) (n : ℕ) (d : Declaration) (rs : List ℕ) where
         itemAnswer t ≡ declared d rs → P rs
     by-item k c (took f qs us) i e =
         let q : qs ++ replicate (size us) left-over ≡ rs = cc in subst P q (of-item k c f qs us i)
-    by-item k c (refuse m p) i e = absurd (never e)
+    by-item k c (stopped w m p) i e = absurd (never e)
 
     by-answer : answer s n ≡ declared d rs → P rs
     unfolding answer

@@ -1,3 +1,4 @@
+use Rattle.parse.specs.Contract.{isLifetime}
 use lib.Seq.{slice}
 use mathlib.Core.List.{_∷_}
 use mathlib.Core.Path.{sym, _∙_, ap}
@@ -7,6 +8,9 @@ use Rattle.describe.specs.Listing.{PARAM, DASH, line}
 use borrow.Author.Needs.{needs}
 use Rattle.describe.proofs.lines.put_parameter.Statement.{statement}
 use Rattle.describe.proofs.lines.put_parameter.Tie as tie
+
+is-lifetime-requires : tie.Need-is-lifetime-requires
+is-lifetime-requires c κs = search needs
 
 slice-aggregate-put-head : tie.Need-slice-aggregate-put-head
 slice-aggregate-put-head c = search needs
@@ -27,12 +31,12 @@ returns : tie.Need-returns
 returns c =
     let put-bytes = c .before .before .put-bytes in
     let put-head = c .before .before .before .before .before .before .before .put-head in
-    let after-if1 = c .before .before .before .before .before .before .before .before .before .before in
-    let if1 = after-if1 .if1 in
-    let args = after-if1 .before .before .before .before .args in
+    let if1 = c .before .before .before .before .before .before .before .before .before .before .if1 in
+    let args = c .before .before .before .before .before .before .before .before .before .before .before .before .before .before .before .args in
+    let is-lifetime = c .before .before .before .before .before .before .before .before .before .before .before .is-lifetime in
     let name = slice (args .p .name .start) (args .p .name .end) (args .s .now) in
     λ a k.
-    let same = quoted a (sym (k .kind) ∙ if1 .taken) ∙ ap (λ n. 39 ∷ n) (k .text .bytes) in
+    let same = quoted a (sym (ap isLifetime (k .kind)) ∙ sym (is-lifetime .ensures) ∙ if1 .taken) ∙ ap (λ n. 39 ∷ n) (k .text .bytes) in
     put-as (ap (λ n. line PARAM n DASH) same) (put-line PARAM (39 ∷ name) DASH (put-head .ensures) (put-bytes .ensures))
 
 slice-aggregate-put-head-2 : tie.Need-slice-aggregate-put-head-2
@@ -54,18 +58,19 @@ returns-2 : tie.Need-returns-2
 returns-2 c =
     let put-bytes2 = c .before .before .put-bytes2 in
     let put-head2 = c .before .before .before .before .before .before .before .put-head2 in
-    let after-if1 = c .before .before .before .before .before .before .before .before .before .before in
-    let if1 = after-if1 .if1 in
-    let args = after-if1 .before .before .before .before .args in
+    let if1 = c .before .before .before .before .before .before .before .before .before .before .if1 in
+    let args = c .before .before .before .before .before .before .before .before .before .before .before .before .before .before .before .args in
+    let is-lifetime = c .before .before .before .before .before .before .before .before .before .before .before .is-lifetime in
     let name = slice (args .p .name .start) (args .p .name .end) (args .s .now) in
     λ a k.
-    let same = unquoted a (sym (k .kind) ∙ if1 .left) ∙ k .text .bytes in
+    let same = unquoted a (sym (ap isLifetime (k .kind)) ∙ sym (is-lifetime .ensures) ∙ if1 .left) ∙ k .text .bytes in
     put-as (ap (λ n. line PARAM n DASH) same) (put-line PARAM name DASH (put-head2 .ensures) (put-bytes2 .ensures))
 
 pub put-parameter-spec : {M : Type 1} → statement M
 put-parameter-spec =
     tie.close
     (tie.spec
+    is-lifetime-requires
     slice-aggregate-put-head
     put-head-requires
     slice-aggregate-put-bytes

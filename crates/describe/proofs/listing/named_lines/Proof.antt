@@ -37,26 +37,23 @@ put-named-requires c κs =
 
 add-count : tie.Need-add-count Inv-loop μ-loop
 add-count c =
-    let after-f = c .before .before .before .before .before .before .before in
-    let loop = after-f .before .before .before .before .before .before .loop in
-    let start = after-f .before .before .before .before .before .before .before .before .before .before in
-    omega (arith, loop .inv .few, loop .inv .inList .within, start .good)
+    let loop = c .before .before .before .before .before .before .before .before .before .before .before .before .before .before .loop in
+    let good = c .before .before .before .before .before .before .before .before .before .before .before .before .before .before .before .before .before .before .good in
+    omega (arith, loop .inv .few, loop .inv .inList .within, good)
 
 loop-less : tie.Need-loop-less Inv-loop μ-loop
 loop-less c =
-    let after-f = c .before .before .before .before .before .before .before in
-    let f = after-f .f in
-    let named-field = after-f .before .before .before .before .named-field in
-    let loop = after-f .before .before .before .before .before .before .loop in
+    let loop = c .before .before .before .before .before .before .before .before .before .before .before .before .before .before .loop in
+    let f = c .before .before .before .before .before .before .before .before .f in
+    let named-field = c .before .before .before .before .before .before .before .before .before .before .before .before .named-field in
     lined-less named (loop .inv) (turn named (f .given .1) (named-field .ensures)) (λ v h. (h .0, h .1, h .2))
 
 loop-again : tie.Need-loop-again Inv-loop μ-loop
 loop-again c =
-    let put-named = c .before .before .before .put-named in
-    let after-f = c .before .before .before .before .before .before .before in
-    let f = after-f .f in
-    let named-field = after-f .before .before .before .before .named-field in
-    let loop = after-f .before .before .before .before .before .before .loop in
+    let loop = c .before .before .before .before .before .before .before .before .before .before .before .before .before .before .loop in
+    let f = c .before .before .before .before .before .before .before .before .f in
+    let named-field = c .before .before .before .before .before .before .before .before .before .before .before .before .named-field in
+    let put-named = c .before .before .before .before .put-named in
     lined-more named (loop .inv) (turn named (f .given .1) (named-field .ensures)) (λ v h. (h .0, h .1, h .2))
     (λ a t. put-as (ap (λ n. line FIELD n (decimal (loop .count))) (t .bytes)) (put-named .ensures))
     (named-field .kept .1 .1 .0) (put-named .kept .1 .1 .0)
@@ -79,7 +76,7 @@ returns : tie.Need-returns Inv-loop μ-loop
 returns c =
     let loop = c .before .before .before .before .before .before .loop in
     let named-field = c .before .before .before .before .named-field in
-    λ xs k. lined-done named (loop .inv) (turn named (c .enum-told .given .1) (named-field .ensures)) (λ v h. h) xs k
+    λ xs k. lined-done named (loop .inv) (turn named (c .enum-told .given .1) (named-field .ensures)) (λ v h. h .0) xs k
 
 enum-told-2 : tie.Need-enum-told-2 Inv-loop μ-loop
 enum-told-2 c = search needs

@@ -35,7 +35,7 @@ returns c =
     let args = c .before .before .before .before .before .before .before .before .before .before .args in
     let item = c .before .before .before .before .before .item in
     let e = meets-refusal (meeting.say (itemShown (args .s .now) first) itemSaid ((c .before .r) .given .1)
-    (item .ensures)) in listed-refused (sym (ap (λ t. fitted (length (args .out .now)) (itemAnswer t)) e))
+    (item .ensures)) .1 in listed-refused (sym (ap (λ t. fitted (length (args .out .now)) (itemAnswer t)) e))
     (sym (ap (λ t. output (args .out .now) (fitted (length (args .out .now)) (itemAnswer t))) e))
 
 same-length-2 : tie.Need-same-length-2

@@ -46,7 +46,7 @@ returns c =
     let args = c .before .before .before .before .before .before .before .before .before .before .args in
     let item = c .before .before .before .before .before .item in
     let e = meets-refusal (meeting.say (itemShown (args .s .now) first) itemSaid ((c .before .r) .given .1)
-    (item .ensures)) in
+    (item .ensures)) .1 in
     placed-refused _ (ap (itemAnswer (start (args .s .now)) (args .position)) e)
 
 same-length-2 : tie.Need-same-length-2

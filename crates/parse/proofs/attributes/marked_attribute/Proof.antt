@@ -1,3 +1,7 @@
+use Rattle.parse.proofs.Places as places
+use Rattle.token_list.specs.declared.check.Cursor.{Cursor}
+use Prim.Native.Nat.{ℕ}
+use Rattle.reading.specs.Took.{misfit, gaveOut}
 use Rattle.parse.proofs.Marks as marks
 use Rattle.reading.specs.Took.{took}
 use mathlib.Core.List.{[]}
@@ -5,7 +9,7 @@ use Rattle.parse.proofs.Meeting as meeting
 use Rattle.parse.specs.Contract as contract
 use Rattle.reading.specs.Reading as reading
 use borrow.Author.Tests.{not-true, not-false}
-use mathlib.Core.Path.{refl, sym, _∙_, ap}
+use mathlib.Core.Path.{subst, refl, sym, _∙_, ap}
 use borrow.Author.Needs.{needs}
 use Rattle.parse.proofs.attributes.marked_attribute.Statement.{statement}
 use Rattle.parse.proofs.attributes.marked_attribute.Tie as tie
@@ -69,6 +73,7 @@ returns-2 c =
     let past = c .before .before .before .before .before .before .past in
     let peek2 = c .before .before .before .before .before .peek2 in
     let q = c .before .before .before .q in (
+      misfit,
       marks.mark-other _ _ pre _ (meeting.peeked _ _ (peek .ensures) (t .given .1))
           (meeting.punct-of _ _ _ _ ((meeting.peeked _ _ (peek .ensures) (t .given .1)) .token) ∙ sym
           (is-punct .ensures) ∙ not-false _ (if1 .left))
@@ -94,6 +99,7 @@ returns-3 c =
     let if1 = c .before .before .before .before .before .before .before .if1 in
     let past = c .before .before .before .before .before .before .past in
     let peek2 = c .before .before .before .before .before .peek2 in (
+      misfit,
       marks.mark-wrong _ _ pre _ (meeting.peeked _ _ (peek .ensures) (t .given .1))
           (meeting.punct-of _ _ _ _ ((meeting.peeked _ _ (peek .ensures) (t .given .1)) .token) ∙ sym
           (is-punct .ensures) ∙ not-false _ (if1 .left))
@@ -121,7 +127,7 @@ take-group-requires c κs =
 returns-4 : tie.Need-returns-4
 returns-4 c =
     let peek = c .before .before .peek in (
-      ap (reading.attributes _) (meeting.peeked _ _ (peek .ensures) ((c .enum-told) .given .1)) ∙ ap (took tt [])
+      ap (reading.attributes _) (meeting.peeked _ _ (peek .ensures) ((c .enum-told) .given .1)) ∙ ap (took [] [])
           (sym (meeting.peeked _ _ (peek .ensures) ((c .enum-told) .given .1))),
       refl,
     )
@@ -129,7 +135,7 @@ returns-4 c =
 returns-5 : tie.Need-returns-5
 returns-5 c =
     let g = (meeting.peeked _ _ ((c .before .before .peek) .ensures) ((c .enum-told2) .given .1)) in
-    (ap (reading.attributes _) (g .here) ∙ ap (took tt []) (sym (g .here)), refl)
+    (ap (reading.attributes _) (g .here) ∙ ap (took [] []) (sym (g .here)), refl)
 
 returns-6 : tie.Need-returns-6
 returns-6 c =
@@ -138,6 +144,7 @@ returns-6 c =
     let t = c .before .before .before .before .before .before .before .t in
     let is-punct = c .before .before .before .before .before .is-punct in
     let if1 = c .before .before .before .before .if1 in (
+      gaveOut,
       marks.mark-end _ _ pre _ (meeting.peeked _ _ (peek .ensures) (t .given .1))
           (meeting.punct-of _ _ _ _ ((meeting.peeked _ _ (peek .ensures) (t .given .1)) .token) ∙ sym
           (is-punct .ensures) ∙ not-false _ (if1 .left))
@@ -186,13 +193,16 @@ returns-8 c =
     let g = c .before .before .before .before .before .before .before .before .before .before .before .g in
     let if3 = c .before .before .before .before .before .before .before .before .if3 in
     let mark2 = c .before .before .before .before .before .before .mark2 in
-    marks.mark-group _ _ pre _ (meeting.peeked _ _ (peek .ensures) (t .given .1))
-    (meeting.punct-of _ _ _ _ ((meeting.peeked _ _ (peek .ensures) (t .given .1)) .token) ∙ sym
-    (is-punct .ensures) ∙ not-false _ (if1 .left))
-    _ (past .ensures) _
-    (meeting.past-in-of _ _ _ _ (past .ensures) pre ((meeting.peeked _ _ (peek .ensures) (t .given .1)) .token))
-    (meeting.peeked _ _ (peek2 .ensures) (g .given .1)) _ _ _ _ (if3 .left) (mark2 .ensures)
-    ((c .before .before .take-group) .ensures)
+    let l = meeting.peeked _ _ (peek .ensures) (t .given .1) in
+    let below = meeting.past-in-of _ _ _ _ (past .ensures) pre (l .token) in
+    let k = meeting.peeked _ _ (peek2 .ensures) (g .given .1) in (
+      marks.mark-group _ _ pre _ l
+          (meeting.punct-of _ _ _ _ (l .token) ∙ sym (is-punct .ensures) ∙ not-false _ (if1 .left))
+          _ (past .ensures) _ below k _ _ _ _ (if3 .left) (mark2 .ensures)
+          ((c .before .before .take-group) .ensures),
+      subst (λ (n : ℕ). contract.TokenIn (c .before .before .before .before .before .before .before .before .before .before .before .before .before .before .before .before .before .before .before .before .before .before .before .args .s .now) n (g .given .0 .0)) (ap (λ (x : Cursor). x .row) (past .ensures))
+          (places.token-in _ _ _ below (k .token)),
+    )
 
 pub marked-attribute-spec : {M : Type 1} → statement M
 marked-attribute-spec =

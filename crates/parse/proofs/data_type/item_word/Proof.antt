@@ -37,11 +37,11 @@ returns c =
     c .before .before .before .before .before .before .before .before .before .before .consume-ident in
     let w = c .before .before .before .before .before .before .w in
     meeting.meets-word reading.kindOf _ (meeting.say-word (w .given .1) (consume-ident .ensures))
-    (λ text h place.
+    (λ text h.
     meeting.meets-as
     (heads.kind-struct text (w .given .0 .0 .row) (w .given .0 .0 .next .row)
     (contract.stream (args .s .now) (w .given .0 .0 .next))
-    (ap (λ x. same x reading.STRUCT) (h .bytes) ∙ sym ((c .before .text-is) .ensures) ∙ (c .if1) .taken))
+    (ap (λ x. same x reading.STRUCT) (h .text .bytes) ∙ sym ((c .before .text-is) .ensures) ∙ (c .if1) .taken))
     (meeting.meets-stay _ _ _ _ _ (meeting.landed (meeting.say-word (w .given .1) (consume-ident .ensures))) refl))
 
 slice-aggregate-text-is-2 : tie.Need-slice-aggregate-text-is-2
@@ -60,13 +60,13 @@ returns-2 c =
     let w = c .before .before .before .before .before .before .before .before .before .w in
     let text-is = c .before .before .before .before .text-is in
     meeting.meets-word reading.kindOf _ (meeting.say-word (w .given .1) (consume-ident .ensures))
-    (λ text h place.
+    (λ text h.
     meeting.meets-as
     (heads.kind-enum text (w .given .0 .0 .row) (w .given .0 .0 .next .row)
     (contract.stream (args .s .now) (w .given .0 .0 .next))
-    (ap (λ x. same x reading.STRUCT) (h .bytes) ∙ sym
+    (ap (λ x. same x reading.STRUCT) (h .text .bytes) ∙ sym
     (text-is .ensures) ∙ (c .before .before .before .if1) .left)
-    (ap (λ x. same x reading.ENUM) (h .bytes) ∙ sym ((c .before .text-is2) .ensures) ∙ (c .if2) .taken))
+    (ap (λ x. same x reading.ENUM) (h .text .bytes) ∙ sym ((c .before .text-is2) .ensures) ∙ (c .if2) .taken))
     (meeting.meets-stay _ _ _ _ _ (meeting.landed (meeting.say-word (w .given .1) (consume-ident .ensures))) refl))
 
 same-length-3 : tie.Need-same-length-3
@@ -88,13 +88,13 @@ returns-4 c =
     let w = c .before .before .before .before .before .before .before .before .before .w in
     let text-is = c .before .before .before .before .text-is in
     meeting.meets-word reading.kindOf _ (meeting.say-word (w .given .1) (consume-ident .ensures))
-    (λ text h place.
+    (λ text h.
     meeting.meets-as
     (heads.kind-other text (w .given .0 .0 .row) (w .given .0 .0 .next .row)
     (contract.stream (args .s .now) (w .given .0 .0 .next))
-    (ap (λ x. same x reading.STRUCT) (h .bytes) ∙ sym
+    (ap (λ x. same x reading.STRUCT) (h .text .bytes) ∙ sym
     (text-is .ensures) ∙ (c .before .before .before .if1) .left)
-    (ap (λ x. same x reading.ENUM) (h .bytes) ∙ sym ((c .before .text-is2) .ensures) ∙ (c .if2) .left))
+    (ap (λ x. same x reading.ENUM) (h .text .bytes) ∙ sym ((c .before .text-is2) .ensures) ∙ (c .if2) .left))
     (contract.refuses [] refl))
 
 pub item-word-spec : {M : Type 1} → statement M

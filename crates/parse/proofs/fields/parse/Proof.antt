@@ -1,4 +1,4 @@
-use Rattle.parse.proofs.Loops.{Rounded, rounds-start, rounds-more, rounds-done, rounds-refused, rounds-length}
+use Rattle.parse.proofs.Loops.{Rounded, rounds-start, rounds-more, rounds-done, rounds-refused, gathering-length}
 use Rattle.reading.proofs.Conserved as conserved
 use lib.ListN.{length}
 use Prim.Native.Nat.{_-_}
@@ -23,48 +23,51 @@ loop-holds : tie.Need-loop-holds Inv-loop μ-loop
 loop-holds c = rounds-start _ _ _ _ (c .before .before .pre)
 
 tuple-field-requires : tie.Need-tuple-field-requires Inv-loop μ-loop
-tuple-field-requires c κs = (c .before .loop) .inv .moved .inList
+tuple-field-requires c κs = (c .before .loop) .inv .gathering .moved .inList
 
-enum-known-d : tie.Need-enum-known-d Inv-loop μ-loop
-enum-known-d c = search needs
+enum-known-f : tie.Need-enum-known-f Inv-loop μ-loop
+enum-known-f c = search needs
 
 add-count : tie.Need-add-count Inv-loop μ-loop
 add-count c =
-    let loop = c .before .before .before .before .before .before .before .loop in
-    omega (arith, loop .inv .few, loop .inv .moved .inList .within)
+    let loop = c .before .before .before .before .before .before .before .before .loop in
+    omega (arith, loop .inv .few, loop .inv .gathering .moved .inList .within)
 
 loop-less : tie.Need-loop-less Inv-loop μ-loop
 loop-less c =
-    let loop = c .before .before .before .before .before .before .before .loop in
-    let tuple-field = c .before .before .before .before .before .tuple-field in
+    let args = c .before .before .before .before .before .before .before .before .before .before .before .args in
+    let loop = c .before .before .before .before .before .before .before .before .loop in
+    let tuple-field = c .before .before .before .before .before .before .tuple-field in
     let n = rounds-more reading.tupleField conserved.tupleField-round (loop .inv)
-    (meeting.say contract.typeShown contract.typeSaid ((c .before .d) .given .1) (tuple-field .ensures))
+    (meeting.say (contract.unnamedShown (args .s .now) (contract.point (args .s .now) (loop .c))) contract.unnamedSaid ((c .before .before .f) .given .1) (tuple-field .ensures))
     (λ v h. (h .0, h .1)) in
-    omega (arith, n .1, n .0 .moved .inList .within)
+    omega (arith, n .1, n .0 .gathering .moved .inList .within)
 
 loop-again : tie.Need-loop-again Inv-loop μ-loop
 loop-again c =
-    let loop = c .before .before .before .before .before .before .before .loop in
-    let tuple-field = c .before .before .before .before .before .tuple-field in
+    let args = c .before .before .before .before .before .before .before .before .before .before .before .args in
+    let loop = c .before .before .before .before .before .before .before .before .loop in
+    let tuple-field = c .before .before .before .before .before .before .tuple-field in
     rounds-more reading.tupleField conserved.tupleField-round (loop .inv)
-    (meeting.say contract.typeShown contract.typeSaid ((c .before .d) .given .1) (tuple-field .ensures))
+    (meeting.say (contract.unnamedShown (args .s .now) (contract.point (args .s .now) (loop .c))) contract.unnamedSaid ((c .before .before .f) .given .1) (tuple-field .ensures))
     (λ v h. (h .0, h .1)) .0
 
-enum-known-d-2 : tie.Need-enum-known-d-2 Inv-loop μ-loop
-enum-known-d-2 c = search needs
+enum-known-d : tie.Need-enum-known-d Inv-loop μ-loop
+enum-known-d c = search needs
 
 same-length : tie.Need-same-length Inv-loop μ-loop
 same-length c =
     let loop = c .before .before .before .before .before .before .before .loop in
     let tuple-field = c .before .before .before .before .before .tuple-field in
-    tuple-field .kept .1 .1 .0 ∙ rounds-length (loop .inv)
+    tuple-field .kept .1 .1 .0 ∙ gathering-length (loop .inv .gathering)
 
 returns : tie.Need-returns Inv-loop μ-loop
 returns c =
+    let args = c .before .before .before .before .before .before .before .before .before .before .args in
     let loop = c .before .before .before .before .before .before .before .loop in
     let tuple-field = c .before .before .before .before .before .tuple-field in
     rounds-done reading.tupleField conserved.tupleField-round (loop .inv)
-    (meeting.say contract.typeShown contract.typeSaid ((c .before .d2) .given .1) (tuple-field .ensures)) (λ v h. h)
+    (meeting.say (contract.unnamedShown (args .s .now) (contract.point (args .s .now) (loop .c))) contract.unnamedSaid ((c .before .d) .given .1) (tuple-field .ensures)) (λ v h. h)
 
 enum-known-r : tie.Need-enum-known-r Inv-loop μ-loop
 enum-known-r c = search needs
@@ -73,14 +76,15 @@ same-length-2 : tie.Need-same-length-2 Inv-loop μ-loop
 same-length-2 c =
     let loop = c .before .before .before .before .before .before .before .loop in
     let tuple-field = c .before .before .before .before .before .tuple-field in
-    tuple-field .kept .1 .1 .0 ∙ rounds-length (loop .inv)
+    tuple-field .kept .1 .1 .0 ∙ gathering-length (loop .inv .gathering)
 
 returns-2 : tie.Need-returns-2 Inv-loop μ-loop
 returns-2 c =
+    let args = c .before .before .before .before .before .before .before .before .before .before .args in
     let loop = c .before .before .before .before .before .before .before .loop in
     let tuple-field = c .before .before .before .before .before .tuple-field in
     rounds-refused reading.tupleField conserved.tupleField-round (loop .inv)
-    (meeting.say contract.typeShown contract.typeSaid ((c .before .r) .given .1) (tuple-field .ensures))
+    (meeting.say (contract.unnamedShown (args .s .now) (contract.point (args .s .now) (loop .c))) contract.unnamedSaid ((c .before .r) .given .1) (tuple-field .ensures))
 
 pub parse-spec : {M : Type 1} → statement M
 parse-spec =
@@ -90,11 +94,11 @@ parse-spec =
     μ-loop
     loop-holds
     tuple-field-requires
-    enum-known-d
+    enum-known-f
     add-count
     loop-less
     loop-again
-    enum-known-d-2
+    enum-known-d
     same-length
     returns
     enum-known-r

@@ -1,4 +1,4 @@
-use Rattle.parse.proofs.Loops.{Rounded, rounds-start, rounds-more, rounds-done, rounds-refused, rounds-length}
+use Rattle.parse.proofs.Loops.{Rounded, rounds-start, rounds-more, rounds-done, rounds-refused, gathering-length}
 use Rattle.reading.proofs.Conserved as conserved
 use lib.ListN.{length}
 use Prim.Native.Nat.{_-_}
@@ -23,54 +23,54 @@ loop-holds : tie.Need-loop-holds Inv-loop μ-loop
 loop-holds c = rounds-start _ _ _ _ (c .before .before .pre)
 
 named-field-requires : tie.Need-named-field-requires Inv-loop μ-loop
-named-field-requires c κs = (c .before .loop) .inv .moved .inList
+named-field-requires c κs = (c .before .loop) .inv .gathering .moved .inList
 
 enum-known-f : tie.Need-enum-known-f Inv-loop μ-loop
 enum-known-f c = search needs
 
 add-count : tie.Need-add-count Inv-loop μ-loop
 add-count c =
-    let loop = c .before .before .before .before .before .before .before .before .loop in
-    omega (arith, loop .inv .few, loop .inv .moved .inList .within)
+    let loop = c .before .before .before .before .before .before .before .before .before .loop in
+    omega (arith, loop .inv .few, loop .inv .gathering .moved .inList .within)
 
 loop-less : tie.Need-loop-less Inv-loop μ-loop
 loop-less c =
-    let args = c .before .before .before .before .before .before .before .before .before .before .before .args in
-    let loop = c .before .before .before .before .before .before .before .before .loop in
-    let named-field = c .before .before .before .before .before .before .named-field in
+    let args = c .before .before .before .before .before .before .before .before .before .before .before .before .args in
+    let loop = c .before .before .before .before .before .before .before .before .before .loop in
+    let named-field = c .before .before .before .before .before .before .before .named-field in
     let n = rounds-more reading.namedField conserved.namedField-round (loop .inv)
-    (meeting.say (contract.fieldShown (args .s .now) (loop .c)) contract.fieldSaid
-    ((c .before .before .f) .given .1) (named-field .ensures)) (λ v h. (h .0, h .1)) in
-    omega (arith, n .1, n .0 .moved .inList .within)
+    (meeting.say (contract.fieldShown (args .s .now) (contract.point (args .s .now) (loop .c))) contract.fieldSaid
+    ((c .before .before .before .f) .given .1) (named-field .ensures)) (λ v h. (h .0, h .1)) in
+    omega (arith, n .1, n .0 .gathering .moved .inList .within)
 
 loop-again : tie.Need-loop-again Inv-loop μ-loop
 loop-again c =
-    let args = c .before .before .before .before .before .before .before .before .before .before .before .args in
-    let loop = c .before .before .before .before .before .before .before .before .loop in
-    let named-field = c .before .before .before .before .before .before .named-field in
+    let args = c .before .before .before .before .before .before .before .before .before .before .before .before .args in
+    let loop = c .before .before .before .before .before .before .before .before .before .loop in
+    let named-field = c .before .before .before .before .before .before .before .named-field in
     rounds-more reading.namedField conserved.namedField-round (loop .inv)
-    (meeting.say (contract.fieldShown (args .s .now) (loop .c)) contract.fieldSaid ((c .before .before .f) .given .1)
+    (meeting.say (contract.fieldShown (args .s .now) (contract.point (args .s .now) (loop .c))) contract.fieldSaid ((c .before .before .before .f) .given .1)
     (named-field .ensures))
     (λ v h. (h .0, h .1)) .0
 
-enum-known-d : tie.Need-enum-known-d Inv-loop μ-loop
-enum-known-d c = search needs
+enum-known-p : tie.Need-enum-known-p Inv-loop μ-loop
+enum-known-p c = search needs
 
 same-length : tie.Need-same-length Inv-loop μ-loop
 same-length c =
-    let loop = c .before .before .before .before .before .before .before .loop in
-    let named-field = c .before .before .before .before .before .named-field in
-    named-field .kept .1 .1 .0 ∙ rounds-length (loop .inv)
+    let loop = c .before .before .before .before .before .before .before .before .loop in
+    let named-field = c .before .before .before .before .before .before .named-field in
+    named-field .kept .1 .1 .0 ∙ gathering-length (loop .inv .gathering)
 
 returns : tie.Need-returns Inv-loop μ-loop
 returns c =
-    let args = c .before .before .before .before .before .before .before .before .before .before .args in
-    let loop = c .before .before .before .before .before .before .before .loop in
-    let named-field = c .before .before .before .before .before .named-field in
+    let args = c .before .before .before .before .before .before .before .before .before .before .before .args in
+    let loop = c .before .before .before .before .before .before .before .before .loop in
+    let named-field = c .before .before .before .before .before .before .named-field in
     rounds-done reading.namedField conserved.namedField-round (loop .inv)
-    (meeting.say (contract.fieldShown (args .s .now) (loop .c)) contract.fieldSaid ((c .before .d) .given .1)
+    (meeting.say (contract.fieldShown (args .s .now) (contract.point (args .s .now) (loop .c))) contract.fieldSaid ((c .before .before .p) .given .1)
     (named-field .ensures))
-    (λ v h. h)
+    (λ v h. h .0)
 
 enum-known-r : tie.Need-enum-known-r Inv-loop μ-loop
 enum-known-r c = search needs
@@ -79,7 +79,7 @@ same-length-2 : tie.Need-same-length-2 Inv-loop μ-loop
 same-length-2 c =
     let loop = c .before .before .before .before .before .before .before .loop in
     let named-field = c .before .before .before .before .before .named-field in
-    named-field .kept .1 .1 .0 ∙ rounds-length (loop .inv)
+    named-field .kept .1 .1 .0 ∙ gathering-length (loop .inv .gathering)
 
 returns-2 : tie.Need-returns-2 Inv-loop μ-loop
 returns-2 c =
@@ -87,7 +87,7 @@ returns-2 c =
     let loop = c .before .before .before .before .before .before .before .loop in
     let named-field = c .before .before .before .before .before .named-field in
     rounds-refused reading.namedField conserved.namedField-round (loop .inv)
-    (meeting.say (contract.fieldShown (args .s .now) (loop .c)) contract.fieldSaid ((c .before .r) .given .1)
+    (meeting.say (contract.fieldShown (args .s .now) (contract.point (args .s .now) (loop .c))) contract.fieldSaid ((c .before .r) .given .1)
     (named-field .ensures))
 
 pub parse-with-name-spec : {M : Type 1} → statement M
@@ -102,7 +102,7 @@ parse-with-name-spec =
     add-count
     loop-less
     loop-again
-    enum-known-d
+    enum-known-p
     same-length
     returns
     enum-known-r

@@ -1,41 +1,46 @@
-use Rattle.parse.proofs.Bodies as bodies
-use Rattle.reading.specs.Took.{Reader, after, _>>=_}
-use Rattle.token_list.specs.Stream.{Trees}
-use Prim.Native.Nat.{ℕ}
 use Rattle.parse.proofs.Meeting as meeting
 use Rattle.parse.specs.Contract as contract
 use Rattle.reading.specs.Reading as reading
-use mathlib.Core.Path.{_≡_, refl, sym}
+use Rattle.parse.proofs.Bodies as bodies
+use Rattle.reading.specs.Took.{Reader, _>>=_, Point}
+use Rattle.reading.specs.Declaration.{Visibility, UnnamedField}
+use Rattle.reading.specs.Role as role
+use Rattle.token_list.specs.Stream.{Trees}
+use mathlib.Core.List.{List}
+use mathlib.Core.Path.{refl, subst}
 use borrow.Author.Needs.{needs}
 use Rattle.parse.proofs.fields.tuple_type.Statement.{statement}
 use Rattle.parse.proofs.fields.tuple_type.Tie as tie
 
-abbrev typed : Unit {0} → Reader (reading.Maybe Trees)
-typed v = reading.run reading.fieldStops 18 >>= λ t. reading.comma t
+abbrev made : contract.Prefix → Trees → UnnamedField
+made p t = record { attributes = p .attributes; visibility = p .visibility; type = t }
 
-split : (row : ℕ) (ts : Trees) → reading.tupleType row ts ≡ after row (contract.fieldPrefix row ts) typed
-split row ts = sym (meeting.after-assoc row (reading.attributes row ts) (λ a. reading.visibility) typed)
+abbrev type-then : List Trees → Visibility → Reader (reading.Maybe UnnamedField)
+type-then a v = reading.run reading.fieldStops role.type >>= λ t. reading.comma (made (record { attributes = a; visibility = v }) t)
 
-field-start-requires : tie.Need-field-start-requires
-field-start-requires c κs = search needs
+take-prefix-requires : tie.Need-take-prefix-requires
+take-prefix-requires c κs = search needs
 
 enum-known-r : tie.Need-enum-known-r
 enum-known-r c = search needs
 
-enum-known-d : tie.Need-enum-known-d
-enum-known-d c = search needs
+enum-known-prefix : tie.Need-enum-known-prefix
+enum-known-prefix c = search needs
 
 field-type-requires : tie.Need-field-type-requires
 field-type-requires c κs =
-    let field-start = c .before .before .before .before .before .before .field-start in
-    meeting.landed
-    (meeting.say (λ x. contract.any) contract.stepSaid ((c .before .before .d) .given .1) (field-start .ensures))
+    let args = c .before .before .before .before .before .before .before .before .before .before .before .args in
+    let prefix = c .before .before .before .prefix in
+    let take-prefix = c .before .before .before .before .before .before .before .take-prefix in
+    let prefixed = meeting.say (contract.prefixShown (args .s .now) (contract.point (args .s .now) (args .c)))
+    contract.prefixSaid (prefix .given .1) (take-prefix .ensures) in
+    meeting.landed prefixed
 
 enum-known-r-2 : tie.Need-enum-known-r-2
 enum-known-r-2 c = search needs
 
-enum-known-e : tie.Need-enum-known-e
-enum-known-e c = search needs
+enum-known-typed : tie.Need-enum-known-typed
+enum-known-typed c = search needs
 
 same-length : tie.Need-same-length
 same-length c = search needs
@@ -43,61 +48,75 @@ same-length c = search needs
 returns : tie.Need-returns
 returns c =
     let args = c .before .before .before .before .before .before .before .before .before .args in
-    let field-start = c .before .before .before .before .before .field-start in
-    meeting.meets-as (split (args .c .row) (contract.stream (args .s .now) (args .c)))
-    (meeting.meets-no typed
-    (meeting.say (λ x. contract.any) contract.stepSaid ((c .before .r) .given .1) (field-start .ensures)))
+    let r = c .before .r in
+    let take-prefix = c .before .before .before .before .before .take-prefix in
+    let prefixed = meeting.say (contract.prefixShown (args .s .now) (contract.point (args .s .now) (args .c)))
+    contract.prefixSaid (r .given .1) (take-prefix .ensures) in
+    meeting.meets-as (bodies.prefix-then (args .c .row) (contract.stream (args .s .now) (args .c)) type-then)
+    (meeting.meets-no _ prefixed)
 
 same-length-2 : tie.Need-same-length-2
 same-length-2 c = search needs
 
 returns-2 : tie.Need-returns-2
 returns-2 c =
-    let args = c .before .before .before .before .before .before .before .before .before .before .before .before .before .before .before .before .args in
-    let field-start = c .before .before .before .before .before .before .before .before .before .before .before .before .field-start in
-    let d-2 = c .before .before .before .before .before .before .before .before .d in
+    let args = c .before .before .before .before .before .before .before .before .before .before .before .before .before .before .before .before .before .args in
+    let prefix = c .before .before .before .before .before .before .before .before .before .prefix in
+    let take-prefix = c .before .before .before .before .before .before .before .before .before .before .before .before .before .take-prefix in
+    let r2 = c .before .r2 in
     let field-type = c .before .before .before .before .before .field-type in
-    let d = d-2 .given .0 .0 in
-    meeting.meets-as (split (args .c .row) (contract.stream (args .s .now) (args .c)))
-    (meeting.meets-then typed
-    (meeting.say (λ x. contract.any) contract.stepSaid (d-2 .given .1) (field-start .ensures))
-    (λ u h.
-    meeting.meets-as
-    (bodies.comma-as (d .row) (reading.run reading.fieldStops 18 (d .row) (contract.stream (args .s .now) d))
-    (λ f. f))
+    let prefixed = meeting.say (contract.prefixShown (args .s .now) (contract.point (args .s .now) (args .c)))
+    contract.prefixSaid (prefix .given .1) (take-prefix .ensures) in
+    let d = prefix .given .0 .0 .next in
+    meeting.meets-as (bodies.prefix-then (args .c .row) (contract.stream (args .s .now) (args .c)) type-then)
+    (meeting.meets-then _ prefixed
+    (λ p h. meeting.meets-as
+    (bodies.comma-as (d .row) (reading.run reading.fieldStops role.type (d .row) (contract.stream (args .s .now) d))
+    (made p))
     (meeting.meets-no _
-    (meeting.say (λ x. contract.any) contract.stepSaid ((c .before .r2) .given .1) (field-type .ensures)))))
+    (meeting.say (contract.typeAtShown (args .s .now) (contract.point (args .s .now) d)) contract.typeSaid
+    (r2 .given .1) (field-type .ensures)))))
 
 same-length-3 : tie.Need-same-length-3
 same-length-3 c = search needs
 
 returns-3 : tie.Need-returns-3
 returns-3 c =
-    let args = c .before .before .before .before .before .before .before .before .before .before .before .before .before .before .before .before .args in
-    let field-start = c .before .before .before .before .before .before .before .before .before .before .before .before .field-start in
-    let d-2 = c .before .before .before .before .before .before .before .before .d in
-    let field-type = c .before .before .before .before .before .field-type in
-    let d = d-2 .given .0 .0 in
-    meeting.meets-as (split (args .c .row) (contract.stream (args .s .now) (args .c)))
-    (meeting.meets-then typed
-    (meeting.say (λ x. contract.any) contract.stepSaid (d-2 .given .1) (field-start .ensures))
-    (λ u h.
-    meeting.meets-as
-    (bodies.comma-as (d .row) (reading.run reading.fieldStops 18 (d .row) (contract.stream (args .s .now) d))
-    (λ f. f))
-    (meeting.meets-map (d .row) (λ f. reading.one f) (λ f k. (f, refl))
-    (meeting.say (λ x. contract.any) contract.stepSaid ((c .before .e) .given .1) (field-type .ensures)))))
+    let args = c .before .before .before .before .before .before .before .before .before .before .before .before .before .before .before .before .before .before .before .args in
+    let prefix = c .before .before .before .before .before .before .before .before .before .before .before .prefix in
+    let take-prefix = c .before .before .before .before .before .before .before .before .before .before .before .before .before .before .before .take-prefix in
+    let typed = c .before .before .before .typed in
+    let field-type = c .before .before .before .before .before .before .before .field-type in
+    let prefixed = meeting.say (contract.prefixShown (args .s .now) (contract.point (args .s .now) (args .c)))
+    contract.prefixSaid (prefix .given .1) (take-prefix .ensures) in
+    let d = prefix .given .0 .0 .next in
+    meeting.meets-as (bodies.prefix-then (args .c .row) (contract.stream (args .s .now) (args .c)) type-then)
+    (meeting.meets-then _ prefixed
+    (λ p h. meeting.meets-as
+    (bodies.comma-as (d .row) (reading.run reading.fieldStops role.type (d .row) (contract.stream (args .s .now) d))
+    (made p))
+    (meeting.meets-map (d .row) (λ f. reading.one (made p f))
+    (λ f k. (
+      made p f,
+      refl,
+      record {
+        prefix = h;
+        type = subst (λ (x : Point). contract.RunAt (args .s .now) reading.fieldStops role.type x (typed .given .0 .0 .run) f) (h .next .here) k;
+      },
+    ))
+    (meeting.say (contract.typeAtShown (args .s .now) (contract.point (args .s .now) d)) contract.typeSaid
+    (typed .given .1) (field-type .ensures)))))
 
 pub tuple-type-spec : {M : Type 1} → statement M
 tuple-type-spec =
     tie.close
     (tie.spec
-    field-start-requires
+    take-prefix-requires
     enum-known-r
-    enum-known-d
+    enum-known-prefix
     field-type-requires
     enum-known-r-2
-    enum-known-e
+    enum-known-typed
     same-length
     returns
     same-length-2

@@ -1,68 +1,98 @@
-use Rattle.reading.specs.Took.{Reader}
-use Rattle.token_list.specs.Stream.{Trees}
 use Rattle.parse.proofs.Meeting as meeting
 use Rattle.parse.specs.Contract as contract
 use Rattle.reading.specs.Reading as reading
+use Rattle.parse.proofs.Places as places
+use Rattle.reading.specs.Took.{Reader, Point}
+use Rattle.reading.specs.Role as role
+use Rattle.token_list.specs.Stream.{Trees, end}
 use mathlib.Core.Bool.{Bool}
-use mathlib.Core.Path.{sym, _∙_, ap}
+use mathlib.Core.Path.{refl, sym, _∙_, ap, subst}
+use borrow.Author.Tests.{not-true, not-false}
 use borrow.Author.Needs.{needs}
 use Rattle.parse.proofs.generics.marked_run.Statement.{statement}
 use Rattle.parse.proofs.generics.marked_run.Tie as tie
 
 abbrev runOr : Bool → Reader Trees
-runOr t = reading.runIf t reading.parameterStops 11
+runOr t = reading.runIf t reading.parameterStops role.bound
 
 consume-punct-if-requires : tie.Need-consume-punct-if-requires
 consume-punct-if-requires c κs = search needs
-
-parameter-run-requires : tie.Need-parameter-run-requires
-parameter-run-requires c κs =
-    let consume-punct-if = c .before .before .before .before .before .consume-punct-if in
-    meeting.landed (consume-punct-if .ensures)
 
 same-length : tie.Need-same-length
 same-length c = search needs
 
 returns : tie.Need-returns
 returns c =
-    let args =
-    c .before .before .before .before .before .before .before .before .before .before .before .before .args in
-    let consume-punct-if = c .before .before .before .before .before .before .before .before .consume-punct-if in
-    let if1 = c .before .before .before .before .if1 in
-    meeting.meets-then runOr (consume-punct-if .ensures)
-    (λ t e.
-    meeting.meets-as
-    (ap
-    (λ x.
-    runOr x (consume-punct-if .result .next .row)
-    (contract.stream (args .s .now) (consume-punct-if .result .next)))
-    (sym e ∙ if1 .taken))
-    ((c .before .before .parameter-run) .ensures))
+    let args = c .before .before .before .before .before .before .before .before .args in
+    let if1 = c .if1 in
+    let consume-punct-if = c .before .before .before .before .consume-punct-if in
+    let none = not-true _ (if1 .taken) in
+    let stays = consume-punct-if .ensures .1 .1 none in
+    meeting.meets-say (ap contract.on stays)
+    (meeting.meets-then runOr (consume-punct-if .ensures .0)
+    (λ t e. meeting.meets-as (ap (λ x. runOr x (consume-punct-if .result .next .row) (contract.stream (args .s .now) (consume-punct-if .result .next))) (sym e ∙ none))
+    (meeting.meets-stay _ _ _ _ _ (meeting.landed (consume-punct-if .ensures .0))
+    (sym (consume-punct-if .ensures .1 .0) ∙ none, refl))))
+
+read-tokens-until-punct-requires : tie.Need-read-tokens-until-punct-requires
+read-tokens-until-punct-requires c κs =
+    let consume-punct-if = c .before .before .before .before .before .before .consume-punct-if in
+    meeting.landed (consume-punct-if .ensures .0)
+
+enum-known-r : tie.Need-enum-known-r
+enum-known-r c = search needs
+
+enum-known-r-2 : tie.Need-enum-known-r-2
+enum-known-r-2 c = search needs
 
 same-length-2 : tie.Need-same-length-2
 same-length-2 c = search needs
 
 returns-2 : tie.Need-returns-2
 returns-2 c =
-    let args = c .before .before .before .before .before .before .before .before .args in
-    let consume-punct-if = c .before .before .before .before .consume-punct-if in
-    meeting.meets-then runOr (consume-punct-if .ensures)
-    (λ t e.
-    meeting.meets-as
-    (ap
-    (λ x.
-    runOr x (consume-punct-if .result .next .row)
-    (contract.stream (args .s .now) (consume-punct-if .result .next)))
-    (sym e ∙ (c .if1) .left))
-    (meeting.meets-stay _ _ _ _ _ (meeting.landed (consume-punct-if .ensures)) tt))
+    let consume-punct-if = c .before .before .before .before .before .before .before .before .before .before .before .before .consume-punct-if in
+    let if1 = c .before .before .before .before .before .before .before .before .if1 in
+    let args = c .before .before .before .before .before .before .before .before .before .before .before .before .before .before .before .before .args in
+    let r = c .before .r in
+    let read-tokens-until-punct = c .before .before .before .before .before .read-tokens-until-punct in
+    let there = sym (consume-punct-if .ensures .1 .0) ∙ not-false _ (if1 .left) in
+    let run = meeting.say (contract.runShown (args .s .now) reading.parameterStops role.bound
+    (contract.point (args .s .now) (consume-punct-if .result .next))) contract.runSaid (r .given .1)
+    (read-tokens-until-punct .ensures) in
+    let past = places.meets-beyond (reading.punctIf (args .punct) role.separator) (consume-punct-if .ensures .0) .here ∙
+    places.punct-past (args .punct) role.separator (contract.point (args .s .now) (args .c)) there in
+    meeting.meets-then runOr (consume-punct-if .ensures .0)
+    (λ t e. meeting.meets-as (ap (λ x. runOr x (consume-punct-if .result .next .row) (contract.stream (args .s .now) (consume-punct-if .result .next))) (sym e ∙ not-false _ (if1 .left)))
+    (meeting.meets-show
+    (λ v h. (there, subst (λ (x : Point). contract.RunAt (args .s .now) reading.parameterStops role.bound x (r .given .0 .0) v) past h)) run))
+
+same-length-3 : tie.Need-same-length-3
+same-length-3 c = search needs
+
+returns-3 : tie.Need-returns-3
+returns-3 c =
+    let args = c .before .before .before .before .before .before .before .before .before .before .before .before .before .before .before .before .args in
+    let consume-punct-if = c .before .before .before .before .before .before .before .before .before .before .before .before .consume-punct-if in
+    let r2 = c .before .r2 in
+    let read-tokens-until-punct = c .before .before .before .before .before .read-tokens-until-punct in
+    let if1 = c .before .before .before .before .before .before .before .before .if1 in
+    let run = meeting.say (contract.runShown (args .s .now) reading.parameterStops role.bound
+    (contract.point (args .s .now) (consume-punct-if .result .next))) contract.runSaid (r2 .given .1)
+    (read-tokens-until-punct .ensures) in
+    meeting.meets-then runOr (consume-punct-if .ensures .0)
+    (λ t e. meeting.meets-as (ap (λ x. runOr x (consume-punct-if .result .next .row) (contract.stream (args .s .now) (consume-punct-if .result .next))) (sym e ∙ not-false _ (if1 .left))) (meeting.meets-none run))
 
 pub marked-run-spec : {M : Type 1} → statement M
 marked-run-spec =
     tie.close
     (tie.spec
     consume-punct-if-requires
-    parameter-run-requires
     same-length
     returns
+    read-tokens-until-punct-requires
+    enum-known-r
+    enum-known-r-2
     same-length-2
-    returns-2)
+    returns-2
+    same-length-3
+    returns-3)

@@ -1,31 +1,24 @@
-use Rattle.reading.specs.Took.{Reader, pure, _>>=_}
-use Rattle.reading.specs.Declaration.{Parameter}
-use Rattle.token_list.specs.declared.stream.Token.{Token}
-use Rattle.token_list.specs.Stream.{Trees}
-use Prim.Native.Nat.{ℕ}
-use mathlib.Core.List.{List}
 use Rattle.parse.proofs.Meeting as meeting
 use Rattle.parse.specs.Contract as contract
 use Rattle.reading.specs.Reading as reading
-use mathlib.Core.Bool.{Bool, true, false}
-use mathlib.Core.Path.{refl}
+use Rattle.parse.proofs.Parameters.{made-of, made-run}
+use Rattle.parse.specs.declared.generics.ParameterKind.{ParameterKind}
+use Rattle.reading.specs.Took.{Reader, pure, _>>=_, Point}
+use Rattle.reading.specs.Declaration.{Parameter}
+use Rattle.token_list.specs.Byte.{COLON}
+use Rattle.token_list.specs.Stream.{Trees, end}
+use Prim.Native.Nat.{ℕ}
+use mathlib.Core.List.{List}
+use mathlib.Core.Path.{sym, subst}
 use borrow.Author.Needs.{needs}
 use Rattle.parse.proofs.generics.named_parameter.Statement.{statement}
 use Rattle.parse.proofs.generics.named_parameter.Tie as tie
 
-abbrev last : Bool → List ℕ → Trees → Reader (reading.Maybe Parameter)
-last l x b = pure (contract.parameterMade l x b) >>= reading.comma
+abbrev made : ParameterKind → List ℕ → Reader Parameter
+made k x = reading.marked-run COLON >>= λ b. pure (contract.parameterMade k x b)
 
-abbrev made : Bool → List ℕ → Reader Parameter
-made l x = reading.marked-run 58 >>= λ b. pure (contract.parameterMade l x b)
-
-abbrev rest : Bool → List ℕ → Reader (reading.Maybe Parameter)
-rest l x = made l x >>= reading.comma
-
-made-as : (s : List ℕ) (l : Bool) (name : Token) (x : List ℕ) (b : Trees) → contract.TextOf s name x →
-    contract.ParameterOf s l name (contract.parameterMade l x b)
-made-as s true name x b h = record { kind = refl; text = h }
-made-as s false name x b h = record { kind = refl; text = h }
+abbrev rest : ParameterKind → List ℕ → Reader (reading.Maybe Parameter)
+rest k x = made k x >>= reading.comma
 
 parameter-name-requires : tie.Need-parameter-name-requires
 parameter-name-requires c κs = search needs
@@ -36,26 +29,28 @@ enum-known-r c = search needs
 enum-known-name : tie.Need-enum-known-name
 enum-known-name c = search needs
 
-marked-run-requires : tie.Need-marked-run-requires
-marked-run-requires c κs =
+bounds-requires : tie.Need-bounds-requires
+bounds-requires c κs =
     let args = c .before .before .before .before .before .before .before .before .before .before .args in
+    let name = c .before .before .name in
     let parameter-name = c .before .before .before .before .before .before .parameter-name in
-    meeting.landed
-    (meeting.say (contract.nameShown (args .s .now) (args .c .row)) contract.nameSaid
-    ((c .before .before .name) .given .1)
-    (parameter-name .ensures))
+    meeting.landed (meeting.say (contract.nameShown (args .s .now) (contract.point (args .s .now) (args .c)))
+    contract.nameSaid (name .given .1) (parameter-name .ensures))
 
 enum-known-r-2 : tie.Need-enum-known-r-2
 enum-known-r-2 c = search needs
 
-enum-known-e : tie.Need-enum-known-e
-enum-known-e c = search needs
+enum-known-run : tie.Need-enum-known-run
+enum-known-run c = search needs
 
-finished-requires : tie.Need-finished-requires
-finished-requires c κs =
-    let marked-run = c .before .before .before .before .before .before .marked-run in
-    meeting.landed
-    (meeting.say (λ x. contract.any) contract.stepSaid ((c .before .before .e) .given .1) (marked-run .ensures))
+parameter-end-requires : tie.Need-parameter-end-requires
+parameter-end-requires c κs =
+    let args = c .before .before .before .before .before .before .before .before .before .before .before .before .before .before .before .before .before .args in
+    let name = c .before .before .before .before .before .before .before .before .before .name in
+    let run = c .before .before .run in
+    let bounds = c .before .before .before .before .before .before .bounds in
+    meeting.landed (meeting.say (contract.boundShown (args .s .now) (contract.point (args .s .now)
+    (name .given .0 .1 .0))) contract.parameterRunSaid (run .given .1) (bounds .ensures))
 
 same-length : tie.Need-same-length
 same-length c = search needs
@@ -63,14 +58,14 @@ same-length c = search needs
 returns : tie.Need-returns
 returns c =
     let args = c .before .before .before .before .before .before .before .before .before .args in
+    let r = c .before .r in
     let parameter-name = c .before .before .before .before .before .parameter-name in
-    meeting.meets-as
-    (meeting.after-assoc (args .c .row)
+    let named = meeting.say (contract.nameShown (args .s .now) (contract.point (args .s .now) (args .c)))
+    contract.nameSaid (r .given .1) (parameter-name .ensures) in
+    meeting.meets-as (meeting.after-assoc (args .c .row)
     (reading.parameterName (args .number) (args .or) (args .c .row) (contract.stream (args .s .now) (args .c)))
-    (made (args .lifetime)) reading.comma)
-    (meeting.meets-no (rest (args .lifetime))
-    (meeting.say (contract.nameShown (args .s .now) (args .c .row)) contract.nameSaid ((c .before .r) .given .1)
-    (parameter-name .ensures)))
+    (made (args .kind)) reading.comma)
+    (meeting.meets-no (rest (args .kind)) named)
 
 same-length-2 : tie.Need-same-length-2
 same-length-2 c = search needs
@@ -78,23 +73,23 @@ same-length-2 c = search needs
 returns-2 : tie.Need-returns-2
 returns-2 c =
     let args = c .before .before .before .before .before .before .before .before .before .before .before .before .before .before .before .before .args in
-    let parameter-name = c .before .before .before .before .before .before .before .before .before .before .before .before .parameter-name in
     let name = c .before .before .before .before .before .before .before .before .name in
-    let marked-run = c .before .before .before .before .before .marked-run in
+    let parameter-name = c .before .before .before .before .before .before .before .before .before .before .before .before .parameter-name in
+    let r2 = c .before .r2 in
+    let bounds = c .before .before .before .before .before .bounds in
+    let named = meeting.say (contract.nameShown (args .s .now) (contract.point (args .s .now) (args .c)))
+    contract.nameSaid (name .given .1) (parameter-name .ensures) in
     let d = name .given .0 .1 .0 in
-    meeting.meets-as
-    (meeting.after-assoc (args .c .row)
+    let bound = meeting.say (contract.boundShown (args .s .now) (contract.point (args .s .now) d))
+    contract.parameterRunSaid (r2 .given .1) (bounds .ensures) in
+    meeting.meets-as (meeting.after-assoc (args .c .row)
     (reading.parameterName (args .number) (args .or) (args .c .row) (contract.stream (args .s .now) (args .c)))
-    (made (args .lifetime)) reading.comma)
-    (meeting.meets-then (rest (args .lifetime))
-    (meeting.say (contract.nameShown (args .s .now) (args .c .row)) contract.nameSaid (name .given .1)
-    (parameter-name .ensures))
-    (λ x h.
-    meeting.meets-as
-    (meeting.after-assoc (d .row) (reading.marked-run 58 (d .row) (contract.stream (args .s .now) d))
-    (λ b. pure (contract.parameterMade (args .lifetime) x b)) reading.comma)
-    (meeting.meets-no (last (args .lifetime) x)
-    (meeting.say (λ x. contract.any) contract.stepSaid ((c .before .r2) .given .1) (marked-run .ensures)))))
+    (made (args .kind)) reading.comma)
+    (meeting.meets-then (rest (args .kind)) named
+    (λ x h. meeting.meets-as
+    (meeting.after-pure (d .row) (reading.marked-run COLON (d .row) (contract.stream (args .s .now) d))
+    (contract.parameterMade (args .kind) x) reading.comma)
+    (meeting.meets-no _ bound)))
 
 same-length-3 : tie.Need-same-length-3
 same-length-3 c = search needs
@@ -102,33 +97,29 @@ same-length-3 c = search needs
 returns-3 : tie.Need-returns-3
 returns-3 c =
     let args = c .before .before .before .before .before .before .before .before .before .before .before .before .before .before .before .before .before .before .before .before .args in
+    let name = c .before .before .before .before .before .before .before .before .before .before .before .before .name in
     let parameter-name = c .before .before .before .before .before .before .before .before .before .before .before .before .before .before .before .before .parameter-name in
-    let name =
-    c .before .before .before .before .before .before .before .before .before .before .before .before .name in
-    let marked-run = c .before .before .before .before .before .before .before .before .before .marked-run in
-    let e = c .before .before .before .before .before .e in
+    let run = c .before .before .before .before .before .run in
+    let bounds = c .before .before .before .before .before .before .before .before .before .bounds in
+    let parameter-end = c .before .before .parameter-end in
+    let named = meeting.say (contract.nameShown (args .s .now) (contract.point (args .s .now) (args .c)))
+    contract.nameSaid (name .given .1) (parameter-name .ensures) in
     let d = name .given .0 .1 .0 in
-    meeting.meets-as
-    (meeting.after-assoc (args .c .row)
+    let kind = args .kind in
+    let bound = meeting.say (contract.boundShown (args .s .now) (contract.point (args .s .now) d))
+    contract.parameterRunSaid (run .given .1) (bounds .ensures) in
+    meeting.meets-as (meeting.after-assoc (args .c .row)
     (reading.parameterName (args .number) (args .or) (args .c .row) (contract.stream (args .s .now) (args .c)))
-    (made (args .lifetime)) reading.comma)
-    (meeting.meets-then (rest (args .lifetime))
-    (meeting.say (contract.nameShown (args .s .now) (args .c .row)) contract.nameSaid (name .given .1)
-    (parameter-name .ensures))
-    (λ x h.
-    meeting.meets-as
-    (meeting.after-assoc (d .row) (reading.marked-run 58 (d .row) (contract.stream (args .s .now) d))
-    (λ b. pure (contract.parameterMade (args .lifetime) x b)) reading.comma)
-    (meeting.meets-then (last (args .lifetime) x)
-    (meeting.say (λ x. contract.any) contract.stepSaid (e .given .1) (marked-run .ensures))
+    (made kind) reading.comma)
+    (meeting.meets-then (rest kind) named
+    (λ x h. meeting.meets-as
+    (meeting.after-pure (d .row) (reading.marked-run COLON (d .row) (contract.stream (args .s .now) d))
+    (contract.parameterMade kind x) reading.comma)
+    (meeting.meets-then (λ b. reading.comma (contract.parameterMade kind x b)) bound
     (λ b u.
-    meeting.meets-then reading.comma
-    (meeting.meets-stay _ _ _ (contract.ParameterOf (args .s .now) (args .lifetime) (name .given .0 .0))
-    _
-    (meeting.landed
-    (meeting.say (λ x. contract.any) contract.stepSaid (e .given .1) (marked-run .ensures)))
-    (made-as (args .s .now) (args .lifetime) (name .given .0 .0) x b (h .0)))
-    (λ a k. (c .before .before .finished) .ensures a (args .c .row) k (h .1))))))
+    let here = subst (λ (p : Point). contract.ParameterRunAt (args .s .now) p b end (run .given .0 .0)) (h .2 .here) u in
+    parameter-end .ensures (contract.parameterMade kind x b) (contract.point (args .s .now) (args .c))
+    (made-of (args .s .now) x b kind (h .0)) (h .1) (made-run (args .s .now) x b kind _ (run .given .0 .0) here)))))
 
 pub named-parameter-spec : {M : Type 1} → statement M
 named-parameter-spec =
@@ -137,10 +128,10 @@ named-parameter-spec =
     parameter-name-requires
     enum-known-r
     enum-known-name
-    marked-run-requires
+    bounds-requires
     enum-known-r-2
-    enum-known-e
-    finished-requires
+    enum-known-run
+    parameter-end-requires
     same-length
     returns
     same-length-2

@@ -72,6 +72,7 @@ returns-4 c =
             (t .given .1)) .token);
       },
       places.token-in _ _ _ pre ((meeting.peeked _ _ (peek .ensures) (t .given .1)) .token),
+      places.token-past _ _ _ _ pre (meeting.peeked _ _ (peek .ensures) (t .given .1)) (take-token .ensures .0),
     )
 
 pub parameter-name-spec : {M : Type 1} → statement M

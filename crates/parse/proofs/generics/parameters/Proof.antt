@@ -1,5 +1,5 @@
-use Rattle.reading.specs.Place.{parameterNameRow}
-use Rattle.parse.proofs.Loops.{Rounded, rounds-start, rounds-more, rounds-done, rounds-refused, rounds-length}
+use Rattle.reading.specs.Place.{parameterNameAt}
+use Rattle.parse.proofs.Loops.{Rounded, rounds-start, rounds-more, rounds-done, rounds-refused, gathering-length}
 use Rattle.reading.proofs.Conserved as conserved
 use lib.ListN.{length}
 use Prim.Native.Nat.{_-_}
@@ -24,7 +24,7 @@ loop-holds : tie.Need-loop-holds Inv-loop μ-loop
 loop-holds c = rounds-start _ _ _ _ (c .before .before .pre)
 
 parameter-requires : tie.Need-parameter-requires Inv-loop μ-loop
-parameter-requires c κs = (c .before .loop) .inv .moved .inList
+parameter-requires c κs = (c .before .loop) .inv .gathering .moved .inList
 
 enum-known-p : tie.Need-enum-known-p Inv-loop μ-loop
 enum-known-p c = search needs
@@ -32,7 +32,7 @@ enum-known-p c = search needs
 add-count : tie.Need-add-count Inv-loop μ-loop
 add-count c =
     let loop = c .before .before .before .before .before .before .before .before .loop in
-    omega (arith, loop .inv .few, loop .inv .moved .inList .within)
+    omega (arith, loop .inv .few, loop .inv .gathering .moved .inList .within)
 
 loop-less : tie.Need-loop-less Inv-loop μ-loop
 loop-less c =
@@ -41,9 +41,9 @@ loop-less c =
     let parameter = c .before .before .before .before .before .before .parameter in
     let n = rounds-more (reading.parameter (args .angle)) (conserved.parameter-round (args .angle)) (loop .inv)
     (meeting.say (contract.parameterShown (args .s .now)
-    (parameterNameRow (contract.point (args .s .now) (loop .c)))) contract.parameterSaid
+    (parameterNameAt (contract.point (args .s .now) (loop .c)))) contract.parameterSaid
     ((c .before .before .p) .given .1) (parameter .ensures)) (λ v h. (h .0, h .1)) in
-    omega (arith, n .1, n .0 .moved .inList .within)
+    omega (arith, n .1, n .0 .gathering .moved .inList .within)
 
 loop-again : tie.Need-loop-again Inv-loop μ-loop
 loop-again c =
@@ -51,7 +51,7 @@ loop-again c =
     let loop = c .before .before .before .before .before .before .before .before .loop in
     let parameter = c .before .before .before .before .before .before .parameter in
     rounds-more (reading.parameter (args .angle)) (conserved.parameter-round (args .angle)) (loop .inv)
-    (meeting.say (contract.parameterShown (args .s .now) (parameterNameRow (contract.point (args .s .now) (loop .c))))
+    (meeting.say (contract.parameterShown (args .s .now) (parameterNameAt (contract.point (args .s .now) (loop .c))))
     contract.parameterSaid ((c .before .before .p) .given .1)
     (parameter .ensures))
     (λ v h. (h .0, h .1)) .0
@@ -63,7 +63,7 @@ same-length : tie.Need-same-length Inv-loop μ-loop
 same-length c =
     let loop = c .before .before .before .before .before .before .before .loop in
     let parameter = c .before .before .before .before .before .parameter in
-    parameter .kept .1 .1 .0 ∙ rounds-length (loop .inv)
+    parameter .kept .1 .1 .0 ∙ gathering-length (loop .inv .gathering)
 
 returns : tie.Need-returns Inv-loop μ-loop
 returns c =
@@ -71,7 +71,7 @@ returns c =
     let loop = c .before .before .before .before .before .before .before .loop in
     let parameter = c .before .before .before .before .before .parameter in
     rounds-done (reading.parameter (args .angle)) (conserved.parameter-round (args .angle)) (loop .inv)
-    (meeting.say (contract.parameterShown (args .s .now) (parameterNameRow (contract.point (args .s .now) (loop .c))))
+    (meeting.say (contract.parameterShown (args .s .now) (parameterNameAt (contract.point (args .s .now) (loop .c))))
     contract.parameterSaid ((c .before .d) .given .1)
     (parameter .ensures))
     (λ v h. h)
@@ -83,7 +83,7 @@ same-length-2 : tie.Need-same-length-2 Inv-loop μ-loop
 same-length-2 c =
     let loop = c .before .before .before .before .before .before .before .loop in
     let parameter = c .before .before .before .before .before .parameter in
-    parameter .kept .1 .1 .0 ∙ rounds-length (loop .inv)
+    parameter .kept .1 .1 .0 ∙ gathering-length (loop .inv .gathering)
 
 returns-2 : tie.Need-returns-2 Inv-loop μ-loop
 returns-2 c =
@@ -91,7 +91,7 @@ returns-2 c =
     let loop = c .before .before .before .before .before .before .before .loop in
     let parameter = c .before .before .before .before .before .parameter in
     rounds-refused (reading.parameter (args .angle)) (conserved.parameter-round (args .angle)) (loop .inv)
-    (meeting.say (contract.parameterShown (args .s .now) (parameterNameRow (contract.point (args .s .now) (loop .c))))
+    (meeting.say (contract.parameterShown (args .s .now) (parameterNameAt (contract.point (args .s .now) (loop .c))))
     contract.parameterSaid ((c .before .r) .given .1)
     (parameter .ensures))
 

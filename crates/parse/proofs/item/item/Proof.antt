@@ -1,33 +1,38 @@
-use Rattle.parse.proofs.Places as places
-use mathlib.Core.Path.{sym, _∙_, ap, subst}
-use Rattle.reading.specs.Took.{Point, beyond}
-use Rattle.reading.specs.Place.{wordRow}
-use Rattle.reading.specs.Reading as reading
-use Rattle.parse.proofs.Items as items
-use Rattle.parse.specs.Contract.{partsAfter}
 use Rattle.parse.proofs.Meeting as meeting
 use Rattle.parse.specs.Contract as contract
+use Rattle.reading.specs.Reading as reading
 use borrow.Author.Needs.{needs}
+use Rattle.parse.proofs.Places as places
+use Rattle.parse.proofs.Bodies as bodies
+use Rattle.parse.proofs.Items as items
+use Rattle.reading.specs.Took.{Reader, _>>=_, Point, beyond}
+use Rattle.reading.specs.Declaration.{Visibility, Declaration}
+use Rattle.token_list.specs.Stream.{Trees}
+use mathlib.Core.List.{List}
+use mathlib.Core.Path.{sym, _∙_, ap, subst}
 use Rattle.parse.proofs.item.item.Statement.{statement}
 use Rattle.parse.proofs.item.item.Tie as tie
 
-try-take-requires : tie.Need-try-take-requires
-try-take-requires c κs = search needs
+abbrev head-then : List Trees → Visibility → Reader Declaration
+head-then a v = reading.dataType >>= contract.partsAfter (record { attributes = a; visibility = v })
+
+take-prefix-requires : tie.Need-take-prefix-requires
+take-prefix-requires c κs = search needs
 
 enum-known-r : tie.Need-enum-known-r
 enum-known-r c = search needs
 
-enum-known-d : tie.Need-enum-known-d
-enum-known-d c = search needs
-
-try-take-requires-2 : tie.Need-try-take-requires-2
-try-take-requires-2 c κs =
-    let try-take = c .before .before .before .before .before .before .try-take in
-    meeting.landed
-    (meeting.say (λ x. contract.any) contract.stepSaid ((c .before .before .d) .given .1) (try-take .ensures))
+enum-known-prefix : tie.Need-enum-known-prefix
+enum-known-prefix c = search needs
 
 take-requires : tie.Need-take-requires
-take-requires c κs = meeting.landed ((c .before .before .before .try-take2) .ensures)
+take-requires c κs =
+    let args = c .before .before .before .before .before .before .before .before .before .before .before .args in
+    let prefix = c .before .before .before .prefix in
+    let take-prefix = c .before .before .before .before .before .before .before .take-prefix in
+    let prefixed = meeting.say (contract.prefixShown (args .s .now) (contract.point (args .s .now) (args .c)))
+    contract.prefixSaid (prefix .given .1) (take-prefix .ensures) in
+    meeting.landed prefixed
 
 enum-known-r-2 : tie.Need-enum-known-r-2
 enum-known-r-2 c = search needs
@@ -37,91 +42,86 @@ enum-known-h c = search needs
 
 parts-requires : tie.Need-parts-requires
 parts-requires c κs =
-    let args = c .before .before .before .before .before .before .before .before .before .before .before .before .before .before .before .before .before .before .before .before .before .before .before .args in
-    let try-take2 =
-    c .before .before .before .before .before .before .before .before .before .before .before .before .try-take2 in
-    let take = c .before .before .before .before .before .before .before .before .take in
-    let h = c .before .before .before .before .h in
-    meeting.landed (meeting.say (contract.headShown (args .s .now) (try-take2 .result)) contract.headSaid (h .given .1)
-    (take .ensures))
+    let args = c .before .before .before .before .before .before .before .before .before .before .before .before .before .before .before .before .before .before .before .args in
+    let prefix = c .before .before .before .before .before .before .before .before .before .before .before .prefix in
+    let h = c .before .before .before .h in
+    let take = c .before .before .before .before .before .before .before .take in
+    let headed = meeting.say (contract.headShown (args .s .now) (prefix .given .0 .0 .next)) contract.headSaid
+    (h .given .1) (take .ensures) in
+    meeting.landed headed
 
 same-length : tie.Need-same-length
 same-length c = search needs
 
 returns : tie.Need-returns
 returns c =
-    let try-take = c .before .before .before .before .before .try-take in
-    meeting.meets-no _
-    (meeting.say (λ x. contract.any) contract.stepSaid ((c .before .r) .given .1) (try-take .ensures))
+    let args = c .before .before .before .before .before .before .before .before .before .args in
+    let r = c .before .r in
+    let take-prefix = c .before .before .before .before .before .take-prefix in
+    let prefixed = meeting.say (contract.prefixShown (args .s .now) (contract.point (args .s .now) (args .c)))
+    contract.prefixSaid (r .given .1) (take-prefix .ensures) in
+    meeting.meets-as (bodies.prefix-then (args .c .row) (contract.stream (args .s .now) (args .c)) head-then)
+    (meeting.meets-no _ prefixed)
 
 same-length-2 : tie.Need-same-length-2
 same-length-2 c = search needs
 
 returns-2 : tie.Need-returns-2
 returns-2 c =
-    let args = c .before .before .before .before .before .before .before .before .before .before .before .before .before .before .before .before .before .before .before .before .args in
-    let try-take = c .before .before .before .before .before .before .before .before .before .before .before .before .before .before .before .before .try-take in
-    let d = c .before .before .before .before .before .before .before .before .before .before .before .before .d in
-    let try-take2 = c .before .before .before .before .before .before .before .before .before .try-take2 in
+    let args = c .before .before .before .before .before .before .before .before .before .before .before .before .before .before .before .before .before .args in
+    let prefix = c .before .before .before .before .before .before .before .before .before .prefix in
+    let take-prefix = c .before .before .before .before .before .before .before .before .before .before .before .before .before .take-prefix in
+    let r2 = c .before .r2 in
     let take = c .before .before .before .before .before .take in
-    meeting.meets-then _ (meeting.say (λ x. contract.any) contract.stepSaid (d .given .1) (try-take .ensures))
-    (λ a _.
-    meeting.meets-then _ (try-take2 .ensures)
-    (λ v _.
-    meeting.meets-no _
-    (meeting.say (contract.headShown (args .s .now) (try-take2 .result)) contract.headSaid ((c .before .r2) .given .1)
-    (take .ensures))))
+    let prefixed = meeting.say (contract.prefixShown (args .s .now) (contract.point (args .s .now) (args .c)))
+    contract.prefixSaid (prefix .given .1) (take-prefix .ensures) in
+    let headed = meeting.say (contract.headShown (args .s .now) (prefix .given .0 .0 .next)) contract.headSaid
+    (r2 .given .1) (take .ensures) in
+    meeting.meets-as (bodies.prefix-then (args .c .row) (contract.stream (args .s .now) (args .c)) head-then)
+    (meeting.meets-then _ prefixed (λ p k. meeting.meets-no _ headed))
 
 same-length-3 : tie.Need-same-length-3
 same-length-3 c =
-    let try-take = c .before .before .before .before .before .before .before .before .before .before .before .before .before .before .before .before .before .before .before .before .before .before .try-take in
-    let try-take2 = c .before .before .before .before .before .before .before .before .before .before .before .before .before .before .before .try-take2 in
-    let take = c .before .before .before .before .before .before .before .before .before .before .before .take in
-    (c .before .before .parts) .kept .1 .1 .0 ∙ take .kept .1 .1 .0 ∙ try-take2 .kept .1 .1 .0 ∙ try-take .kept .1 .1 .0
+    let parts = c .before .before .parts in
+    let take = c .before .before .before .before .before .before .before .before .before .before .take in
+    let take-prefix = c .before .before .before .before .before .before .before .before .before .before .before .before .before .before .before .before .before .before .take-prefix in
+    parts .kept .1 .1 .1 .1 .0 ∙ take .kept .1 .1 .0 ∙ take-prefix .kept .1 .1 .0
 
 returns-3 : tie.Need-returns-3
 returns-3 c =
-    let args = c .before .before .before .before .before .before .before .before .before .before .before .before .before .before .before .before .before .before .before .before .before .before .before .before .before .before .args in
-    let try-take = c .before .before .before .before .before .before .before .before .before .before .before .before .before .before .before .before .before .before .before .before .before .before .try-take in
-    let d = c .before .before .before .before .before .before .before .before .before .before .before .before .before .before .before .before .before .before .d in
-    let try-take2 = c .before .before .before .before .before .before .before .before .before .before .before .before .before .before .before .try-take2 in
-    let take = c .before .before .before .before .before .before .before .before .before .before .before .take in
-    let h = c .before .before .before .before .before .before .before .h in
+    let args = c .before .before .before .before .before .before .before .before .before .before .before .before .before .before .before .before .before .before .before .before .before .before .args in
+    let prefix = c .before .before .before .before .before .before .before .before .before .before .before .before .before .before .prefix in
+    let take-prefix = c .before .before .before .before .before .before .before .before .before .before .before .before .before .before .before .before .before .before .take-prefix in
+    let h = c .before .before .before .before .before .before .h in
+    let take = c .before .before .before .before .before .before .before .before .before .before .take in
+    let parts = c .before .before .parts in
+    let prefixed = meeting.say (contract.prefixShown (args .s .now) (contract.point (args .s .now) (args .c)))
+    contract.prefixSaid (prefix .given .1) (take-prefix .ensures) in
+    let headed = meeting.say (contract.headShown (args .s .now) (prefix .given .0 .0 .next)) contract.headSaid
+    (h .given .1) (take .ensures) in
     let s = args .s .now in
-    let attributes = meeting.say (λ x. contract.any) contract.stepSaid (d .given .1) (try-take .ensures) in
-    let head = meeting.say (contract.headShown s (try-take2 .result)) contract.headSaid (h .given .1) (take .ensures) in
-    let start =
-    places.meets-beyond reading.visibility (try-take2 .ensures) .here
-    ∙ ap (beyond reading.visibility) (places.meets-beyond reading.attributes attributes .here) in
-    let generics = subst (λ (x : Point). contract.CursorAt s (beyond reading.dataType x) (h .given .0 .0 .next)) start
-    (places.meets-beyond reading.dataType head) in
-    items.item-placed ((c .before .before .parts) .result)
-    (meeting.meets-then _ attributes
-    (λ a _.
-    meeting.meets-then _ (try-take2 .ensures)
-    (λ v _.
-    meeting.meets-then (λ x. partsAfter (x .kind) (x .name)) head
-    (λ x k.
-    let name = subst (λ (y : Point). contract.TokenIn s (wordRow (beyond contract.itemWord y)) (h .given .0 .0 .name))
-    start (k .2) in
-    meeting.meets-as
-    (ap
-    (λ kd.
-    partsAfter kd (x .name) (h .given .0 .0 .next .row)
-    (contract.stream s (h .given .0 .0 .next)))
-    (sym (k .0)))
-    (meeting.meets-show (items.parts-placed s (args .c) (h .given .0 .0 .next) (h .given .0 .0 .name) name generics
-    ((c .before .before .parts) .result))
-    ((c .before .before .parts) .ensures (x .name) (k .1)))))))
+    let generic = places.meets-beyond reading.dataType headed in
+    items.item-ends (parts .result)
+    (meeting.meets-as (bodies.prefix-then (args .c .row) (contract.stream (args .s .now) (args .c)) head-then)
+    (meeting.meets-then _ prefixed
+    (λ p k.
+    let start = k .next .here in
+    meeting.meets-then (contract.partsAfter p) headed
+    (λ x w. parts .ensures (contract.point s (args .c)) p x
+    (record {
+      prefix = k;
+      kind = w .0;
+      name = subst (λ (y : Point). contract.WordAt s (beyond contract.itemWord y) (h .given .0 .0 .name) (x .name)) start (w .1);
+      next = places.cursor-at (ap (beyond reading.dataType) start) generic;
+    })))))
 
 pub item-spec : {M : Type 1} → statement M
 item-spec =
     tie.close
     (tie.spec
-    try-take-requires
+    take-prefix-requires
     enum-known-r
-    enum-known-d
-    try-take-requires-2
+    enum-known-prefix
     take-requires
     enum-known-r-2
     enum-known-h

@@ -15,10 +15,11 @@ returns : tie.Need-returns
 returns c =
     let d = c .before .before .before .before in
     let a = d .args in
-    meets-same (punctIf (a .punct) (a .role)) (a .s .now) (a .c) (d .pre) _ _ _ _ refl
-    (no-punct (a .punct) (a .role) (a .c .row) (stream (a .s .now) (a .c))
-    (sym (c .before .stands-punct .ensures) ∙ not-true _ (c .if1 .taken)))
-    refl
+    let none = sym (c .before .stands-punct .ensures) ∙ not-true _ (c .if1 .taken) in (
+      meets-same (punctIf (a .punct) (a .role)) (a .s .now) (a .c) (d .pre) _ _ _ _ refl
+          (no-punct (a .punct) (a .role) (a .c .row) (stream (a .s .now) (a .c)) none) refl,
+      (sym none, (λ e. refl)),
+    )
 
 take-punct-requires : tie.Need-take-punct-requires
 take-punct-requires c κs = search needs

@@ -8,8 +8,8 @@ use borrow.Author.Needs.{needs}
 use Rattle.parse.proofs.variants.variant_value.Statement.{statement}
 use Rattle.parse.proofs.variants.variant_value.Tie as tie
 
-value-if-requires : tie.Need-value-if-requires
-value-if-requires c κs = search needs
+optional-value-requires : tie.Need-optional-value-requires
+optional-value-requires c κs = search needs
 
 enum-known-r : tie.Need-enum-known-r
 enum-known-r c = search needs
@@ -20,11 +20,11 @@ enum-known-v c = search needs
 consume-punct-if-requires : tie.Need-consume-punct-if-requires
 consume-punct-if-requires c κs =
     let args = c .before .before .before .before .before .before .before .before .before .before .args in
-    let value-if = c .before .before .before .before .before .before .value-if in
+    let optional-value = c .before .before .before .before .before .before .optional-value in
     meeting.landed
     (meeting.say (contract.valueShown (args .s .now) (literalRow (args .c .row + 1))) contract.valueSaid
     ((c .before .before .v) .given .1)
-    (value-if .ensures))
+    (optional-value .ensures))
 
 same-length : tie.Need-same-length
 same-length c = search needs
@@ -32,11 +32,11 @@ same-length c = search needs
 returns : tie.Need-returns
 returns c =
     let args = c .before .before .before .before .before .before .before .before .before .args in
-    let value-if = c .before .before .before .before .before .value-if in
+    let optional-value = c .before .before .before .before .before .optional-value in
     meeting.meets-no bodies.commaAfter
     (meeting.say (contract.valueShown (args .s .now) (literalRow (args .c .row + 1))) contract.valueSaid
     ((c .before .r) .given .1)
-    (value-if .ensures))
+    (optional-value .ensures))
 
 same-length-2 : tie.Need-same-length-2
 same-length-2 c = search needs
@@ -44,18 +44,18 @@ same-length-2 c = search needs
 returns-2 : tie.Need-returns-2
 returns-2 c =
     let args = c .before .before .before .before .before .before .before .before .before .before .before .before .before .before .args in
-    let value-if = c .before .before .before .before .before .before .before .before .before .before .value-if in
+    let optional-value = c .before .before .before .before .before .before .before .before .before .before .optional-value in
     let v = c .before .before .before .before .before .before .v in
     meeting.meets-then bodies.commaAfter
     (meeting.say (contract.valueShown (args .s .now) (literalRow (args .c .row + 1))) contract.valueSaid (v .given .1)
-    (value-if .ensures))
-    (λ a h. meeting.meets-map _ (λ u. a) (λ u k. h) ((c .before .before .before .consume-punct-if) .ensures))
+    (optional-value .ensures))
+    (λ a h. meeting.meets-map _ (λ u. a) (λ u k. h) ((c .before .before .before .consume-punct-if) .ensures .0))
 
 pub variant-value-spec : {M : Type 1} → statement M
 variant-value-spec =
     tie.close
     (tie.spec
-    value-if-requires
+    optional-value-requires
     enum-known-r
     enum-known-v
     consume-punct-if-requires

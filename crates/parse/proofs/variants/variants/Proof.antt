@@ -1,4 +1,4 @@
-use Rattle.parse.proofs.Loops.{Rounded, rounds-start, rounds-more, rounds-done, rounds-refused, rounds-length}
+use Rattle.parse.proofs.Loops.{Rounded, rounds-start, rounds-more, rounds-done, rounds-refused, gathering-length}
 use Rattle.reading.proofs.Conserved as conserved
 use lib.ListN.{length}
 use Prim.Native.Nat.{_-_}
@@ -23,7 +23,7 @@ loop-holds : tie.Need-loop-holds Inv-loop μ-loop
 loop-holds c = rounds-start _ _ _ _ (c .before .before .pre)
 
 variant-requires : tie.Need-variant-requires Inv-loop μ-loop
-variant-requires c κs = (c .before .loop) .inv .moved .inList
+variant-requires c κs = (c .before .loop) .inv .gathering .moved .inList
 
 enum-known-v : tie.Need-enum-known-v Inv-loop μ-loop
 enum-known-v c = search needs
@@ -31,7 +31,7 @@ enum-known-v c = search needs
 add-count : tie.Need-add-count Inv-loop μ-loop
 add-count c =
     let loop = c .before .before .before .before .before .before .before .before .loop in
-    omega (arith, loop .inv .few, loop .inv .moved .inList .within)
+    omega (arith, loop .inv .few, loop .inv .gathering .moved .inList .within)
 
 loop-less : tie.Need-loop-less Inv-loop μ-loop
 loop-less c =
@@ -41,7 +41,7 @@ loop-less c =
     let n = rounds-more reading.variant conserved.variant-round (loop .inv)
     (meeting.say (contract.variantShown (args .s .now) (loop .c)) contract.variantSaid
     ((c .before .before .v) .given .1) (variant .ensures)) (λ v h. (h .0, h .1)) in
-    omega (arith, n .1, n .0 .moved .inList .within)
+    omega (arith, n .1, n .0 .gathering .moved .inList .within)
 
 loop-again : tie.Need-loop-again Inv-loop μ-loop
 loop-again c =
@@ -61,7 +61,7 @@ same-length : tie.Need-same-length Inv-loop μ-loop
 same-length c =
     let loop = c .before .before .before .before .before .before .before .loop in
     let variant = c .before .before .before .before .before .variant in
-    variant .kept .1 .1 .0 ∙ rounds-length (loop .inv)
+    variant .kept .1 .1 .0 ∙ gathering-length (loop .inv .gathering)
 
 returns : tie.Need-returns Inv-loop μ-loop
 returns c =
@@ -80,7 +80,7 @@ same-length-2 : tie.Need-same-length-2 Inv-loop μ-loop
 same-length-2 c =
     let loop = c .before .before .before .before .before .before .before .loop in
     let variant = c .before .before .before .before .before .variant in
-    variant .kept .1 .1 .0 ∙ rounds-length (loop .inv)
+    variant .kept .1 .1 .0 ∙ gathering-length (loop .inv .gathering)
 
 returns-2 : tie.Need-returns-2 Inv-loop μ-loop
 returns-2 c =

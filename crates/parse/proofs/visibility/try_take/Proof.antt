@@ -30,15 +30,16 @@ returns-2 c = search needs
 
 returns-3 : tie.Need-returns-3
 returns-3 c =
-    let before = c .before .before .before .before .before .before .before in
     let look = c .before .before .before .before .look in
-    let d = before in
-    let a = d .args in
+    let args = c .before .before .before .before .before .before .before .args in
+    let pre = c .before .before .before .before .before .before .before .pre in
+    let if1 = c .before .before .if1 in
+    let if2 = c .if2 in
     let l = look .ensures in
-    meets-same visibility (a .s .now) (a .c) (d .pre) _ _ _ _ refl
-    (no-visibility (a .c .row) (stream (a .s .now) (a .c)) (λ e. c .before .before .if1 .left (l .kind ∙ e))
-    (λ e. c .if2 .left (l .mark ∙ e)))
-    tt
+    meets-same visibility (args .s .now) (args .c) pre _ _ _ _ refl
+    (no-visibility (args .c .row) (stream (args .s .now) (args .c)) (λ e. if1 .left (l .kind ∙ e))
+    (λ e. if2 .left (l .mark ∙ e)))
+    refl
 
 pub try-take-spec : {M : Type 1} → statement M
 try-take-spec =

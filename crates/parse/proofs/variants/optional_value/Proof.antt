@@ -8,8 +8,8 @@ use Rattle.reading.specs.Reading as reading
 use Rattle.token_list.proofs.Texts.{chosen, passed-over}
 use mathlib.Core.Path.{refl, sym, _∙_, ap}
 use borrow.Author.Needs.{needs}
-use Rattle.parse.proofs.variants.value_if.Statement.{statement}
-use Rattle.parse.proofs.variants.value_if.Tie as tie
+use Rattle.parse.proofs.variants.optional_value.Statement.{statement}
+use Rattle.parse.proofs.variants.optional_value.Tie as tie
 
 peek-requires : tie.Need-peek-requires
 peek-requires c κs = search needs
@@ -105,8 +105,8 @@ returns-5 c =
     (meeting.punct-of _ _ _ _ ((meeting.peeked _ _ (peek .ensures) (t .given .1)) .token) ∙ sym
     ((c .before .is-punct2) .ensures) ∙ (c .if2) .left))
 
-pub value-if-spec : {M : Type 1} → statement M
-value-if-spec =
+pub optional-value-spec : {M : Type 1} → statement M
+optional-value-spec =
     tie.close
     (tie.spec
     peek-requires

@@ -6,8 +6,8 @@ use Rattle.parse.specs.Contract as contract
 use Rattle.reading.specs.Reading as reading
 use mathlib.Core.Path.{_∙_, ap}
 use borrow.Author.Needs.{needs}
-use Rattle.parse.proofs.item.leave.Statement.{statement}
-use Rattle.parse.proofs.item.leave.Tie as tie
+use Rattle.parse.proofs.item.mark_left_over.Statement.{statement}
+use Rattle.parse.proofs.item.mark_left_over.Tie as tie
 
 fill-requires : tie.Need-fill-requires
 fill-requires c κs = search needs
@@ -29,5 +29,5 @@ returns c =
     sets (sets (a .roles .now) (a .end) (replicate (a .rows - a .end) 0)) (a .rows) (replicate (n - a .rows) 255))
     (length-sets (a .roles .now) (a .end) (replicate (a .rows - a .end) 0))
 
-pub leave-spec : {M : Type 1} → statement M
-leave-spec = tie.close (tie.spec fill-requires fill-requires-2 same-length returns)
+pub mark-left-over-spec : {M : Type 1} → statement M
+mark-left-over-spec = tie.close (tie.spec fill-requires fill-requires-2 same-length returns)

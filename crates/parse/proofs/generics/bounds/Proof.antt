@@ -1,0 +1,69 @@
+use Rattle.parse.proofs.Meeting as meeting
+use Rattle.parse.specs.Contract as contract
+use Rattle.reading.specs.Reading as reading
+use Rattle.token_list.specs.Byte.{COLON}
+use mathlib.Core.Path.{refl}
+use borrow.Author.Needs.{needs}
+use Rattle.parse.proofs.generics.bounds.Statement.{statement}
+use Rattle.parse.proofs.generics.bounds.Tie as tie
+
+marked-run-requires : tie.Need-marked-run-requires
+marked-run-requires c κs = search needs
+
+enum-known-r : tie.Need-enum-known-r
+enum-known-r c = search needs
+
+enum-told : tie.Need-enum-told
+enum-told c = search needs
+
+enum-known-r-2 : tie.Need-enum-known-r-2
+enum-known-r-2 c = search needs
+
+same-length : tie.Need-same-length
+same-length c = search needs
+
+returns : tie.Need-returns
+returns c =
+    let args = c .before .before .before .before .before .before .before .before .before .args in
+    let r = c .before .r in
+    let marked-run = c .before .before .before .before .before .marked-run in
+    meeting.meets-none (meeting.say (contract.markedRunShown (args .s .now) COLON (contract.point (args .s .now) (args .c))) (contract.markedRunSaid (args .c)) (r .given .1) (marked-run .ensures))
+
+same-length-2 : tie.Need-same-length-2
+same-length-2 c = search needs
+
+returns-2 : tie.Need-returns-2
+returns-2 c =
+    let args = c .before .before .before .before .before .before .before .before .args in
+    let enum-told = c .enum-told in
+    let marked-run = c .before .before .before .before .marked-run in
+    meeting.meets-show (λ v h. (h .0, h .1, refl))
+    (meeting.say (contract.markedRunShown (args .s .now) COLON (contract.point (args .s .now) (args .c))) (contract.markedRunSaid (args .c)) (enum-told .given .1)
+    (marked-run .ensures))
+
+same-length-3 : tie.Need-same-length-3
+same-length-3 c = search needs
+
+returns-3 : tie.Need-returns-3
+returns-3 c =
+    let args = c .before .before .before .before .before .before .before .before .before .before .args in
+    let r2 = c .before .before .r2 in
+    let marked-run = c .before .before .before .before .before .before .marked-run in
+    meeting.meets-show (λ v h. (h, refl))
+    (meeting.say (contract.markedRunShown (args .s .now) COLON (contract.point (args .s .now) (args .c))) (contract.markedRunSaid (args .c)) (r2 .given .1)
+    (marked-run .ensures))
+
+pub bounds-spec : {M : Type 1} → statement M
+bounds-spec =
+    tie.close
+    (tie.spec
+    marked-run-requires
+    enum-known-r
+    enum-told
+    enum-known-r-2
+    same-length
+    returns
+    same-length-2
+    returns-2
+    same-length-3
+    returns-3)
