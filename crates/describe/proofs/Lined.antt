@@ -17,10 +17,10 @@ use Rattle.reading.specs.Place.{parameterNameAt}
 use Rattle.reading.proofs.Rounds.{Rounding}
 use Rattle.reading.proofs.Conserved as conserved
 use Rattle.parse.specs.Contract.{Said, on, no, Meets, stream, point, InsideAt}
-use Rattle.parse.specs.Contract.{fieldShown, fieldSaid, unnamedShown, unnamedSaid, variantShown, variantSaid}
+use Rattle.parse.specs.Contract.{namedShown, namedSaid, nextShown, nextSaid, variantShown, variantSaid}
 use Rattle.parse.specs.Contract.{isLifetime, parameterKind, parameterText, parameterShown, parameterSaid}
-use Rattle.parse.specs.declared.fields.FieldStep.{FieldStep}
-use Rattle.parse.specs.declared.fields.UnnamedFieldStep.{UnnamedFieldStep}
+use Rattle.parse.specs.declared.fields.NamedStep.{NamedStep}
+use Rattle.parse.specs.declared.fields.NextStep.{NextStep}
 use Rattle.parse.specs.declared.variants.VariantStep.{VariantStep}
 use Rattle.parse.specs.declared.generics.ParameterStep.{ParameterStep}
 use Rattle.parse.proofs.Meeting as meeting
@@ -52,24 +52,24 @@ pub record Series (R A : Type 0) : Type 1 where
   pub shown : List ℕ → Cursor → R → Maybe A → Type 0
   pub said : R → Said
 
-abbrev pub named : Series FieldStep Field
+abbrev pub named : Series NamedStep Field
 named =
     record {
       lines = namedLine;
       reader = reading.namedField;
       round = conserved.namedField-round;
-      shown = λ s c. fieldShown s (point s c);
-      said = fieldSaid;
+      shown = namedShown;
+      said = namedSaid;
     }
 
-abbrev pub tuple : Series UnnamedFieldStep UnnamedField
+abbrev pub tuple : Series NextStep UnnamedField
 tuple =
     record {
       lines = tupleLine;
       reader = reading.tupleField;
       round = conserved.tupleField-round;
-      shown = λ s c. unnamedShown s (point s c);
-      said = unnamedSaid;
+      shown = λ s c. nextShown;
+      said = nextSaid;
     }
 
 abbrev pub variants : Series VariantStep Variant

@@ -95,8 +95,7 @@ pub fn put_variant(s: &[u8], v: VariantAt, n: usize, out: &mut [u8], at: usize) 
     ensures { λ r. ⌜ ((a : Variant) → VariantOf (now (s .entry)) v a →
         Put (now (out .entry)) (now (out .exit)) at r (variantLine n a)) ⌝ }
 {
-    let word = v.name;
-    let name = word.token;
+    let name = v.name;
     let head = put_head(s, b"variant ", name, out, at);
     let space = put_byte(out, head, b' ');
     let value = v.value;
@@ -138,8 +137,7 @@ pub fn put_item(s: &[u8], d: ItemAt, out: &mut [u8]) -> usize
 {
     let names = put_bytes(out, 0, b"part name number\n");
     let kind = d.kind;
-    let word = d.name;
-    let name = word.token;
+    let name = d.name;
     let head = put_kind(s, kind, name, out, names);
     let count = d.count;
     put_position(out, head, count)

@@ -7,8 +7,8 @@ use crate::lines::put_unnamed;
 use crate::lines::put_variant;
 use output::put::put_refusal;
 use parse::data_type::DataType;
-use parse::fields::FieldStep;
-use parse::fields::UnnamedFieldStep;
+use parse::fields::NamedStep;
+use parse::fields::NextStep;
 use parse::fields::named_field;
 use parse::fields::tuple_field;
 use parse::generics::ParameterStep;
@@ -63,17 +63,15 @@ fn named_lines(s: &[u8], from: Cursor, roles: &mut [u8], out: &mut [u8], start: 
     let mut count = 0;
     loop {
         match named_field(s, c, roles) {
-            FieldStep::One(f) => {
-                let name = f.name;
+            NamedStep::One(name, next) => {
                 at = put_named(s, name, out, at, count);
-                let field = f.field;
-                c = field.next;
+                c = next;
                 count += 1;
             }
-            FieldStep::Done(_) => {
+            NamedStep::Done(_) => {
                 return at;
             }
-            FieldStep::Refused(_) => {
+            NamedStep::Refused(_) => {
                 return at;
             }
         }
@@ -91,15 +89,15 @@ fn tuple_lines(s: &[u8], from: Cursor, roles: &mut [u8], out: &mut [u8], start: 
     let mut count = 0;
     loop {
         match tuple_field(s, c, roles) {
-            UnnamedFieldStep::One(f) => {
+            NextStep::One(next) => {
                 at = put_unnamed(out, at, count);
-                c = f.next;
+                c = next;
                 count += 1;
             }
-            UnnamedFieldStep::Done(_) => {
+            NextStep::Done(_) => {
                 return at;
             }
-            UnnamedFieldStep::Refused(_) => {
+            NextStep::Refused(_) => {
                 return at;
             }
         }

@@ -17,12 +17,15 @@ use Rattle.token_list.proofs.Texts.{and-both, and-fails, and-last, slice-next, 
 use Rattle.reading.specs.Took.{Took, took, stopped, Reader, onward, after, pure, _>>=_}
 use Rattle.reading.specs.Reading.{attributes, visibility, one, comma, punctIf, closing, worthFrom}
 use Rattle.reading.specs.Token.{negatable}
-use Rattle.parse.specs.Contract.{Prefix, prefix, Said, on, no, Meets, stands, refuses, stream, pastOf, Inside, InsideAt, countShown, bodyShown}
+use Rattle.parse.specs.Contract.{Prefix, PrefixOf, prefix, any, point, CursorAt, Said, on, no, Meets, stands, refuses, stream, pastOf, Inside, InsideAt, countShown, bodyShown}
 use Rattle.reading.specs.Declaration.{Visibility, UnnamedField, Field, named, tuple, Variant, fields, variants}
 use Rattle.parse.specs.declared.generics.CountStep.{CountStep}
 use Rattle.parse.specs.declared.generics.CountStep.the-variants as counts
 use Rattle.parse.proofs.Buffer.{sets-append}
-use Rattle.parse.proofs.Meeting.{past-fits, past-in-of, meets-as, after-assoc, after-pure}
+use Rattle.parse.proofs.Meeting.{past-fits, past-in-of, meets-as, meets-no, meets-then, meets-map, meets-inside, after-assoc, after-pure}
+use Rattle.parse.proofs.Places.{meets-beyond, cursor-at}
+use Rattle.reading.specs.Took.{beyond}
+use Rattle.reading.specs.Place.{startAt}
 use Rattle.reading.proofs.Conserved.{Ended, ended-at}
 
 -- ## What stands before an item or a field, and then its other parts
@@ -36,6 +39,25 @@ prefix-then row ts k =
     (λ p. k (p .attributes) (p .visibility)))))))
     ∙ sym (after-assoc row (attributes row ts) (λ a. visibility >>= λ v. pure (record { attributes = a; visibility = v }))
     (λ p. k (p .attributes) (p .visibility)))
+
+pub prefix-refused : {s : List ℕ} {c : Cursor} {b0 b1 : List ℕ} {n p : ℕ}
+    → Meets s c b0 b1 any (no n p) (attributes (c .row) (stream s c))
+    → Meets s c b0 b1 any (no n p) (prefix (c .row) (stream s c))
+prefix-refused m = meets-no (λ a. visibility >>= λ v. pure (record { attributes = a; visibility = v })) m
+
+-- attributes up to d, and a visibility from there up to e
+pub meets-prefix : {s : List ℕ} {c d e : Cursor} {b0 b1 b2 : List ℕ} → InList s c
+    → Meets s c b0 b1 any (on d) (attributes (c .row) (stream s c))
+    → Meets s d b1 b2 any (on e) (visibility (d .row) (stream s d))
+    → Meets s c b0 b2 (λ (p : Prefix). PrefixOf s c d p × CursorAt s (startAt (point s c)) e) (on e)
+    (prefix (c .row) (stream s c))
+meets-prefix i m n =
+    let place = meets-beyond attributes m in
+    let next = cursor-at (ap (beyond visibility) (place .here)) (meets-beyond visibility n) in
+    meets-then (λ a. visibility >>= λ v. pure (record { attributes = a; visibility = v })) (meets-inside attributes i m)
+    (λ a k. meets-map _ (λ v. record { attributes = a; visibility = v })
+    (λ v h. (record { attributes = k .1; visibility = h .1; place = place }, next))
+    (meets-inside visibility (place .inList) n))
 
 -- ## A value, and the `,` that may follow it
 

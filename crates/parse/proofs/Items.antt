@@ -18,7 +18,7 @@ use Rattle.reading.specs.Declaration.{Declaration}
 use Rattle.reading.specs.Took.{Took}
 use Rattle.reading.specs.Reading.{item}
 use Rattle.reading.specs.Answer.{Answer, declared, refused, itemAnswer, answer, buffer, accepts}
-use Rattle.parse.specs.Contract.{Meets, stands, refuses, on, no, parsedOf, parsedBy, kindOf, ParsedAs, Answered, accepted, stream, point, itemShown, itemSaid, partsShown}
+use Rattle.parse.specs.Contract.{Meets, stands, refuses, on, no, parsedOf, parsedBy, kindOf, ParsedAs, Answered, accepted, stream, first, itemShown, itemSaid, partsShown}
 use Rattle.parse.specs.declared.data_type.DataType.{DataType}
 use Rattle.parse.specs.declared.data_type.DataType.the-variants as kinds
 use Rattle.parse.specs.declared.item.ItemAt.{ItemAt}
@@ -94,10 +94,6 @@ module _ (s : List ℕ) (k : ℕ) where
   unfolding answer
   answer-read rows e h = rw e (passed-over _ _ _ (le-ltb _ _ h))
 
--- where the rows of a list that passed begin
-abbrev pub first : Cursor
-first = record { at = 10; row = 0 }
-
 pub first-in : (s : List ℕ) (rows : ℕ) → list.check s ≡ list.passed rows → InList s first
 first-in s rows e =
     let p = passed-list s rows e in
@@ -110,7 +106,7 @@ first-in s rows e =
 
 -- an item's parts, and where it ends
 pub item-ends : {s : List ℕ} {c : Cursor} {b0 b1 : List ℕ} (r : ItemStep) →
-    Meets s c b0 b1 (partsShown s (point s c) r) (itemSaid r) (item (c .row) (stream s c))
+    Meets s c b0 b1 (partsShown s c r) (itemSaid r) (item (c .row) (stream s c))
     → Meets s c b0 b1 (itemShown s c r) (itemSaid r) (item (c .row) (stream s c))
 item-ends (itemSteps.At i) m = meets-show (λ d h. (h .0, h .1, meets-beyond item m)) m
 item-ends (itemSteps.Refused r) m = meets-none m

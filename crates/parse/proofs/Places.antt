@@ -15,8 +15,9 @@ use Rattle.reading.specs.Declaration.{Value}
 use Rattle.reading.specs.Took.{Took, took, Cause, stopped, Reader, after, _>>=_, Point, pastTaken, beyond}
 use Rattle.reading.specs.Reading.{punctIf, copied, whole, isLiteral, negatable, negativeValue}
 use Rattle.reading.specs.Place.{identRow, wordRow, tokenEnd, pastToken, marksName, parameterNameAt, literalRow}
-use Rattle.parse.specs.Contract.{Moved, Said, on, Meets, stands, refuses, stream, point, CursorAt, TokenIn, pastOf, ValueIn, valueShown, valueSaid}
+use Rattle.parse.specs.Contract.{Moved, Said, on, Meets, stands, refuses, stream, point, CursorAt, TokenIn, WordAt, NameAt, pastOf, ValueIn, valueShown, valueSaid}
 use Rattle.parse.proofs.Meeting.{past-in-of, group-stream}
+use Rattle.parse.specs.declared.utils.Word.{Word}
 use Rattle.parse.specs.declared.variants.ValueStep.{ValueStep}
 use Rattle.parse.specs.declared.variants.ValueStep.the-variants as valueSteps
 
@@ -47,9 +48,15 @@ pub ident-group : (s : List ℕ) (c : Cursor) (g t : Token) → GroupAt s (c .at
     TokenIn s (wordRow (point s c)) t
 ident-group s c g t k h = subst⁻¹ (λ (n : ℕ). TokenIn s n t) (ap (identRow (c .row)) (k .here)) h
 
--- the same token from an equal point
-pub word-at : (s : List ℕ) (t : Token) {x y : Point} → x ≡ y → TokenIn s (wordRow x) t → TokenIn s (wordRow y) t
-word-at s t e h = subst (λ (x : Point). TokenIn s (wordRow x) t) e h
+-- a word that is a name, from an equal point
+pub placed-name : (s : List ℕ) (c : Cursor) {w : Word} {x : Point} {name : List ℕ} → point s c ≡ x →
+    WordAt s (point s c) w name → NameAt s x (w .token) (c .row) name
+placed-name s c {w} e h =
+    record {
+      text = h .text;
+      token = subst (λ (x : Point). TokenIn s (wordRow x) (w .token)) e (h .token);
+      place = ap (λ (x : Point). x .row) e;
+    }
 
 -- past the token that was taken at c
 pub token-past : (s : List ℕ) (c d : Cursor) (t : Token) → InList s c → LeafAt s (c .at) t → d ≡ pastOf c t →

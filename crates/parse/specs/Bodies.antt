@@ -6,6 +6,7 @@ use Prim.Native.Nat.{ℕ, _+_}
 use lib.ListN.{length}
 use Rattle.token_list.specs.Byte.{COMMA}
 use Rattle.token_list.specs.Stream.{Trees, head, at}
+use Rattle.token_list.specs.Layout.{FIRST-ROW}
 use Rattle.token_list.specs.Place.{OneRefusal}
 use Rattle.token_list.specs.declared.check.Cursor.{Cursor}
 use Rattle.token_list.specs.declared.stream.Token.{Token}
@@ -13,28 +14,29 @@ use Rattle.reading.specs.Role as role
 use Rattle.reading.specs.Declaration as declaration
 use Rattle.reading.specs.Took.{Took, Reader, pure, _>>=_, Point, beyond}
 use Rattle.reading.specs.Reading as reading
-use Rattle.reading.specs.Place.{VariantHead, start, visibilityAt, startAt, itemNameAt, genericsAt, clauseAt, bodyAt, typeAt, variantNameAt, groupAt, valueRow}
+use Rattle.reading.specs.Place.{VariantHead, visibilityAt, startAt, itemNameAt, genericsAt, clauseAt, bodyAt, typeAt, variantNameAt, groupAt, valueRow}
 use Rattle.reading.specs.Answer as answers
 use Rattle.parse.specs.Meets.{Said, on, refusal, stream, point, CursorAt, TokenIn, TextOf, InsideAt}
-use Rattle.parse.specs.Parts.{WordAt, RunAt, kindOf, ClauseOf}
-use Rattle.parse.specs.declared.utils.Word.{Word}
-use Rattle.parse.specs.declared.utils.WordStep.{WordStep}
-use Rattle.parse.specs.declared.utils.WordStep.the-variants as wordSteps
+use Rattle.parse.specs.Parts.{NameAt, RunAt, kindOf, ClauseOf}
+use Rattle.parse.specs.declared.utils.PlacedName.{PlacedName}
+use Rattle.parse.specs.declared.utils.PlacedNameStep.{PlacedNameStep}
+use Rattle.parse.specs.declared.utils.PlacedNameStep.the-variants as placedNames
 use Rattle.parse.specs.declared.runs.Run.{Run}
 use Rattle.parse.specs.declared.runs.RunStep.{RunStep}
 use Rattle.parse.specs.declared.data_type.DataType.{DataType}
 use Rattle.parse.specs.declared.data_type.DataType.the-variants as kinds
 use Rattle.parse.specs.declared.generics.CountStep.{CountStep}
 use Rattle.parse.specs.declared.generics.CountStep.the-variants as counts
-use Rattle.parse.specs.declared.prefix.PrefixAt.{PrefixAt}
-use Rattle.parse.specs.declared.prefix.PrefixStep.{PrefixStep}
-use Rattle.parse.specs.declared.prefix.PrefixStep.the-variants as prefixSteps
 use Rattle.parse.specs.declared.fields.TypeAt.{TypeAt}
 use Rattle.parse.specs.declared.fields.TypeStep.{TypeStep}
 use Rattle.parse.specs.declared.fields.TypeStep.the-variants as typeSteps
 use Rattle.parse.specs.declared.fields.UnnamedFieldAt.{UnnamedFieldAt}
 use Rattle.parse.specs.declared.fields.FieldStep.{FieldStep}
 use Rattle.parse.specs.declared.fields.FieldStep.the-variants as fieldSteps
+use Rattle.parse.specs.declared.fields.NamedStep.{NamedStep}
+use Rattle.parse.specs.declared.fields.NamedStep.the-variants as namedSteps
+use Rattle.parse.specs.declared.fields.NextStep.{NextStep}
+use Rattle.parse.specs.declared.fields.NextStep.the-variants as nextSteps
 use Rattle.parse.specs.declared.fields.UnnamedFieldStep.{UnnamedFieldStep}
 use Rattle.parse.specs.declared.fields.UnnamedFieldStep.the-variants as unnamedSteps
 use Rattle.parse.specs.declared.variants.FieldsAt.{FieldsAt}
@@ -67,21 +69,11 @@ prefix = do
   v ← reading.visibility
   pure (record { attributes = a; visibility = v })
 
--- where it stands, from the point x on: where its parts are read, and where both end
-pub record PrefixOf (s : List ℕ) (x : Point) (r : PrefixAt) (p : Prefix) : Type 0 where
-  pub attributes : InsideAt reading.attributes s (r .attributes) (p .attributes)
-  pub visibility : InsideAt reading.visibility s (r .visibility) (p .visibility)
-  pub first : CursorAt s x (r .attributes)
-  pub second : CursorAt s (visibilityAt x) (r .visibility)
-  pub next : CursorAt s (startAt x) (r .next)
-
-abbrev pub prefixSaid : PrefixStep → Said
-prefixSaid (prefixSteps.At p) = on (p .next)
-prefixSaid (prefixSteps.Refused r) = refusal r
-
-abbrev pub prefixShown : List ℕ → Point → PrefixStep → Prefix → Type 0
-prefixShown s x (prefixSteps.At p) v = PrefixOf s x p v
-prefixShown s x (prefixSteps.Refused r) v = ⊥
+-- where it stands, from the cursor c on: the attributes are read there, and then the visibility
+pub record PrefixOf (s : List ℕ) (c d : Cursor) (p : Prefix) : Type 0 where
+  pub attributes : InsideAt reading.attributes s c (p .attributes)
+  pub visibility : InsideAt reading.visibility s d (p .visibility)
+  pub place : CursorAt s (visibilityAt (point s c)) d
 
 -- ## fields
 
@@ -106,34 +98,58 @@ NamedAt s x p n t v =
       field = record { attributes = p .attributes; visibility = p .visibility; type = f };
     })) × typeAtShown s x t f
 
--- a field without its name, from the point x on, with its type at y
-pub record UnnamedFieldOf (s : List ℕ) (x y : Point) (r : UnnamedFieldAt) (f : declaration.UnnamedField) : Type 0 where
-  pub prefix : PrefixOf s x (r .prefix) (record { attributes = f .attributes; visibility = f .visibility })
+-- a field without its name, from the cursor c on, with its type at y
+pub record UnnamedFieldOf (s : List ℕ) (c : Cursor) (y : Point) (r : UnnamedFieldAt) (f : declaration.UnnamedField)
+    : Type 0 where
+  pub prefix : PrefixOf s c (r .visibility) (record { attributes = f .attributes; visibility = f .visibility })
   pub type : RunAt s reading.fieldStops role.type y (r .run) (f .type)
 
 abbrev pub fieldSaid : FieldStep → Said
 fieldSaid (fieldSteps.One f) = on (f .field .next)
-fieldSaid (fieldSteps.Done p) = on (p .next)
+fieldSaid (fieldSteps.Done v d) = on d
 fieldSaid (fieldSteps.Refused r) = refusal r
 
--- a named field from the point x on; or attributes and visibility that belong to none
-abbrev pub fieldShown : List ℕ → Point → FieldStep → reading.Maybe declaration.Field → Type 0
-fieldShown s x (fieldSteps.One f) v =
+-- a named field from c on; or attributes and visibility that belong to none
+abbrev pub fieldShown : List ℕ → Cursor → FieldStep → reading.Maybe declaration.Field → Type 0
+fieldShown s c (fieldSteps.One f) v =
     (a : declaration.Field) × (v ≡ reading.one a) × TextOf s (f .name) (a .name) ×
-    TokenIn s (startAt x .row) (f .name) × UnnamedFieldOf s x (typeAt x) (f .field) (a .field)
-fieldShown s x (fieldSteps.Done p) v = (v ≡ reading.done) × ((q : Prefix) × PrefixOf s x p q)
-fieldShown s x (fieldSteps.Refused r) v = ⊥
+    TokenIn s (startAt (point s c) .row) (f .name) × UnnamedFieldOf s c (typeAt (point s c)) (f .field) (a .field)
+fieldShown s c (fieldSteps.Done v d) a = (a ≡ reading.done) × ((p : Prefix) × PrefixOf s c v p)
+fieldShown s c (fieldSteps.Refused r) v = ⊥
+
+-- its name and the cursor after it alone
+abbrev pub namedSaid : NamedStep → Said
+namedSaid (namedSteps.One t d) = on d
+namedSaid (namedSteps.Done d) = on d
+namedSaid (namedSteps.Refused r) = refusal r
+
+abbrev pub namedShown : List ℕ → Cursor → NamedStep → reading.Maybe declaration.Field → Type 0
+namedShown s c (namedSteps.One t d) v =
+    (a : declaration.Field) × (v ≡ reading.one a) × TextOf s t (a .name) × TokenIn s (startAt (point s c) .row) t
+namedShown s c (namedSteps.Done d) v = v ≡ reading.done
+namedShown s c (namedSteps.Refused r) v = ⊥
 
 abbrev pub unnamedSaid : UnnamedFieldStep → Said
 unnamedSaid (unnamedSteps.One f) = on (f .next)
 unnamedSaid (unnamedSteps.Done d) = on d
 unnamedSaid (unnamedSteps.Refused r) = refusal r
 
-abbrev pub unnamedShown : List ℕ → Point → UnnamedFieldStep → reading.Maybe declaration.UnnamedField → Type 0
-unnamedShown s x (unnamedSteps.One f) v =
-    (a : declaration.UnnamedField) × (v ≡ reading.one a) × UnnamedFieldOf s x (startAt x) f a
-unnamedShown s x (unnamedSteps.Done d) v = v ≡ reading.done
-unnamedShown s x (unnamedSteps.Refused r) v = ⊥
+abbrev pub unnamedShown : List ℕ → Cursor → UnnamedFieldStep → reading.Maybe declaration.UnnamedField → Type 0
+unnamedShown s c (unnamedSteps.One f) v =
+    (a : declaration.UnnamedField) × (v ≡ reading.one a) × UnnamedFieldOf s c (startAt (point s c)) f a
+unnamedShown s c (unnamedSteps.Done d) v = v ≡ reading.done
+unnamedShown s c (unnamedSteps.Refused r) v = ⊥
+
+-- the cursor after it alone
+abbrev pub nextSaid : NextStep → Said
+nextSaid (nextSteps.One d) = on d
+nextSaid (nextSteps.Done d) = on d
+nextSaid (nextSteps.Refused r) = refusal r
+
+abbrev pub nextShown : {A : Type 0} → NextStep → reading.Maybe A → Type 0
+nextShown {A} (nextSteps.One d) v = (a : A) × (v ≡ reading.one a)
+nextShown (nextSteps.Done d) v = v ≡ reading.done
+nextShown (nextSteps.Refused r) v = ⊥
 
 -- the inside of the group that opens at c, between its delimiters
 abbrev pub Inside : {A : Type 0} → Reader A → List ℕ → Cursor → Token → Took A
@@ -189,14 +205,14 @@ abbrev pub variantValue : Reader declaration.Value
 variantValue = reading.valueIf >>= λ v. (reading.punctIf COMMA role.separator >>= λ u. pure v)
 
 -- a variant's attributes, read at c, and its name
-abbrev pub variantNameShown : List ℕ → Cursor → WordStep → VariantHead → Type 0
-variantNameShown s c (wordSteps.At w) v =
-    InsideAt reading.attributes s c (v .attributes) × WordAt s (variantNameAt (point s c)) w (v .name)
-variantNameShown s c (wordSteps.Refused r) v = ⊥
+abbrev pub variantNameShown : List ℕ → Cursor → PlacedNameStep → VariantHead → Type 0
+variantNameShown s c (placedNames.At n) v =
+    InsideAt reading.attributes s c (v .attributes) ×
+    NameAt s (variantNameAt (point s c)) (n .token) (n .place) (v .name)
+variantNameShown s c (placedNames.Refused r) v = ⊥
 
 pub record VariantOf (s : List ℕ) (p : VariantAt) (a : declaration.Variant) : Type 0 where
-  pub attributes : InsideAt reading.attributes s (p .attributes) (a .attributes)
-  pub name : TextOf s (p .name .token) (a .name)
+  pub name : TextOf s (p .name) (a .name)
   pub fields : FieldsOf s (p .fields) (a .fields)
   pub value : ValueOf s (p .value) (a .value)
 
@@ -205,16 +221,16 @@ variantSaid (variantSteps.One p) = on (p .next)
 variantSaid (variantSteps.Done d) = on d
 variantSaid (variantSteps.Refused r) = refusal r
 
--- where its parts stand, from the point x where it begins
-pub record VariantPlaces (s : List ℕ) (x : Point) (p : VariantAt) (a : declaration.Variant) : Type 0 where
-  pub attributes : CursorAt s x (p .attributes)
-  pub name : WordAt s (variantNameAt x) (p .name) (a .name)
-  pub fields : FieldsIn (groupAt x .row) (p .fields)
-  pub value : ValueIn s (valueRow x (a .value)) (p .value)
+-- where its parts stand, from the cursor c where it begins
+pub record VariantPlaces (s : List ℕ) (c : Cursor) (p : VariantAt) (a : declaration.Variant) : Type 0 where
+  pub attributes : InsideAt reading.attributes s c (a .attributes)
+  pub name : NameAt s (variantNameAt (point s c)) (p .name) (p .place) (a .name)
+  pub fields : FieldsIn (groupAt (point s c) .row) (p .fields)
+  pub value : ValueIn s (valueRow (point s c) (a .value)) (p .value)
 
 abbrev pub variantShown : List ℕ → Cursor → VariantStep → reading.Maybe declaration.Variant → Type 0
 variantShown s c (variantSteps.One p) v =
-    (a : declaration.Variant) × (v ≡ reading.one a) × VariantOf s p a × VariantPlaces s (point s c) p a
+    (a : declaration.Variant) × (v ≡ reading.one a) × VariantOf s p a × VariantPlaces s c p a
 variantShown s c (variantSteps.Done d) v = v ≡ reading.done
 variantShown s c (variantSteps.Refused r) v = ⊥
 
@@ -246,7 +262,7 @@ partsAfter p h = do
 -- what is told of a declaration: its kind, name and counts, and where its other parts are read
 pub record ItemOf (s : List ℕ) (i : ItemAt) (d : declaration.Declaration) : Type 0 where
   pub kind : d .kind ≡ kindOf (i .kind)
-  pub name : TextOf s (i .name .token) (d .name)
+  pub name : TextOf s (i .name) (d .name)
   pub parameters : i .parameters ≡ length (declaration.parametersOf (d .generics))
   pub count : i .count ≡ declaration.bodyCount (d .body)
   pub generics : InsideAt reading.generics s (i .generics) (d .generics)
@@ -256,33 +272,33 @@ abbrev pub itemSaid : ItemStep → Said
 itemSaid (itemSteps.At i) = on (i .next)
 itemSaid (itemSteps.Refused r) = refusal r
 
--- where its parts stand, from the point x where it begins
-pub record ItemPlaces (s : List ℕ) (x : Point) (i : ItemAt) (d : declaration.Declaration) : Type 0 where
-  pub prefix : PrefixOf s x (i .prefix) (record { attributes = d .attributes; visibility = d .visibility })
-  pub name : WordAt s (itemNameAt x) (i .name) (d .name)
-  pub generics : CursorAt s (genericsAt x) (i .generics)
-  pub clause : ClauseOf s (clauseAt x) (d .clause) (i .clause)
-  pub body : CursorAt s (bodyAt x) (i .body)
+-- where its parts stand, from the cursor c where it begins
+pub record ItemPlaces (s : List ℕ) (c : Cursor) (i : ItemAt) (d : declaration.Declaration) : Type 0 where
+  pub prefix : PrefixOf s c (i .visibility) (record { attributes = d .attributes; visibility = d .visibility })
+  pub name : NameAt s (itemNameAt (point s c)) (i .name) (i .place) (d .name)
+  pub generics : CursorAt s (genericsAt (point s c)) (i .generics)
+  pub clause : ClauseOf s (clauseAt (point s c)) (d .clause) (i .clause)
+  pub body : CursorAt s (bodyAt (point s c)) (i .body)
 
--- an item that begins at x, and where it ends
-abbrev pub ItemIn : List ℕ → Point → ItemAt → declaration.Declaration → Type 0
-ItemIn s x i d = ItemOf s i d × ItemPlaces s x i d × CursorAt s (beyond reading.item x) (i .next)
+-- an item that begins at c, and where it ends
+abbrev pub ItemIn : List ℕ → Cursor → ItemAt → declaration.Declaration → Type 0
+ItemIn s c i d = ItemOf s i d × ItemPlaces s c i d × CursorAt s (beyond reading.item (point s c)) (i .next)
 
 abbrev pub itemShown : List ℕ → Cursor → ItemStep → declaration.Declaration → Type 0
-itemShown s c (itemSteps.At i) d = ItemIn s (point s c) i d
+itemShown s c (itemSteps.At i) d = ItemIn s c i d
 itemShown s c (itemSteps.Refused r) d = ⊥
 
--- an item that begins at x, up to its name: its prefix p and its head h
-pub record HeadOf (s : List ℕ) (x : Point) (r : PrefixAt) (k : DataType) (w : Word) (p : Prefix) (h : reading.Head)
+-- an item that begins at c, up to its name: its prefix p and its head h
+pub record HeadOf (s : List ℕ) (c v : Cursor) (k : DataType) (n : PlacedName) (p : Prefix) (h : reading.Head)
     : Type 0 where
-  pub prefix : PrefixOf s x r p
+  pub prefix : PrefixOf s c v p
   pub kind : kindOf k ≡ h .kind
-  pub name : WordAt s (itemNameAt x) w (h .name)
-  pub next : CursorAt s (genericsAt x) (w .next)
+  pub name : NameAt s (itemNameAt (point s c)) (n .token) (n .place) (h .name)
+  pub next : CursorAt s (genericsAt (point s c)) (n .next)
 
-abbrev pub partsShown : List ℕ → Point → ItemStep → declaration.Declaration → Type 0
-partsShown s x (itemSteps.At i) d = ItemOf s i d × ItemPlaces s x i d
-partsShown s x (itemSteps.Refused r) d = ⊥
+abbrev pub partsShown : List ℕ → Cursor → ItemStep → declaration.Declaration → Type 0
+partsShown s c (itemSteps.At i) d = ItemOf s i d × ItemPlaces s c i d
+partsShown s c (itemSteps.Refused r) d = ⊥
 
 abbrev pub parsedBy : DataType → ItemAt → Parse
 parsedBy kinds.Struct i = parses.Struct i
@@ -296,13 +312,17 @@ accepted (parses.Struct i) = true
 accepted (parses.Enum i) = true
 accepted (parses.Refused r) = false
 
+-- where the rows of a list begin
+abbrev pub first : Cursor
+first = record { at = FIRST-ROW; row = 0 }
+
 -- the answer, by its own enum: the declaration's kind, name and counts and where its parts stand, or the refusal's
 -- number and place
 abbrev pub ParsedAs : List ℕ → Parse → answers.Answer → Type 0
 ParsedAs s (parses.Struct i) (answers.declared d rs) =
-    (d .kind ≡ declaration.struct) × ItemIn s (start s) i d
+    (d .kind ≡ declaration.struct) × ItemIn s first i d
 ParsedAs s (parses.Enum i) (answers.declared d rs) =
-    (d .kind ≡ declaration.enum) × ItemIn s (start s) i d
+    (d .kind ≡ declaration.enum) × ItemIn s first i d
 ParsedAs s (parses.Refused r) (answers.declared d rs) = ⊥
 ParsedAs s (parses.Struct i) (answers.refused n p) = ⊥
 ParsedAs s (parses.Enum i) (answers.refused n p) = ⊥

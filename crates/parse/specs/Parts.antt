@@ -1,6 +1,6 @@
 -- The answers of utils, runs, attributes, visibility, data_type and generics.
 use mathlib.Core.Path.{_≡_}
-use mathlib.Core.Bool.{Bool, true, false}
+use mathlib.Core.Bool.{Bool, true, false, cond}
 use mathlib.Core.List.{List, [], _∷_}
 use Prim.Native.Nat.{ℕ, _+_, _≤_}
 use lib.ListN.{length}
@@ -22,8 +22,8 @@ use Rattle.parse.specs.declared.utils.Step.the-variants as steps
 use Rattle.parse.specs.declared.utils.Word.{Word}
 use Rattle.parse.specs.declared.utils.MaybeWord.{MaybeWord}
 use Rattle.parse.specs.declared.utils.MaybeWord.the-variants as words
-use Rattle.parse.specs.declared.utils.WordStep.{WordStep}
-use Rattle.parse.specs.declared.utils.WordStep.the-variants as wordSteps
+use Rattle.parse.specs.declared.utils.PlacedNameStep.{PlacedNameStep}
+use Rattle.parse.specs.declared.utils.PlacedNameStep.the-variants as placedNames
 use Rattle.parse.specs.declared.utils.NameStep.{NameStep}
 use Rattle.parse.specs.declared.utils.NameStep.the-variants as nameSteps
 use Rattle.parse.specs.declared.runs.Stops.{Stops}
@@ -36,6 +36,7 @@ use Rattle.parse.specs.declared.runs.Verdict.{Verdict}
 use Rattle.parse.specs.declared.runs.Verdict.the-variants as verdicts
 use Rattle.parse.specs.declared.runs.RunToken.{RunToken}
 use Rattle.parse.specs.declared.runs.RunToken.the-variants as runTokens
+use Rattle.parse.specs.declared.attributes.AttributeAt.{AttributeAt}
 use Rattle.parse.specs.declared.attributes.AttributeStep.{AttributeStep}
 use Rattle.parse.specs.declared.attributes.AttributeStep.the-variants as attributeSteps
 use Rattle.parse.specs.declared.visibility.PubWord.{PubWord}
@@ -73,12 +74,11 @@ abbrev pub stepSaid : Step → Said
 stepSaid (steps.At d) = on d
 stepSaid (steps.Refused r) = refusal r
 
--- a word of this text that begins at x: its token, the ident's row, and the row where it begins
+-- a word of this text that begins at x: its token, and the ident's row
 pub record WordAt (s : List ℕ) (x : Point) (w : Word) (name : List ℕ) : Type 0 where
   pub text : TextOf s (w .token) name
   pub token : TokenIn s (wordRow x) (w .token)
   pub row : w .row ≡ wordRow x
-  pub place : w .place ≡ x .row
 
 abbrev pub wordSaid : Cursor → MaybeWord → Said
 wordSaid c words.Missing = on c
@@ -88,9 +88,15 @@ abbrev pub wordShown : List ℕ → Cursor → MaybeWord → reading.Word → Ty
 wordShown s c words.Missing v = v ≡ reading.missing
 wordShown s c (words.Found w) v = (t : List ℕ) × (v ≡ reading.found t (w .row)) × WordAt s (point s c) w t
 
-abbrev pub wordStepSaid : WordStep → Said
-wordStepSaid (wordSteps.At w) = on (w .next)
-wordStepSaid (wordSteps.Refused r) = refusal r
+-- a name that is a word at x: its token, and the row where it begins
+pub record NameAt (s : List ℕ) (x : Point) (t : Token) (row : ℕ) (name : List ℕ) : Type 0 where
+  pub text : TextOf s t name
+  pub token : TokenIn s (wordRow x) t
+  pub place : row ≡ x .row
+
+abbrev pub placedNameSaid : PlacedNameStep → Said
+placedNameSaid (placedNames.At n) = on (n .next)
+placedNameSaid (placedNames.Refused r) = refusal r
 
 abbrev pub nameSaid : NameStep → Said
 nameSaid (nameSteps.At t d) = on d
@@ -150,23 +156,26 @@ pub record RunAt (s : List ℕ) (st : reading.Stops) (role : ℕ) (x : Point) (r
   pub tokens : InsideAt (reading.run st role) s (r .from) v
 
 abbrev pub runSaid : RunStep → Said
-runSaid (runSteps.At r) = on (r .to)
+runSaid (runSteps.At d e u) = on d
 runSaid (runSteps.Refused r) = refusal r
 
-abbrev pub runShown : List ℕ → reading.Stops → ℕ → Point → RunStep → Trees → Type 0
-runShown s st role x (runSteps.At r) v = RunAt s st role x r v
-runShown s st role x (runSteps.Refused r) v = ⊥
+-- the run that begins at c
+abbrev pub runShown : List ℕ → reading.Stops → ℕ → Cursor → RunStep → Trees → Type 0
+runShown s st role c (runSteps.At d e u) v =
+    RunAt s st role (point s c) (record { from = c; to = d; ending = e; unclosed = u }) v
+runShown s st role c (runSteps.Refused r) v = ⊥
 
 -- ## attributes
+
+-- the tokens of its group, where it is no idle mark
+abbrev pub attributeOf : List ℕ → AttributeAt → List Trees
+attributeOf s a = cond (a .idle) [] (at s (a .token .next) .here ∷ [])
 
 -- one `#` with its group, or an idle one, by the answer
 abbrev pub AttributeRead : List ℕ → Cursor → List ℕ → List ℕ → AttributeStep → Type 0
 AttributeRead s c before after (attributeSteps.One a) =
-    Gained s c (a .next) before after (at s (a .group .next) .here ∷ []) (reading.attributes (c .row) (stream s c))
-    (reading.attributes (a .next .row) (stream s (a .next))) × TokenIn s (c .row + 1) (a .group)
-AttributeRead s c before after (attributeSteps.Idle d) =
-    Gained s c d before after [] (reading.attributes (c .row) (stream s c))
-    (reading.attributes (d .row) (stream s d))
+    Gained s c (a .next) before after (attributeOf s a) (reading.attributes (c .row) (stream s c))
+    (reading.attributes (a .next .row) (stream s (a .next))) × TokenIn s (c .row + 1) (a .token)
 AttributeRead s c before after attributeSteps.Done =
     (reading.attributes (c .row) (stream s c) ≡ took [] [] (stream s c)) × (after ≡ before)
 AttributeRead s c before after (attributeSteps.Refused r) =
@@ -221,7 +230,7 @@ headSaid (headSteps.Refused r) = refusal r
 
 abbrev pub headShown : List ℕ → Cursor → HeadStep → reading.Head → Type 0
 headShown s c (headSteps.At h) v =
-    (kindOf (h .kind) ≡ v .kind) × WordAt s (beyond itemWord (point s c)) (h .name) (v .name)
+    (kindOf (h .kind) ≡ v .kind) × NameAt s (beyond itemWord (point s c)) (h .name .token) (h .name .place) (v .name)
 headShown s c (headSteps.Refused r) v = ⊥
 
 -- ## generics

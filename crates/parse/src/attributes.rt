@@ -16,16 +16,17 @@ ghost use Rattle.token_list.specs.Contract.{InList};
 ghost use Rattle.reading.specs.Reading.{attributes};
 ghost use Rattle.parse.specs.Contract.{Meets, any, stream, stepSaid, AttributeRead};
 
-// An attribute: its group's opening row, and the cursor after it.
+// A `#`: whether it is an idle mark, the token after it, which is its group's opening row or the next
+// `#`, and the cursor from which to go on.
 pub struct AttributeAt {
-    pub group: Token,
+    pub idle: bool,
+    pub token: Token,
     pub next: Cursor,
 }
 
 // One `#`: an attribute or an idle mark was taken, none stands here, or a refusal.
 pub enum AttributeStep {
     One(AttributeAt),
-    Idle(Cursor),
     Done,
     Refused(Refusal),
 }
@@ -69,7 +70,11 @@ fn marked_attribute(s: &[u8], c: Cursor, roles: &mut [u8]) -> AttributeStep
                         });
                     }
                     mark(roles, row, role::IDLE_MARK);
-                    AttributeStep::Idle(next)
+                    AttributeStep::One(AttributeAt {
+                        idle: true,
+                        token: q,
+                        next,
+                    })
                 }
                 Peeked::Group(g) => {
                     if g.mark != b'[' {
@@ -81,7 +86,8 @@ fn marked_attribute(s: &[u8], c: Cursor, roles: &mut [u8]) -> AttributeStep
                     mark(roles, row, role::ATTRIBUTE_MARK);
                     let after = take_group(s, next, g, roles, role::ATTRIBUTE_GROUP);
                     AttributeStep::One(AttributeAt {
-                        group: g,
+                        idle: false,
+                        token: g,
                         next: after,
                     })
                 }
@@ -101,9 +107,6 @@ pub fn try_take(s: &[u8], from: Cursor, roles: &mut [u8]) -> Step
         match attribute(s, c, roles) {
             AttributeStep::One(a) => {
                 c = a.next;
-            }
-            AttributeStep::Idle(next) => {
-                c = next;
             }
             AttributeStep::Done => {
                 return Step::At(c);

@@ -1,7 +1,7 @@
 // The item's word and name (virtue's parse/data_type.rs).
 use crate::role;
 use crate::utils::MaybeWord;
-use crate::utils::Word;
+use crate::utils::PlacedName;
 use crate::utils::consume_ident;
 use crate::utils::wrong_token;
 use token_list::check::Cursor;
@@ -19,7 +19,7 @@ pub enum DataType {
 // What kind of item it is, and its name.
 pub struct Head {
     pub kind: DataType,
-    pub name: Word,
+    pub name: PlacedName,
 }
 
 pub enum HeadStep {
@@ -71,7 +71,13 @@ pub fn take(s: &[u8], c: Cursor, roles: &mut [u8]) -> HeadStep
         KindStep::Refused(r) => HeadStep::Refused(r),
         KindStep::At(kind, d) => match consume_ident(s, d, roles, role::ITEM_NAME) {
             MaybeWord::Missing => HeadStep::Refused(wrong_token(s, d, 11)),
-            MaybeWord::Found(name) => HeadStep::At(Head { kind, name }),
+            MaybeWord::Found(w) => {
+                let token = w.token;
+                let place = d.row;
+                let next = w.next;
+                let name = PlacedName { token, place, next };
+                HeadStep::At(Head { kind, name })
+            }
         },
     }
 }

@@ -1,17 +1,17 @@
 // Fields (virtue's parse/body.rs: UnnamedField and what reads it).
+use crate::attributes;
 use crate::generics::CountStep;
-use crate::prefix::PrefixAt;
-use crate::prefix::PrefixStep;
-use crate::prefix::take_prefix;
 use crate::role;
 use crate::runs::Run;
 use crate::runs::RunStep;
 use crate::runs::Stops;
 use crate::runs::read_tokens_until_punct;
+use crate::utils::Step;
 use crate::utils::consume_punct_if;
 use crate::utils::mark;
 use crate::utils::take_token;
 use crate::utils::wrong_token;
+use crate::visibility;
 use token_list::check::Cursor;
 use token_list::check::Refusal;
 use token_list::stream::Peeked;
@@ -29,7 +29,7 @@ ghost use Rattle.token_list.specs.Contract.{InList, GroupAt, Skipped};
 ghost use Rattle.reading.specs.Role.{delimiter};
 ghost use Rattle.reading.specs.Place.{pastToken};
 ghost use Rattle.reading.specs.Reading.{every, fieldAfter, namedField, tupleType, tupleField};
-ghost use Rattle.parse.specs.Contract.{Meets, stream, point, Prefix, fieldType, typeAtShown, typeSaid, NamedAt, fieldShown, fieldSaid, unnamedShown, unnamedSaid, countShown, countSaid, Inside};
+ghost use Rattle.parse.specs.Contract.{Meets, any, stream, stepSaid, point, Prefix, fieldType, typeAtShown, typeSaid, NamedAt, fieldShown, fieldSaid, namedShown, namedSaid, unnamedShown, unnamedSaid, nextShown, nextSaid, countShown, countSaid, Inside};
 
 // A type: its run, and the cursor after the `,` that may follow.
 pub struct TypeAt {
@@ -42,9 +42,10 @@ pub enum TypeStep {
     Refused(Refusal),
 }
 
-// Where a field's attributes, visibility and type stand, and the cursor after the field.
+// Where a field's visibility and type stand, and the cursor after the field. Its attributes are read
+// where it begins itself.
 pub struct UnnamedFieldAt {
-    pub prefix: PrefixAt,
+    pub visibility: Cursor,
     pub run: Run,
     pub next: Cursor,
 }
@@ -54,10 +55,25 @@ pub struct FieldAt {
     pub field: UnnamedFieldAt,
 }
 
-// A named field; the end, after attributes and visibility that belong to none; or a refusal.
+// A named field; the end, after attributes and, from the first cursor on, a visibility that belong to
+// none; or a refusal.
 pub enum FieldStep {
     One(FieldAt),
-    Done(PrefixAt),
+    Done(Cursor, Cursor),
+    Refused(Refusal),
+}
+
+// A named field's name and the cursor after it, without the places of its other parts.
+pub enum NamedStep {
+    One(Token, Cursor),
+    Done(Cursor),
+    Refused(Refusal),
+}
+
+// The cursor after a thing, without the places of its parts.
+pub enum NextStep {
+    One(Cursor),
+    Done(Cursor),
     Refused(Refusal),
 }
 
@@ -86,8 +102,13 @@ fn field_type(s: &[u8], c: Cursor, roles: &mut [u8]) -> TypeStep
         role::TYPE,
     ) {
         RunStep::Refused(r) => TypeStep::Refused(r),
-        RunStep::At(run) => {
-            let to = run.to;
+        RunStep::At(to, ending, unclosed) => {
+            let run = Run {
+                from: c,
+                to,
+                ending,
+                unclosed,
+            };
             let p = consume_punct_if(s, to, roles, b',', role::SEPARATOR);
             let next = p.next;
             TypeStep::At(TypeAt { run, next })
@@ -110,20 +131,39 @@ fn field_after(s: &[u8], c: Cursor, roles: &mut [u8]) -> TypeStep
     field_type(s, next, roles)
 }
 
-// One named field, or the end.
-pub fn named_field(s: &[u8], c: Cursor, roles: &mut [u8]) -> FieldStep
+// One named field, or the end: for those who ask only for its name. A record of all places goes
+// through memory, and with it empty types took three times as long (docs/PERFORMANCE.md).
+pub fn named_field(s: &[u8], c: Cursor, roles: &mut [u8]) -> NamedStep
+    requires { ⌜ InList (now s) c ⌝ }
+    ensures { λ r. ⌜ Meets (now (s .entry)) c (now (roles .entry)) (now (roles .exit)) (namedShown (now (s .entry)) c r)
+        (namedSaid r) (namedField (c .row) (stream (now (s .entry)) c)) ⌝ }
+{
+    match named_field_at(s, c, roles) {
+        FieldStep::Refused(r) => NamedStep::Refused(r),
+        FieldStep::Done(_, end) => NamedStep::Done(end),
+        FieldStep::One(f) => {
+            let name = f.name;
+            let field = f.field;
+            let next = field.next;
+            NamedStep::One(name, next)
+        }
+    }
+}
+
+// One named field with the places of its parts, or the end.
+pub fn named_field_at(s: &[u8], c: Cursor, roles: &mut [u8]) -> FieldStep
     requires { ⌜ InList (now s) c ⌝ }
     ensures { λ r. ⌜ Meets (now (s .entry)) c (now (roles .entry)) (now (roles .exit))
-        (fieldShown (now (s .entry)) (point (now (s .entry)) c) r) (fieldSaid r)
+        (fieldShown (now (s .entry)) c r) (fieldSaid r)
         (namedField (c .row) (stream (now (s .entry)) c)) ⌝ }
 {
-    match take_prefix(s, c, roles) {
-        PrefixStep::Refused(r) => FieldStep::Refused(r),
-        PrefixStep::At(prefix) => {
-            let d = prefix.next;
+    match attributes::try_take(s, c, roles) {
+        Step::Refused(r) => FieldStep::Refused(r),
+        Step::At(visibility) => {
+            let d = visibility::try_take(s, visibility, roles);
             let row = d.row;
             match peek(s, d) {
-                Peeked::Nothing => FieldStep::Done(prefix),
+                Peeked::Nothing => FieldStep::Done(visibility, d),
                 Peeked::Group(_) => FieldStep::Refused(Refusal {
                     number: 22,
                     place: row,
@@ -141,7 +181,11 @@ pub fn named_field(s: &[u8], c: Cursor, roles: &mut [u8]) -> FieldStep
                         TypeStep::At(typed) => {
                             let run = typed.run;
                             let next = typed.next;
-                            let field = UnnamedFieldAt { prefix, run, next };
+                            let field = UnnamedFieldAt {
+                                visibility,
+                                run,
+                                next,
+                            };
                             FieldStep::One(FieldAt { name: t, field })
                         }
                     }
@@ -151,11 +195,69 @@ pub fn named_field(s: &[u8], c: Cursor, roles: &mut [u8]) -> FieldStep
     }
 }
 
-// One field without a name, or the end.
-pub fn tuple_field(s: &[u8], c: Cursor, roles: &mut [u8]) -> UnnamedFieldStep
+// A type's run and the `,` that may follow, without the places: a record of them goes through memory,
+// and with it empty types took one and a half times as long (docs/PERFORMANCE.md). So the three
+// functions below say again what field_type, tuple_type and tuple_field_at say.
+fn type_end(s: &[u8], c: Cursor, roles: &mut [u8]) -> Step
+    requires { ⌜ InList (now s) c ⌝ }
+    ensures { λ r. ⌜ Meets (now (s .entry)) c (now (roles .entry)) (now (roles .exit)) any (stepSaid r)
+        (fieldType (c .row) (stream (now (s .entry)) c)) ⌝ }
+{
+    match read_tokens_until_punct(
+        s,
+        c,
+        roles,
+        Stops {
+            comma: true,
+            angle: false,
+            group: false,
+        },
+        role::TYPE,
+    ) {
+        RunStep::Refused(r) => Step::Refused(r),
+        RunStep::At(to, _, _) => {
+            let p = consume_punct_if(s, to, roles, b',', role::SEPARATOR);
+            let next = p.next;
+            Step::At(next)
+        }
+    }
+}
+
+fn tuple_end(s: &[u8], c: Cursor, roles: &mut [u8]) -> NextStep
+    requires { ⌜ InList (now s) c ⌝ }
+    ensures { λ r. ⌜ Meets (now (s .entry)) c (now (roles .entry)) (now (roles .exit)) (nextShown r) (nextSaid r)
+        (tupleType (c .row) (stream (now (s .entry)) c)) ⌝ }
+{
+    match attributes::try_take(s, c, roles) {
+        Step::Refused(r) => NextStep::Refused(r),
+        Step::At(visibility) => {
+            let d = visibility::try_take(s, visibility, roles);
+            match type_end(s, d, roles) {
+                Step::Refused(r) => NextStep::Refused(r),
+                Step::At(next) => NextStep::One(next),
+            }
+        }
+    }
+}
+
+// One field without a name, or the end: for those who ask only where it ends.
+pub fn tuple_field(s: &[u8], c: Cursor, roles: &mut [u8]) -> NextStep
+    requires { ⌜ InList (now s) c ⌝ }
+    ensures { λ r. ⌜ Meets (now (s .entry)) c (now (roles .entry)) (now (roles .exit)) (nextShown r) (nextSaid r)
+        (tupleField (c .row) (stream (now (s .entry)) c)) ⌝ }
+{
+    let l = look(s, c);
+    if l.kind == 0 {
+        return NextStep::Done(c);
+    }
+    tuple_end(s, c, roles)
+}
+
+// One field without a name with the places of its parts, or the end.
+pub fn tuple_field_at(s: &[u8], c: Cursor, roles: &mut [u8]) -> UnnamedFieldStep
     requires { ⌜ InList (now s) c ⌝ }
     ensures { λ r. ⌜ Meets (now (s .entry)) c (now (roles .entry)) (now (roles .exit))
-        (unnamedShown (now (s .entry)) (point (now (s .entry)) c) r) (unnamedSaid r)
+        (unnamedShown (now (s .entry)) c r) (unnamedSaid r)
         (tupleField (c .row) (stream (now (s .entry)) c)) ⌝ }
 {
     let l = look(s, c);
@@ -168,19 +270,23 @@ pub fn tuple_field(s: &[u8], c: Cursor, roles: &mut [u8]) -> UnnamedFieldStep
 fn tuple_type(s: &[u8], c: Cursor, roles: &mut [u8]) -> UnnamedFieldStep
     requires { ⌜ InList (now s) c ⌝ }
     ensures { λ r. ⌜ Meets (now (s .entry)) c (now (roles .entry)) (now (roles .exit))
-        (unnamedShown (now (s .entry)) (point (now (s .entry)) c) r) (unnamedSaid r)
+        (unnamedShown (now (s .entry)) c r) (unnamedSaid r)
         (tupleType (c .row) (stream (now (s .entry)) c)) ⌝ }
 {
-    match take_prefix(s, c, roles) {
-        PrefixStep::Refused(r) => UnnamedFieldStep::Refused(r),
-        PrefixStep::At(prefix) => {
-            let d = prefix.next;
+    match attributes::try_take(s, c, roles) {
+        Step::Refused(r) => UnnamedFieldStep::Refused(r),
+        Step::At(visibility) => {
+            let d = visibility::try_take(s, visibility, roles);
             match field_type(s, d, roles) {
                 TypeStep::Refused(r) => UnnamedFieldStep::Refused(r),
                 TypeStep::At(typed) => {
                     let run = typed.run;
                     let next = typed.next;
-                    UnnamedFieldStep::One(UnnamedFieldAt { prefix, run, next })
+                    UnnamedFieldStep::One(UnnamedFieldAt {
+                        visibility,
+                        run,
+                        next,
+                    })
                 }
             }
         }
@@ -197,16 +303,14 @@ fn parse_with_name(s: &[u8], from: Cursor, roles: &mut [u8]) -> CountStep
     let mut count = 0;
     loop {
         match named_field(s, c, roles) {
-            FieldStep::One(f) => {
-                let field = f.field;
-                c = field.next;
+            NamedStep::One(_, next) => {
+                c = next;
                 count += 1;
             }
-            FieldStep::Done(p) => {
-                let end = p.next;
+            NamedStep::Done(end) => {
                 return CountStep::At(end, count);
             }
-            FieldStep::Refused(r) => {
+            NamedStep::Refused(r) => {
                 return CountStep::Refused(r);
             }
         }
@@ -223,14 +327,14 @@ fn parse(s: &[u8], from: Cursor, roles: &mut [u8]) -> CountStep
     let mut count = 0;
     loop {
         match tuple_field(s, c, roles) {
-            UnnamedFieldStep::One(f) => {
-                c = f.next;
+            NextStep::One(next) => {
+                c = next;
                 count += 1;
             }
-            UnnamedFieldStep::Done(d) => {
-                return CountStep::At(d, count);
+            NextStep::Done(end) => {
+                return CountStep::At(end, count);
             }
-            UnnamedFieldStep::Refused(r) => {
+            NextStep::Refused(r) => {
                 return CountStep::Refused(r);
             }
         }

@@ -140,8 +140,13 @@ fn marked_run(s: &[u8], c: Cursor, roles: &mut [u8], punct: u8) -> MarkedRunStep
         },
         role::BOUND,
     ) {
-        RunStep::At(r) => MarkedRunStep::At(r),
         RunStep::Refused(r) => MarkedRunStep::Refused(r),
+        RunStep::At(to, ending, unclosed) => MarkedRunStep::At(Run {
+            from: next,
+            to,
+            ending,
+            unclosed,
+        }),
     }
 }
 
@@ -379,9 +384,14 @@ pub fn try_take_constraints(s: &[u8], c: Cursor, roles: &mut [u8]) -> ClauseStep
                 role::WHERE_RUN,
             ) {
                 RunStep::Refused(r) => ClauseStep::Refused(r),
-                RunStep::At(r) => {
-                    let to = r.to;
-                    ClauseStep::At(ClauseAt::Where(r), to)
+                RunStep::At(to, ending, unclosed) => {
+                    let run = Run {
+                        from: next,
+                        to,
+                        ending,
+                        unclosed,
+                    };
+                    ClauseStep::At(ClauseAt::Where(run), to)
                 }
             }
         }

@@ -1,4 +1,5 @@
 // The item (virtue's parse/mod.rs).
+use crate::attributes;
 use crate::body::take_enum;
 use crate::body::take_struct;
 use crate::data_type;
@@ -8,18 +9,18 @@ use crate::generics;
 use crate::generics::ClauseAt;
 use crate::generics::ClauseStep;
 use crate::generics::CountStep;
-use crate::prefix::PrefixAt;
-use crate::prefix::PrefixStep;
-use crate::prefix::take_prefix;
 use crate::role;
-use crate::utils::Word;
+use crate::utils::PlacedName;
+use crate::utils::Step;
 use crate::utils::fill;
+use crate::visibility;
 use token_list::check::Checked;
 use token_list::check::Cursor;
 use token_list::check::END;
 use token_list::check::Refusal;
 use token_list::check::check;
 use token_list::layout::FIRST_ROW;
+use token_list::stream::Token;
 ghost use mathlib.Core.Path.{_≡_};
 ghost use Prim.Native.Nat.{_-_, _≤_};
 ghost use lib.ListN.{length, replicate};
@@ -27,18 +28,18 @@ ghost use lib.Seq.{sets};
 ghost use Rattle.token_list.specs.Check as list;
 ghost use Rattle.token_list.specs.Contract.{InList};
 ghost use Rattle.reading.specs.Role as role;
-ghost use Rattle.reading.specs.Took.{Point};
 ghost use Rattle.reading.specs.Reading.{Head, item, bodyOf};
 ghost use Rattle.reading.specs.Promise.{SingleAssignment};
 ghost use Rattle.parse.specs.Contract.{Meets, stream, Prefix, HeadOf, bodyShown, countSaid, partsAfter, kindOf, partsShown, itemShown, itemSaid, parsedOf, Answered, accepted};
 
-// What was read: where attributes and visibility stand, the kind, the name, how many parameters and
-// fields or variants there are, the cursors at which its generics and its body are read, its where
-// clause, and where it ended.
+// What was read: where the visibility is read (the attributes are where the item begins), the kind, the
+// name's token and the row where it begins, how many parameters and fields or variants there are, the
+// cursors at which its generics and its body are read, its where clause, and where it ended.
 pub struct ItemAt {
-    pub prefix: PrefixAt,
+    pub visibility: Cursor,
     pub kind: DataType,
-    pub name: Word,
+    pub name: Token,
+    pub place: usize,
     pub parameters: usize,
     pub count: usize,
     pub generics: Cursor,
@@ -71,14 +72,22 @@ fn body(s: &[u8], c: Cursor, roles: &mut [u8], kind: DataType) -> CountStep
 }
 
 // The parts after the name.
-fn parts(s: &[u8], prefix: PrefixAt, kind: DataType, name: Word, roles: &mut [u8]) -> ItemStep
+fn parts(
+    s: &[u8],
+    visibility: Cursor,
+    kind: DataType,
+    name: PlacedName,
+    roles: &mut [u8],
+) -> ItemStep
     requires { ⌜ InList (now s) (name .next) ⌝ }
-    ensures { λ r. ⌜ ((x : Point) (p : Prefix) (h : Head) → HeadOf (now (s .entry)) x prefix kind name p h →
+    ensures { λ r. ⌜ ((x : Cursor) (p : Prefix) (h : Head) → HeadOf (now (s .entry)) x visibility kind name p h →
         Meets (now (s .entry)) (name .next) (now (roles .entry)) (now (roles .exit))
         (partsShown (now (s .entry)) x r) (itemSaid r)
         (partsAfter p h (name .next .row) (stream (now (s .entry)) (name .next)))) ⌝ }
 {
     let c = name.next;
+    let token = name.token;
+    let place = name.place;
     match generics::try_take(s, c, roles) {
         CountStep::Refused(r) => ItemStep::Refused(r),
         CountStep::At(d, parameters) => match generics::try_take_constraints(s, d, roles) {
@@ -86,9 +95,10 @@ fn parts(s: &[u8], prefix: PrefixAt, kind: DataType, name: Word, roles: &mut [u8
             ClauseStep::At(clause, e) => match body(s, e, roles, kind) {
                 CountStep::Refused(r) => ItemStep::Refused(r),
                 CountStep::At(end, count) => ItemStep::At(ItemAt {
-                    prefix,
+                    visibility,
                     kind,
-                    name,
+                    name: token,
+                    place,
                     parameters,
                     count,
                     generics: c,
@@ -107,16 +117,16 @@ pub fn item(s: &[u8], c: Cursor, roles: &mut [u8]) -> ItemStep
     ensures { λ r. ⌜ Meets (now (s .entry)) c (now (roles .entry)) (now (roles .exit)) (itemShown (now (s .entry)) c r)
         (itemSaid r) (item (c .row) (stream (now (s .entry)) c)) ⌝ }
 {
-    match take_prefix(s, c, roles) {
-        PrefixStep::Refused(r) => ItemStep::Refused(r),
-        PrefixStep::At(prefix) => {
-            let e = prefix.next;
+    match attributes::try_take(s, c, roles) {
+        Step::Refused(r) => ItemStep::Refused(r),
+        Step::At(visibility) => {
+            let e = visibility::try_take(s, visibility, roles);
             match data_type::take(s, e, roles) {
                 HeadStep::Refused(r) => ItemStep::Refused(r),
                 HeadStep::At(h) => {
                     let kind = h.kind;
                     let name = h.name;
-                    parts(s, prefix, kind, name, roles)
+                    parts(s, visibility, kind, name, roles)
                 }
             }
         }

@@ -6,7 +6,6 @@ pub mod data_type;
 pub mod fields;
 pub mod generics;
 pub mod item;
-pub mod prefix;
 pub mod role;
 pub mod runs;
 pub mod utils;

@@ -15,7 +15,7 @@ ghost use Rattle.token_list.specs.Layout.{PUNCT};
 ghost use Rattle.token_list.specs.Stream.{at};
 ghost use Rattle.token_list.specs.Contract.{InList};
 ghost use Rattle.reading.specs.Reading.{judgePunct, belongs, ends, atComma, stopping, run};
-ghost use Rattle.parse.specs.Contract.{Meets, stream, point, stopsOf, verdictOf, RunTokenRead, runSaid, runShown};
+ghost use Rattle.parse.specs.Contract.{Meets, stream, stopsOf, verdictOf, RunTokenRead, runSaid, runShown};
 
 // What a run stops at, at depth 0.
 pub struct Stops {
@@ -40,8 +40,9 @@ pub struct Run {
     pub unclosed: bool,
 }
 
+// Where a run stopped, what ended it, and whether an angle was open there.
 pub enum RunStep {
-    At(Run),
+    At(Cursor, Ending, bool),
     Refused(Refusal),
 }
 
@@ -191,7 +192,7 @@ pub fn read_tokens_until_punct(
 ) -> RunStep
     requires { ⌜ InList (now s) from ⌝ }
     ensures { λ r. ⌜ Meets (now (s .entry)) from (now (roles .entry)) (now (roles .exit))
-        (runShown (now (s .entry)) (stopsOf stops) role (point (now (s .entry)) from) r) (runSaid r)
+        (runShown (now (s .entry)) (stopsOf stops) role from r) (runSaid r)
         (run (stopsOf stops) role (from .row) (stream (now (s .entry)) from)) ⌝ }
 {
     let mut c = from;
@@ -206,12 +207,7 @@ pub fn read_tokens_until_punct(
             }
             RunToken::Ended(ending) => {
                 let unclosed = 0 < depth;
-                return RunStep::At(Run {
-                    from,
-                    to: c,
-                    ending,
-                    unclosed,
-                });
+                return RunStep::At(c, ending, unclosed);
             }
             RunToken::Refused(r) => {
                 return RunStep::Refused(r);

@@ -28,12 +28,11 @@ pub enum Step {
     Refused(Refusal),
 }
 
-// A word: the ident's token and row, the row where it begins, which is another one where it is
-// wrapped, and the cursor past it and what wraps it.
+// A word: the ident's token and row, which is not the row where the word begins where it is wrapped,
+// and the cursor past it and what wraps it.
 pub struct Word {
     pub token: Token,
     pub row: usize,
-    pub place: usize,
     pub next: Cursor,
 }
 
@@ -48,9 +47,15 @@ pub struct MaybePunct {
     pub next: Cursor,
 }
 
-// A word that must stand there, or a refusal.
-pub enum WordStep {
-    At(Word),
+// A word that is a name: its token, the row where it begins, and the cursor past it.
+pub struct PlacedName {
+    pub token: Token,
+    pub place: usize,
+    pub next: Cursor,
+}
+
+pub enum PlacedNameStep {
+    At(PlacedName),
     Refused(Refusal),
 }
 
@@ -201,7 +206,6 @@ pub fn lone_ident(s: &[u8], inside: Cursor) -> MaybeWord
                     MaybeWord::Found(Word {
                         token: t,
                         row,
-                        place: row,
                         next: after,
                     })
                 }
@@ -226,7 +230,6 @@ pub fn consume_ident(s: &[u8], c: Cursor, roles: &mut [u8], role: u8) -> MaybeWo
             MaybeWord::Found(Word {
                 token: t,
                 row,
-                place: row,
                 next,
             })
         }
@@ -238,14 +241,7 @@ pub fn consume_ident(s: &[u8], c: Cursor, roles: &mut [u8], role: u8) -> MaybeWo
                     let next = w.next;
                     let to = next.row;
                     fill(roles, row, to, role);
-                    let token = w.token;
-                    let ident = w.row;
-                    MaybeWord::Found(Word {
-                        token,
-                        row: ident,
-                        place: row,
-                        next,
-                    })
+                    MaybeWord::Found(w)
                 }
             }
         }

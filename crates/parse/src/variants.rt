@@ -6,9 +6,9 @@ use crate::fields::tuple_group;
 use crate::generics::CountStep;
 use crate::role;
 use crate::utils::MaybeWord;
+use crate::utils::PlacedName;
+use crate::utils::PlacedNameStep;
 use crate::utils::Step;
-use crate::utils::Word;
-use crate::utils::WordStep;
 use crate::utils::consume_ident;
 use crate::utils::consume_punct_if;
 use crate::utils::is_punct;
@@ -30,7 +30,7 @@ ghost use Rattle.token_list.specs.Stream.{at};
 ghost use Rattle.token_list.specs.Contract.{InList, GroupAt};
 ghost use Rattle.reading.specs.Reading.{every, variantFields, negatable, negativeValue, discriminant, valueIf, variantHere, variant};
 ghost use Rattle.reading.specs.Place.{variantHead, literalRow};
-ghost use Rattle.parse.specs.Contract.{Meets, stream, countShown, countSaid, Inside, fieldsShown, fieldsSaid, valueShown, valueSaid, variantNameShown, wordStepSaid, variantValue, variantShown, variantSaid};
+ghost use Rattle.parse.specs.Contract.{Meets, stream, countShown, countSaid, Inside, fieldsShown, fieldsSaid, valueShown, valueSaid, variantNameShown, placedNameSaid, variantValue, variantShown, variantSaid};
 
 // The largest i64, and a tenth of it: a number above that has no room for one more digit.
 const MAX_I64: u64 = 9223372036854775807;
@@ -61,10 +61,11 @@ pub enum ValueStep {
     Refused(Refusal),
 }
 
-// Where a variant's attributes are read, where its other parts stand, and the cursor after it.
+// Where a variant's parts stand, and the cursor after it: its name's token, and the row where its name
+// begins, which is another one where it is wrapped. Its attributes are read where it begins itself.
 pub struct VariantAt {
-    pub attributes: Cursor,
-    pub name: Word,
+    pub name: Token,
+    pub place: usize,
     pub fields: FieldsAt,
     pub value: ValueAt,
     pub next: Cursor,
@@ -254,17 +255,22 @@ fn optional_value(s: &[u8], c: Cursor, roles: &mut [u8]) -> ValueStep
 }
 
 // A variant's attributes and name.
-fn variant_name(s: &[u8], c: Cursor, roles: &mut [u8]) -> WordStep
+fn variant_name(s: &[u8], c: Cursor, roles: &mut [u8]) -> PlacedNameStep
     requires { ⌜ InList (now s) c ⌝ }
     ensures { λ r. ⌜ Meets (now (s .entry)) c (now (roles .entry)) (now (roles .exit))
-        (variantNameShown (now (s .entry)) c r) (wordStepSaid r)
+        (variantNameShown (now (s .entry)) c r) (placedNameSaid r)
         (variantHead (c .row) (stream (now (s .entry)) c)) ⌝ }
 {
     match attributes::try_take(s, c, roles) {
-        Step::Refused(r) => WordStep::Refused(r),
+        Step::Refused(r) => PlacedNameStep::Refused(r),
         Step::At(d) => match consume_ident(s, d, roles, role::VARIANT_NAME) {
-            MaybeWord::Missing => WordStep::Refused(wrong_token(s, d, 11)),
-            MaybeWord::Found(w) => WordStep::At(w),
+            MaybeWord::Missing => PlacedNameStep::Refused(wrong_token(s, d, 11)),
+            MaybeWord::Found(w) => {
+                let token = w.token;
+                let place = d.row;
+                let next = w.next;
+                PlacedNameStep::At(PlacedName { token, place, next })
+            }
         },
     }
 }
@@ -292,16 +298,18 @@ fn variant_here(s: &[u8], c: Cursor, roles: &mut [u8]) -> VariantStep
         (variantShown (now (s .entry)) c r) (variantSaid r) (variantHere (c .row) (stream (now (s .entry)) c)) ⌝ }
 {
     match variant_name(s, c, roles) {
-        WordStep::Refused(r) => VariantStep::Refused(r),
-        WordStep::At(name) => {
-            let d = name.next;
+        PlacedNameStep::Refused(r) => VariantStep::Refused(r),
+        PlacedNameStep::At(n) => {
+            let name = n.token;
+            let place = n.place;
+            let d = n.next;
             match variant_fields(s, d, roles) {
                 FieldsStep::Refused(r) => VariantStep::Refused(r),
                 FieldsStep::At(fields, e) => match variant_value(s, e, roles) {
                     ValueStep::Refused(r) => VariantStep::Refused(r),
                     ValueStep::At(value, next) => VariantStep::One(VariantAt {
-                        attributes: c,
                         name,
+                        place,
                         fields,
                         value,
                         next,

@@ -103,30 +103,28 @@ fn any_scope(s: &[u8], c: Cursor, roles: &mut [u8]) -> Cursor
     }
 }
 
-// Takes a visibility where one stands (virtue's Visibility::try_take).
-pub fn try_take(s: &[u8], c: Cursor, roles: &mut [u8]) -> VisibilityAt
+// Takes a visibility where one stands (virtue's Visibility::try_take): for those who ask only where it
+// ends.
+pub fn try_take(s: &[u8], c: Cursor, roles: &mut [u8]) -> Cursor
     requires { ⌜ InList (now s) c ⌝ }
-    ensures { λ r. ⌜ Meets (now (s .entry)) c (now (roles .entry)) (now (roles .exit))
-        (visibilityShown (now (s .entry)) (point (now (s .entry)) c) r) (on (r .next))
+    ensures { λ r. ⌜ Meets (now (s .entry)) c (now (roles .entry)) (now (roles .exit)) any (on r)
         (visibility (c .row) (stream (now (s .entry)) c)) ⌝ }
 {
-    // Two calls keep `take` out of line, and the short way short.
+    // Two calls keep `try_take_at` out of line, and the short way short.
     let l = look(s, c);
     if l.kind == b'o' {
-        return take(s, c, roles);
+        let v = try_take_at(s, c, roles);
+        return v.next;
     }
     if l.mark == b'p' {
-        return take(s, c, roles);
+        let v = try_take_at(s, c, roles);
+        return v.next;
     }
-    VisibilityAt {
-        word: PubWord::Absent,
-        scope: c,
-        next: c,
-    }
+    c
 }
 
-// The same by the tokens themselves, where a look has found a group or a text that starts with `p`.
-fn take(s: &[u8], c: Cursor, roles: &mut [u8]) -> VisibilityAt
+// The same, with how `pub` stands and where its scope is read.
+pub fn try_take_at(s: &[u8], c: Cursor, roles: &mut [u8]) -> VisibilityAt
     requires { ⌜ InList (now s) c ⌝ }
     ensures { λ r. ⌜ Meets (now (s .entry)) c (now (roles .entry)) (now (roles .exit))
         (visibilityShown (now (s .entry)) (point (now (s .entry)) c) r) (on (r .next))

@@ -29,9 +29,9 @@ returns : tie.Need-returns
 returns c =
     let put-position = c .before .before .put-position in
     let put-kind = c .before .before .before .before .before .before .put-kind in
-    let put-bytes = c .before .before .before .before .before .before .before .before .before .before .before .before .put-bytes in
-    let args = c .before .before .before .before .before .before .before .before .before .before .before .before .before .before .before .before .before .args in
-    let name = slice (args .d .name .token .start) (args .d .name .token .end) (args .s .now) in
+    let put-bytes = c .before .before .before .before .before .before .before .before .before .before .before .put-bytes in
+    let args = c .before .before .before .before .before .before .before .before .before .before .before .before .before .before .before .before .args in
+    let name = slice (args .d .name .start) (args .d .name .end) (args .s .now) in
     let kind = kindText (contract.kindOf (args .d .kind)) in
     λ x k.
     let named = put-line kind name (decimal (args .d .count)) (put-kind .ensures) (put-position .ensures) in

@@ -19,7 +19,7 @@ put-byte-requires c κs = search needs
 
 put-value-requires : tie.Need-put-value-requires
 put-value-requires c κs =
-    let pre = c .before .before .before .before .before .before .before .before .before .before .before .before .before .before .pre in
+    let pre = c .before .before .before .before .before .before .before .before .before .before .before .before .before .pre in
     (pre .0 .value, pre .1 .value)
 
 put-byte-requires-2 : tie.Need-put-byte-requires-2
@@ -34,8 +34,8 @@ returns c =
     let put-value = c .before .before .before .before .before .before .put-value in
     let put-byte = c .before .before .before .before .before .before .before .before .before .before .put-byte in
     let put-head = c .before .before .before .before .before .before .before .before .before .before .before .before .before .before .put-head in
-    let args = c .before .before .before .before .before .before .before .before .before .before .before .before .before .before .before .before .before .before .before .before .before .args in
-    let name = slice (args .v .name .token .start) (args .v .name .token .end) (args .s .now) in
+    let args = c .before .before .before .before .before .before .before .before .before .before .before .before .before .before .before .before .before .before .before .before .args in
+    let name = slice (args .v .name .start) (args .v .name .end) (args .s .now) in
     λ a k.
     let n = number (args .n) (a .value) in
     let rest = joined (put-byte .ensures) (joined (put-value .ensures (a .value) (k .value)) (put-byte2 .ensures)) in

@@ -26,35 +26,35 @@ loop-holds c =
 named-field-requires : tie.Need-named-field-requires Inv-loop μ-loop
 named-field-requires c κs = c .before .loop .inv .inList
 
-enum-known-f : tie.Need-enum-known-f Inv-loop μ-loop
-enum-known-f c = search needs
+enum-known-name : tie.Need-enum-known-name Inv-loop μ-loop
+enum-known-name c = search needs
 
 put-named-requires : tie.Need-put-named-requires Inv-loop μ-loop
 put-named-requires c κs =
-    let named-field = c .before .before .before .before .before .before .before .named-field in
-    let f = c .before .before .before .f in
-    meets-tells (turn named (f .given .1) (named-field .ensures)) .4 .2 .within
+    let named-field = c .before .before .before .before .before .before .named-field in
+    let name = c .before .before .name in
+    meets-tells (turn named (name .given .1) (named-field .ensures)) .4 .2 .within
 
 add-count : tie.Need-add-count Inv-loop μ-loop
 add-count c =
-    let loop = c .before .before .before .before .before .before .before .before .before .before .before .before .before .before .loop in
-    let good = c .before .before .before .before .before .before .before .before .before .before .before .before .before .before .before .before .before .before .good in
+    let loop = c .before .before .before .before .before .before .before .before .before .before .before .loop in
+    let good = c .before .before .before .before .before .before .before .before .before .before .before .before .before .before .before .good in
     omega (arith, loop .inv .few, loop .inv .inList .within, good)
 
 loop-less : tie.Need-loop-less Inv-loop μ-loop
 loop-less c =
-    let loop = c .before .before .before .before .before .before .before .before .before .before .before .before .before .before .loop in
-    let f = c .before .before .before .before .before .before .before .before .f in
-    let named-field = c .before .before .before .before .before .before .before .before .before .before .before .before .named-field in
-    lined-less named (loop .inv) (turn named (f .given .1) (named-field .ensures)) (λ v h. (h .0, h .1, h .2))
+    let loop = c .before .before .before .before .before .before .before .before .before .before .before .loop in
+    let name = c .before .before .before .before .before .name in
+    let named-field = c .before .before .before .before .before .before .before .before .before .named-field in
+    lined-less named (loop .inv) (turn named (name .given .1) (named-field .ensures)) (λ v h. (h .0, h .1, h .2))
 
 loop-again : tie.Need-loop-again Inv-loop μ-loop
 loop-again c =
-    let loop = c .before .before .before .before .before .before .before .before .before .before .before .before .before .before .loop in
-    let f = c .before .before .before .before .before .before .before .before .f in
-    let named-field = c .before .before .before .before .before .before .before .before .before .before .before .before .named-field in
-    let put-named = c .before .before .before .before .put-named in
-    lined-more named (loop .inv) (turn named (f .given .1) (named-field .ensures)) (λ v h. (h .0, h .1, h .2))
+    let loop = c .before .before .before .before .before .before .before .before .before .before .before .loop in
+    let name = c .before .before .before .before .before .name in
+    let named-field = c .before .before .before .before .before .before .before .before .before .named-field in
+    let put-named = c .before .before .put-named in
+    lined-more named (loop .inv) (turn named (name .given .1) (named-field .ensures)) (λ v h. (h .0, h .1, h .2))
     (λ a t. put-as (ap (λ n. line FIELD n (decimal (loop .count))) (t .bytes)) (put-named .ensures))
     (named-field .kept .1 .1 .0) (put-named .kept .1 .1 .0)
 
@@ -76,7 +76,7 @@ returns : tie.Need-returns Inv-loop μ-loop
 returns c =
     let loop = c .before .before .before .before .before .before .loop in
     let named-field = c .before .before .before .before .named-field in
-    λ xs k. lined-done named (loop .inv) (turn named (c .enum-told .given .1) (named-field .ensures)) (λ v h. h .0) xs k
+    λ xs k. lined-done named (loop .inv) (turn named (c .enum-told .given .1) (named-field .ensures)) (λ v h. h) xs k
 
 enum-told-2 : tie.Need-enum-told-2 Inv-loop μ-loop
 enum-told-2 c = search needs
@@ -106,7 +106,7 @@ named-lines-spec =
     μ-loop
     loop-holds
     named-field-requires
-    enum-known-f
+    enum-known-name
     put-named-requires
     add-count
     loop-less

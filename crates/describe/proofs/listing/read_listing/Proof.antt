@@ -1,5 +1,5 @@
 use Rattle.parse.specs.Contract.{itemShown, itemSaid}
-use Rattle.parse.proofs.Items.{first}
+use Rattle.parse.specs.Contract.{first}
 use lib.ListN.{length}
 use mathlib.Core.Path.{sym, ap}
 use Rattle.parse.proofs.Meeting as meeting

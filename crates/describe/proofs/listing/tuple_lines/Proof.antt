@@ -22,32 +22,32 @@ loop-holds c =
 tuple-field-requires : tie.Need-tuple-field-requires Inv-loop μ-loop
 tuple-field-requires c κs = c .before .loop .inv .inList
 
-enum-known-f : tie.Need-enum-known-f Inv-loop μ-loop
-enum-known-f c = search needs
+enum-known-next : tie.Need-enum-known-next Inv-loop μ-loop
+enum-known-next c = search needs
 
 put-unnamed-requires : tie.Need-put-unnamed-requires Inv-loop μ-loop
 put-unnamed-requires c κs = search needs
 
 add-count : tie.Need-add-count Inv-loop μ-loop
 add-count c =
-    let loop = c .before .before .before .before .before .before .before .before .before .before .before .before .loop in
-    let good = c .before .before .before .before .before .before .before .before .before .before .before .before .before .before .before .before .good in
+    let loop = c .before .before .before .before .before .before .before .before .before .before .before .loop in
+    let good = c .before .before .before .before .before .before .before .before .before .before .before .before .before .before .before .good in
     omega (arith, loop .inv .few, loop .inv .inList .within, good)
 
 loop-less : tie.Need-loop-less Inv-loop μ-loop
 loop-less c =
-    let loop = c .before .before .before .before .before .before .before .before .before .before .before .before .loop in
-    let f = c .before .before .before .before .before .before .f in
-    let tuple-field = c .before .before .before .before .before .before .before .before .before .before .tuple-field in
-    lined-less tuple (loop .inv) (turn tuple (f .given .1) (tuple-field .ensures)) (λ v h. (h .0, h .1, tt {0}))
+    let loop = c .before .before .before .before .before .before .before .before .before .before .before .loop in
+    let next = c .before .before .before .before .before .next in
+    let tuple-field = c .before .before .before .before .before .before .before .before .before .tuple-field in
+    lined-less tuple (loop .inv) (turn tuple (next .given .1) (tuple-field .ensures)) (λ v h. (h .0, h .1, tt {0}))
 
 loop-again : tie.Need-loop-again Inv-loop μ-loop
 loop-again c =
-    let loop = c .before .before .before .before .before .before .before .before .before .before .before .before .loop in
-    let f = c .before .before .before .before .before .before .f in
-    let tuple-field = c .before .before .before .before .before .before .before .before .before .before .tuple-field in
-    let put-unnamed = c .before .before .before .put-unnamed in
-    lined-more tuple (loop .inv) (turn tuple (f .given .1) (tuple-field .ensures)) (λ v h. (h .0, h .1, tt {0}))
+    let loop = c .before .before .before .before .before .before .before .before .before .before .before .loop in
+    let next = c .before .before .before .before .before .next in
+    let tuple-field = c .before .before .before .before .before .before .before .before .before .tuple-field in
+    let put-unnamed = c .before .before .put-unnamed in
+    lined-more tuple (loop .inv) (turn tuple (next .given .1) (tuple-field .ensures)) (λ v h. (h .0, h .1, tt {0}))
     (λ a t. put-unnamed .ensures) (tuple-field .kept .1 .1 .0) (put-unnamed .kept .0)
 
 enum-told : tie.Need-enum-told Inv-loop μ-loop
@@ -98,7 +98,7 @@ tuple-lines-spec =
     μ-loop
     loop-holds
     tuple-field-requires
-    enum-known-f
+    enum-known-next
     put-unnamed-requires
     add-count
     loop-less

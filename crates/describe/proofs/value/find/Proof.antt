@@ -63,7 +63,7 @@ returns c =
     let o = loop .inv .3 vs i in
     let told : declaration.Variant → Type 0 =
     λ a. contract.VariantOf (args .s .now) (v-2 .given .0 .0) a ×
-    contract.VariantPlaces (args .s .now) (contract.point (args .s .now) (loop .c)) (v-2 .given .0 .0) a in
+    contract.VariantPlaces (args .s .now) (loop .c) (v-2 .given .0 .0) a in
     let m = inside-more reading.variant conserved.variant-round {told = told} (o .1) read
     (λ v h. (h .0, h .1, (h .2, h .3))) in
     let value = o .2 ∙ value-first {k = loop .left} (omega arith) (m .split) in

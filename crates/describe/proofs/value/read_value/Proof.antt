@@ -5,7 +5,7 @@ use Rattle.describe.specs.Contract.{ValueAs}
 use Rattle.parse.proofs.Meeting as meeting
 use Rattle.describe.proofs.Answers.{meets-tells, meets-refusal, placed-as, placed-refused}
 use Rattle.parse.specs.Contract.{itemShown, itemSaid}
-use Rattle.parse.proofs.Items.{first}
+use Rattle.parse.specs.Contract.{first}
 use Rattle.describe.specs.Value.{itemAnswer, bodyValue}
 use borrow.Author.Needs.{needs}
 use Rattle.describe.proofs.value.read_value.Statement.{statement}

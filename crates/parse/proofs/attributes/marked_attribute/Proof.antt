@@ -169,12 +169,16 @@ returns-7 c =
     let q = c .before .before .before .before .before .before .before .q in
     let is-punct2 = c .before .before .before .before .before .is-punct2 in
     let if2 = c .before .before .before .before .if2 in
-    marks.mark-idle _ _ pre _ (meeting.peeked _ _ (peek .ensures) (t .given .1))
-    (meeting.punct-of _ _ _ _ ((meeting.peeked _ _ (peek .ensures) (t .given .1)) .token) ∙ sym
-    (is-punct .ensures) ∙ not-false _ (if1 .left))
-    _ (past .ensures) _ (meeting.peeked _ _ (peek2 .ensures) (q .given .1)) _ _ ((c .before .before .mark) .ensures)
-    (meeting.punct-of _ _ _ _ ((meeting.peeked _ _ (peek2 .ensures) (q .given .1)) .token) ∙ sym
-    (is-punct2 .ensures) ∙ not-false _ (if2 .left))
+    let l = meeting.peeked _ _ (peek .ensures) (t .given .1) in
+    let k = meeting.peeked _ _ (peek2 .ensures) (q .given .1) in
+    let below = meeting.past-in-of _ _ _ _ (past .ensures) pre (l .token) in (
+      marks.mark-idle _ _ pre _ l
+          (meeting.punct-of _ _ _ _ (l .token) ∙ sym (is-punct .ensures) ∙ not-false _ (if1 .left))
+          _ (past .ensures) _ k _ _ ((c .before .before .mark) .ensures)
+          (meeting.punct-of _ _ _ _ (k .token) ∙ sym (is-punct2 .ensures) ∙ not-false _ (if2 .left)),
+      subst (λ (n : ℕ). contract.TokenIn (c .before .before .before .before .before .before .before .before .before .before .before .before .before .before .before .before .before .before .before .args .s .now) n (q .given .0 .0)) (ap (λ (x : Cursor). x .row) (past .ensures))
+          (places.token-in _ _ _ below (k .token)),
+    )
 
 same-length-2 : tie.Need-same-length-2
 same-length-2 c =

@@ -51,23 +51,6 @@ loop-again c =
     let a = c .before .before .a in
     gathering-more (loop .inv) (told _ _ _ _ (attribute .ensures) (a .given .1) .0)
 
-enum-known-next : tie.Need-enum-known-next Inv-loop μ-loop
-enum-known-next c = search needs
-
-loop-less-2 : tie.Need-loop-less-2 Inv-loop μ-loop
-loop-less-2 c =
-    let attribute = c .before .before .before .before .before .attribute in
-    let next = c .before .next in
-    let b = told _ _ _ _ (attribute .ensures) (next .given .1) in
-    omega (arith, b .moved .forth, b .some, b .moved .inList .within)
-
-loop-again-2 : tie.Need-loop-again-2 Inv-loop μ-loop
-loop-again-2 c =
-    let loop = c .before .before .before .before .before .before .before .loop in
-    let attribute = c .before .before .before .before .before .attribute in
-    let next = c .before .next in
-    gathering-more (loop .inv) (told _ _ _ _ (attribute .ensures) (next .given .1))
-
 enum-told : tie.Need-enum-told Inv-loop μ-loop
 enum-told c = search needs
 
@@ -113,9 +96,6 @@ try-take-spec =
     enum-known-a
     loop-less
     loop-again
-    enum-known-next
-    loop-less-2
-    loop-again-2
     enum-told
     same-length
     returns

@@ -8,7 +8,7 @@ use Rattle.reading.specs.Role as role
 use Rattle.token_list.specs.Stream.{Trees}
 use Prim.Native.Nat.{ℕ}
 use mathlib.Core.List.{List}
-use mathlib.Core.Path.{_≡_, sym, subst}
+use mathlib.Core.Path.{_≡_, refl, sym, subst}
 use borrow.Author.Needs.{needs}
 use Rattle.parse.proofs.data_type.take.Statement.{statement}
 use Rattle.parse.proofs.data_type.take.Tie as tie
@@ -50,8 +50,8 @@ wrong-token-requires c κs =
     let item-word = c .before .before .before .before .before .before .before .before .before .before .before .item-word in
     meeting.landed (meeting.say contract.kindShown contract.kindSaid (kind .given .1) (item-word .ensures))
 
-enum-known-name : tie.Need-enum-known-name
-enum-known-name c = search needs
+enum-known-w : tie.Need-enum-known-w
+enum-known-w c = search needs
 
 same-length : tie.Need-same-length
 same-length c = search needs
@@ -86,19 +86,19 @@ same-length-3 c = search needs
 
 returns-3 : tie.Need-returns-3
 returns-3 c =
-    let kind = c .before .before .before .before .before .before .before .before .kind in
-    let item-word = c .before .before .before .before .before .before .before .before .before .before .before .before .item-word in
-    let name = c .before .name in
-    let consume-ident = c .before .before .before .before .before .consume-ident in
-    let args = c .before .before .before .before .before .before .before .before .before .before .before .before .before .before .before .before .args in
+    let kind = c .before .before .before .before .before .before .before .before .before .before .kind in
+    let item-word = c .before .before .before .before .before .before .before .before .before .before .before .before .before .before .item-word in
+    let w = c .before .before .before .w in
+    let consume-ident = c .before .before .before .before .before .before .before .consume-ident in
+    let args = c .before .before .before .before .before .before .before .before .before .before .before .before .before .before .before .before .before .before .args in
     let word = meeting.say contract.kindShown contract.kindSaid (kind .given .1) (item-word .ensures) in
-    let found = meeting.say-word (name .given .1) (consume-ident .ensures) in
-    let named = places.meets-beyond contract.itemWord word .here in
+    let found = meeting.say-word (w .given .1) (consume-ident .ensures) in
+    let d = kind .given .0 .1 .0 in
     meeting.meets-as (split (args .c .row) (contract.stream (args .s .now) (args .c)))
     (meeting.meets-then rest word
     (λ k h. meeting.meets-word (name-of k) _ found
     (λ text x. meeting.meets-stay _ _ _ _ _ (meeting.landed found)
-    (h, subst (λ (p : Point). contract.WordAt (args .s .now) p (name .given .0 .0) text) named x))))
+    (h, places.placed-name (args .s .now) d (places.meets-beyond contract.itemWord word .here) x))))
 
 pub take-spec : {M : Type 1} → statement M
 take-spec =
@@ -110,7 +110,7 @@ take-spec =
     consume-ident-requires
     enum-told
     wrong-token-requires
-    enum-known-name
+    enum-known-w
     same-length
     returns
     same-length-2

@@ -1,9 +1,9 @@
+use borrow.Author.Needs.{needs}
 use Rattle.parse.proofs.Meeting as meeting
 use Rattle.parse.specs.Contract as contract
 use Rattle.reading.specs.Reading as reading
 use Rattle.parse.proofs.Bodies as bodies
 use Rattle.reading.specs.Role as role
-use borrow.Author.Needs.{needs}
 use Rattle.parse.proofs.fields.field_type.Statement.{statement}
 use Rattle.parse.proofs.fields.field_type.Tie as tie
 
@@ -13,16 +13,16 @@ read-tokens-until-punct-requires c κs = search needs
 enum-known-r : tie.Need-enum-known-r
 enum-known-r c = search needs
 
-enum-known-run : tie.Need-enum-known-run
-enum-known-run c = search needs
+enum-known-to : tie.Need-enum-known-to
+enum-known-to c = search needs
 
 consume-punct-if-requires : tie.Need-consume-punct-if-requires
 consume-punct-if-requires c κs =
-    let args = c .before .before .before .before .before .before .before .before .before .before .before .args in
-    let run = c .before .before .before .run in
-    let read-tokens-until-punct = c .before .before .before .before .before .before .before .read-tokens-until-punct in
-    meeting.landed (meeting.say (contract.runShown (args .s .now) reading.fieldStops role.type (contract.point (args .s .now) (args .c)))
-    contract.runSaid (run .given .1) (read-tokens-until-punct .ensures))
+    let args = c .before .before .before .before .before .before .before .before .before .before .args in
+    let to = c .before .before .to in
+    let read-tokens-until-punct = c .before .before .before .before .before .before .read-tokens-until-punct in
+    meeting.landed (meeting.say (contract.runShown (args .s .now) reading.fieldStops role.type (args .c)) contract.runSaid
+    (to .given .1) (read-tokens-until-punct .ensures))
 
 same-length : tie.Need-same-length
 same-length c = search needs
@@ -32,20 +32,20 @@ returns c =
     let args = c .before .before .before .before .before .before .before .before .before .args in
     let r = c .before .r in
     let read-tokens-until-punct = c .before .before .before .before .before .read-tokens-until-punct in
-    meeting.meets-no bodies.commaAfter (meeting.say (contract.runShown (args .s .now) reading.fieldStops role.type (contract.point (args .s .now) (args .c)))
-    contract.runSaid (r .given .1) (read-tokens-until-punct .ensures))
+    meeting.meets-no bodies.commaAfter (meeting.say (contract.runShown (args .s .now) reading.fieldStops role.type (args .c)) contract.runSaid
+    (r .given .1) (read-tokens-until-punct .ensures))
 
 same-length-2 : tie.Need-same-length-2
 same-length-2 c = search needs
 
 returns-2 : tie.Need-returns-2
 returns-2 c =
-    let args = c .before .before .before .before .before .before .before .before .before .before .before .before .before .before .before .args in
-    let run = c .before .before .before .before .before .before .before .run in
-    let read-tokens-until-punct = c .before .before .before .before .before .before .before .before .before .before .before .read-tokens-until-punct in
+    let args = c .before .before .before .before .before .before .before .before .before .before .before .before .before .before .args in
+    let to = c .before .before .before .before .before .before .to in
+    let read-tokens-until-punct = c .before .before .before .before .before .before .before .before .before .before .read-tokens-until-punct in
     let consume-punct-if = c .before .before .before .consume-punct-if in
-    meeting.meets-then bodies.commaAfter (meeting.say (contract.runShown (args .s .now) reading.fieldStops role.type (contract.point (args .s .now) (args .c)))
-    contract.runSaid (run .given .1) (read-tokens-until-punct .ensures))
+    meeting.meets-then bodies.commaAfter (meeting.say (contract.runShown (args .s .now) reading.fieldStops role.type (args .c)) contract.runSaid
+    (to .given .1) (read-tokens-until-punct .ensures))
     (λ t h. meeting.meets-map _ (λ u. t) (λ u k. h) (consume-punct-if .ensures .0))
 
 pub field-type-spec : {M : Type 1} → statement M
@@ -54,7 +54,7 @@ field-type-spec =
     (tie.spec
     read-tokens-until-punct-requires
     enum-known-r
-    enum-known-run
+    enum-known-to
     consume-punct-if-requires
     same-length
     returns

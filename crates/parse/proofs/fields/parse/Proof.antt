@@ -1,90 +1,87 @@
+use borrow.Author.Needs.{needs}
+use Rattle.parse.proofs.Meeting as meeting
+use Rattle.parse.specs.Contract as contract
+use Rattle.reading.specs.Reading as reading
 use Rattle.parse.proofs.Loops.{Rounded, rounds-start, rounds-more, rounds-done, rounds-refused, gathering-length}
 use Rattle.reading.proofs.Conserved as conserved
 use lib.ListN.{length}
 use Prim.Native.Nat.{_-_}
-use Rattle.parse.proofs.Meeting as meeting
-use Rattle.parse.specs.Contract as contract
-use Rattle.reading.specs.Reading as reading
-use borrow.Author.Needs.{needs}
 use native.Mathlib.Omega.{arith}
 use mathlib.Core.Path.{_∙_}
 use Rattle.parse.proofs.fields.parse.Statement.{statement}
 use Rattle.parse.proofs.fields.parse.Tie as tie
 
 abbrev Inv-loop : tie.InvT-loop
-Inv-loop s roles₀ c₀ count₀ roles c count =
-    Rounded s c₀ roles₀ c roles count (reading.every reading.tupleField (c₀ .row) (contract.stream s c₀))
+Inv-loop s roles₀ c₀ count₀ roles c count = Rounded s c₀ roles₀ c roles count (reading.every reading.tupleField (c₀ .row) (contract.stream s c₀))
     (reading.every reading.tupleField (c .row) (contract.stream s c))
 
 abbrev μ-loop : tie.MeasureT-loop
 μ-loop s roles₀ c₀ count₀ roles c count = length s - c .at
 
 loop-holds : tie.Need-loop-holds Inv-loop μ-loop
-loop-holds c = rounds-start _ _ _ _ (c .before .before .pre)
+loop-holds c =
+    let pre = c .before .before .pre in
+    rounds-start _ _ _ _ pre
 
 tuple-field-requires : tie.Need-tuple-field-requires Inv-loop μ-loop
-tuple-field-requires c κs = (c .before .loop) .inv .gathering .moved .inList
+tuple-field-requires c κs =
+    let loop = c .before .loop in
+    loop .inv .gathering .moved .inList
 
-enum-known-f : tie.Need-enum-known-f Inv-loop μ-loop
-enum-known-f c = search needs
+enum-known-next : tie.Need-enum-known-next Inv-loop μ-loop
+enum-known-next c = search needs
 
 add-count : tie.Need-add-count Inv-loop μ-loop
 add-count c =
-    let loop = c .before .before .before .before .before .before .before .before .loop in
+    let loop = c .before .before .before .before .before .before .before .loop in
     omega (arith, loop .inv .few, loop .inv .gathering .moved .inList .within)
 
 loop-less : tie.Need-loop-less Inv-loop μ-loop
 loop-less c =
-    let args = c .before .before .before .before .before .before .before .before .before .before .before .args in
-    let loop = c .before .before .before .before .before .before .before .before .loop in
-    let tuple-field = c .before .before .before .before .before .before .tuple-field in
-    let n = rounds-more reading.tupleField conserved.tupleField-round (loop .inv)
-    (meeting.say (contract.unnamedShown (args .s .now) (contract.point (args .s .now) (loop .c))) contract.unnamedSaid ((c .before .before .f) .given .1) (tuple-field .ensures))
-    (λ v h. (h .0, h .1)) in
+    let loop = c .before .before .before .before .before .before .before .loop in
+    let next = c .before .next in
+    let tuple-field = c .before .before .before .before .before .tuple-field in
+    let n = rounds-more reading.tupleField conserved.tupleField-round (loop .inv) (meeting.say contract.nextShown contract.nextSaid (next .given .1) (tuple-field .ensures)) (λ v h. h) in
     omega (arith, n .1, n .0 .gathering .moved .inList .within)
 
 loop-again : tie.Need-loop-again Inv-loop μ-loop
 loop-again c =
-    let args = c .before .before .before .before .before .before .before .before .before .before .before .args in
-    let loop = c .before .before .before .before .before .before .before .before .loop in
-    let tuple-field = c .before .before .before .before .before .before .tuple-field in
-    rounds-more reading.tupleField conserved.tupleField-round (loop .inv)
-    (meeting.say (contract.unnamedShown (args .s .now) (contract.point (args .s .now) (loop .c))) contract.unnamedSaid ((c .before .before .f) .given .1) (tuple-field .ensures))
-    (λ v h. (h .0, h .1)) .0
+    let loop = c .before .before .before .before .before .before .before .loop in
+    let next = c .before .next in
+    let tuple-field = c .before .before .before .before .before .tuple-field in
+    rounds-more reading.tupleField conserved.tupleField-round (loop .inv) (meeting.say contract.nextShown contract.nextSaid (next .given .1) (tuple-field .ensures)) (λ v h. h) .0
 
-enum-known-d : tie.Need-enum-known-d Inv-loop μ-loop
-enum-known-d c = search needs
+enum-known-end : tie.Need-enum-known-end Inv-loop μ-loop
+enum-known-end c = search needs
 
 same-length : tie.Need-same-length Inv-loop μ-loop
 same-length c =
-    let loop = c .before .before .before .before .before .before .before .loop in
     let tuple-field = c .before .before .before .before .before .tuple-field in
+    let loop = c .before .before .before .before .before .before .before .loop in
     tuple-field .kept .1 .1 .0 ∙ gathering-length (loop .inv .gathering)
 
 returns : tie.Need-returns Inv-loop μ-loop
 returns c =
-    let args = c .before .before .before .before .before .before .before .before .before .before .args in
     let loop = c .before .before .before .before .before .before .before .loop in
+    let end = c .before .end in
     let tuple-field = c .before .before .before .before .before .tuple-field in
-    rounds-done reading.tupleField conserved.tupleField-round (loop .inv)
-    (meeting.say (contract.unnamedShown (args .s .now) (contract.point (args .s .now) (loop .c))) contract.unnamedSaid ((c .before .d) .given .1) (tuple-field .ensures)) (λ v h. h)
+    rounds-done reading.tupleField conserved.tupleField-round (loop .inv) (meeting.say contract.nextShown contract.nextSaid (end .given .1) (tuple-field .ensures)) (λ v h. h)
 
 enum-known-r : tie.Need-enum-known-r Inv-loop μ-loop
 enum-known-r c = search needs
 
 same-length-2 : tie.Need-same-length-2 Inv-loop μ-loop
 same-length-2 c =
-    let loop = c .before .before .before .before .before .before .before .loop in
     let tuple-field = c .before .before .before .before .before .tuple-field in
+    let loop = c .before .before .before .before .before .before .before .loop in
     tuple-field .kept .1 .1 .0 ∙ gathering-length (loop .inv .gathering)
 
 returns-2 : tie.Need-returns-2 Inv-loop μ-loop
 returns-2 c =
-    let args = c .before .before .before .before .before .before .before .before .before .before .args in
     let loop = c .before .before .before .before .before .before .before .loop in
+    let r = c .before .r in
     let tuple-field = c .before .before .before .before .before .tuple-field in
-    rounds-refused reading.tupleField conserved.tupleField-round (loop .inv)
-    (meeting.say (contract.unnamedShown (args .s .now) (contract.point (args .s .now) (loop .c))) contract.unnamedSaid ((c .before .r) .given .1) (tuple-field .ensures))
+    rounds-refused reading.tupleField conserved.tupleField-round (loop .inv) (meeting.say contract.nextShown contract.nextSaid (r .given .1) (tuple-field .ensures))
 
 pub parse-spec : {M : Type 1} → statement M
 parse-spec =
@@ -94,11 +91,11 @@ parse-spec =
     μ-loop
     loop-holds
     tuple-field-requires
-    enum-known-f
+    enum-known-next
     add-count
     loop-less
     loop-again
-    enum-known-d
+    enum-known-end
     same-length
     returns
     enum-known-r

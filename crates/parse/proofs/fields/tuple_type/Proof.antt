@@ -1,3 +1,4 @@
+use borrow.Author.Needs.{needs}
 use Rattle.parse.proofs.Meeting as meeting
 use Rattle.parse.specs.Contract as contract
 use Rattle.reading.specs.Reading as reading
@@ -8,7 +9,6 @@ use Rattle.reading.specs.Role as role
 use Rattle.token_list.specs.Stream.{Trees}
 use mathlib.Core.List.{List}
 use mathlib.Core.Path.{refl, subst}
-use borrow.Author.Needs.{needs}
 use Rattle.parse.proofs.fields.tuple_type.Statement.{statement}
 use Rattle.parse.proofs.fields.tuple_type.Tie as tie
 
@@ -18,22 +18,30 @@ made p t = record { attributes = p .attributes; visibility = p .visibility; type
 abbrev type-then : List Trees → Visibility → Reader (reading.Maybe UnnamedField)
 type-then a v = reading.run reading.fieldStops role.type >>= λ t. reading.comma (made (record { attributes = a; visibility = v }) t)
 
-take-prefix-requires : tie.Need-take-prefix-requires
-take-prefix-requires c κs = search needs
+try-take-requires : tie.Need-try-take-requires
+try-take-requires c κs = search needs
 
 enum-known-r : tie.Need-enum-known-r
 enum-known-r c = search needs
 
-enum-known-prefix : tie.Need-enum-known-prefix
-enum-known-prefix c = search needs
+enum-known-visibility : tie.Need-enum-known-visibility
+enum-known-visibility c = search needs
+
+try-take-requires-2 : tie.Need-try-take-requires-2
+try-take-requires-2 c κs =
+    let visibility = c .before .before .visibility in
+    let try-take = c .before .before .before .before .before .before .try-take in
+    let attributes = meeting.say (λ x. contract.any) contract.stepSaid (visibility .given .1) (try-take .ensures) in
+    meeting.landed attributes
 
 field-type-requires : tie.Need-field-type-requires
 field-type-requires c κs =
-    let args = c .before .before .before .before .before .before .before .before .before .before .before .args in
-    let prefix = c .before .before .before .prefix in
-    let take-prefix = c .before .before .before .before .before .before .before .take-prefix in
-    let prefixed = meeting.say (contract.prefixShown (args .s .now) (contract.point (args .s .now) (args .c)))
-    contract.prefixSaid (prefix .given .1) (take-prefix .ensures) in
+    let visibility = c .before .before .before .before .before .before .visibility in
+    let try-take = c .before .before .before .before .before .before .before .before .before .before .try-take in
+    let pre = c .before .before .before .before .before .before .before .before .before .before .before .before .before .before .pre in
+    let try-take2 = c .before .before .before .try-take2 in
+    let attributes = meeting.say (λ x. contract.any) contract.stepSaid (visibility .given .1) (try-take .ensures) in
+    let prefixed = bodies.meets-prefix pre attributes (try-take2 .ensures) in
     meeting.landed prefixed
 
 enum-known-r-2 : tie.Need-enum-known-r-2
@@ -47,27 +55,28 @@ same-length c = search needs
 
 returns : tie.Need-returns
 returns c =
-    let args = c .before .before .before .before .before .before .before .before .before .args in
     let r = c .before .r in
-    let take-prefix = c .before .before .before .before .before .take-prefix in
-    let prefixed = meeting.say (contract.prefixShown (args .s .now) (contract.point (args .s .now) (args .c)))
-    contract.prefixSaid (r .given .1) (take-prefix .ensures) in
+    let try-take = c .before .before .before .before .before .try-take in
+    let args = c .before .before .before .before .before .before .before .before .before .args in
+    let attributes = meeting.say (λ x. contract.any) contract.stepSaid (r .given .1) (try-take .ensures) in
     meeting.meets-as (bodies.prefix-then (args .c .row) (contract.stream (args .s .now) (args .c)) type-then)
-    (meeting.meets-no _ prefixed)
+    (meeting.meets-no _ (bodies.prefix-refused attributes))
 
 same-length-2 : tie.Need-same-length-2
 same-length-2 c = search needs
 
 returns-2 : tie.Need-returns-2
 returns-2 c =
-    let args = c .before .before .before .before .before .before .before .before .before .before .before .before .before .before .before .before .before .args in
-    let prefix = c .before .before .before .before .before .before .before .before .before .prefix in
-    let take-prefix = c .before .before .before .before .before .before .before .before .before .before .before .before .before .take-prefix in
+    let visibility = c .before .before .before .before .before .before .before .before .before .before .before .before .visibility in
+    let try-take = c .before .before .before .before .before .before .before .before .before .before .before .before .before .before .before .before .try-take in
+    let pre = c .before .before .before .before .before .before .before .before .before .before .before .before .before .before .before .before .before .before .before .before .pre in
+    let try-take2 = c .before .before .before .before .before .before .before .before .before .try-take2 in
+    let args = c .before .before .before .before .before .before .before .before .before .before .before .before .before .before .before .before .before .before .before .before .args in
     let r2 = c .before .r2 in
     let field-type = c .before .before .before .before .before .field-type in
-    let prefixed = meeting.say (contract.prefixShown (args .s .now) (contract.point (args .s .now) (args .c)))
-    contract.prefixSaid (prefix .given .1) (take-prefix .ensures) in
-    let d = prefix .given .0 .0 .next in
+    let attributes = meeting.say (λ x. contract.any) contract.stepSaid (visibility .given .1) (try-take .ensures) in
+    let prefixed = bodies.meets-prefix pre attributes (try-take2 .ensures) in
+    let d = try-take2 .result in
     meeting.meets-as (bodies.prefix-then (args .c .row) (contract.stream (args .s .now) (args .c)) type-then)
     (meeting.meets-then _ prefixed
     (λ p h. meeting.meets-as
@@ -82,14 +91,16 @@ same-length-3 c = search needs
 
 returns-3 : tie.Need-returns-3
 returns-3 c =
-    let args = c .before .before .before .before .before .before .before .before .before .before .before .before .before .before .before .before .before .before .before .args in
-    let prefix = c .before .before .before .before .before .before .before .before .before .before .before .prefix in
-    let take-prefix = c .before .before .before .before .before .before .before .before .before .before .before .before .before .before .before .take-prefix in
+    let visibility = c .before .before .before .before .before .before .before .before .before .before .before .before .before .before .visibility in
+    let try-take = c .before .before .before .before .before .before .before .before .before .before .before .before .before .before .before .before .before .before .try-take in
+    let pre = c .before .before .before .before .before .before .before .before .before .before .before .before .before .before .before .before .before .before .before .before .before .before .pre in
+    let try-take2 = c .before .before .before .before .before .before .before .before .before .before .before .try-take2 in
+    let args = c .before .before .before .before .before .before .before .before .before .before .before .before .before .before .before .before .before .before .before .before .before .before .args in
     let typed = c .before .before .before .typed in
     let field-type = c .before .before .before .before .before .before .before .field-type in
-    let prefixed = meeting.say (contract.prefixShown (args .s .now) (contract.point (args .s .now) (args .c)))
-    contract.prefixSaid (prefix .given .1) (take-prefix .ensures) in
-    let d = prefix .given .0 .0 .next in
+    let attributes = meeting.say (λ x. contract.any) contract.stepSaid (visibility .given .1) (try-take .ensures) in
+    let prefixed = bodies.meets-prefix pre attributes (try-take2 .ensures) in
+    let d = try-take2 .result in
     meeting.meets-as (bodies.prefix-then (args .c .row) (contract.stream (args .s .now) (args .c)) type-then)
     (meeting.meets-then _ prefixed
     (λ p h. meeting.meets-as
@@ -100,8 +111,8 @@ returns-3 c =
       made p f,
       refl,
       record {
-        prefix = h;
-        type = subst (λ (x : Point). contract.RunAt (args .s .now) reading.fieldStops role.type x (typed .given .0 .0 .run) f) (h .next .here) k;
+        prefix = h .0;
+        type = subst (λ (x : Point). contract.RunAt (args .s .now) reading.fieldStops role.type x (typed .given .0 .0 .run) f) (h .1 .here) k;
       },
     ))
     (meeting.say (contract.typeAtShown (args .s .now) (contract.point (args .s .now) d)) contract.typeSaid
@@ -111,9 +122,10 @@ pub tuple-type-spec : {M : Type 1} → statement M
 tuple-type-spec =
     tie.close
     (tie.spec
-    take-prefix-requires
+    try-take-requires
     enum-known-r
-    enum-known-prefix
+    enum-known-visibility
+    try-take-requires-2
     field-type-requires
     enum-known-r-2
     enum-known-typed

@@ -16,22 +16,30 @@ use Rattle.parse.proofs.item.item.Tie as tie
 abbrev head-then : List Trees → Visibility → Reader Declaration
 head-then a v = reading.dataType >>= contract.partsAfter (record { attributes = a; visibility = v })
 
-take-prefix-requires : tie.Need-take-prefix-requires
-take-prefix-requires c κs = search needs
+try-take-requires : tie.Need-try-take-requires
+try-take-requires c κs = search needs
 
 enum-known-r : tie.Need-enum-known-r
 enum-known-r c = search needs
 
-enum-known-prefix : tie.Need-enum-known-prefix
-enum-known-prefix c = search needs
+enum-known-visibility : tie.Need-enum-known-visibility
+enum-known-visibility c = search needs
+
+try-take-requires-2 : tie.Need-try-take-requires-2
+try-take-requires-2 c κs =
+    let visibility = c .before .before .visibility in
+    let try-take = c .before .before .before .before .before .before .try-take in
+    let attributes = meeting.say (λ x. contract.any) contract.stepSaid (visibility .given .1) (try-take .ensures) in
+    meeting.landed attributes
 
 take-requires : tie.Need-take-requires
 take-requires c κs =
-    let args = c .before .before .before .before .before .before .before .before .before .before .before .args in
-    let prefix = c .before .before .before .prefix in
-    let take-prefix = c .before .before .before .before .before .before .before .take-prefix in
-    let prefixed = meeting.say (contract.prefixShown (args .s .now) (contract.point (args .s .now) (args .c)))
-    contract.prefixSaid (prefix .given .1) (take-prefix .ensures) in
+    let visibility = c .before .before .before .before .before .before .visibility in
+    let try-take = c .before .before .before .before .before .before .before .before .before .before .try-take in
+    let pre = c .before .before .before .before .before .before .before .before .before .before .before .before .before .before .pre in
+    let try-take2 = c .before .before .before .try-take2 in
+    let attributes = meeting.say (λ x. contract.any) contract.stepSaid (visibility .given .1) (try-take .ensures) in
+    let prefixed = bodies.meets-prefix pre attributes (try-take2 .ensures) in
     meeting.landed prefixed
 
 enum-known-r-2 : tie.Need-enum-known-r-2
@@ -42,11 +50,11 @@ enum-known-h c = search needs
 
 parts-requires : tie.Need-parts-requires
 parts-requires c κs =
-    let args = c .before .before .before .before .before .before .before .before .before .before .before .before .before .before .before .before .before .before .before .args in
-    let prefix = c .before .before .before .before .before .before .before .before .before .before .before .prefix in
+    let args = c .before .before .before .before .before .before .before .before .before .before .before .before .before .before .before .before .before .before .before .before .before .before .args in
+    let try-take2 = c .before .before .before .before .before .before .before .before .before .before .before .try-take2 in
     let h = c .before .before .before .h in
     let take = c .before .before .before .before .before .before .before .take in
-    let headed = meeting.say (contract.headShown (args .s .now) (prefix .given .0 .0 .next)) contract.headSaid
+    let headed = meeting.say (contract.headShown (args .s .now) (try-take2 .result)) contract.headSaid
     (h .given .1) (take .ensures) in
     meeting.landed headed
 
@@ -55,27 +63,28 @@ same-length c = search needs
 
 returns : tie.Need-returns
 returns c =
-    let args = c .before .before .before .before .before .before .before .before .before .args in
     let r = c .before .r in
-    let take-prefix = c .before .before .before .before .before .take-prefix in
-    let prefixed = meeting.say (contract.prefixShown (args .s .now) (contract.point (args .s .now) (args .c)))
-    contract.prefixSaid (r .given .1) (take-prefix .ensures) in
+    let try-take = c .before .before .before .before .before .try-take in
+    let args = c .before .before .before .before .before .before .before .before .before .args in
+    let attributes = meeting.say (λ x. contract.any) contract.stepSaid (r .given .1) (try-take .ensures) in
     meeting.meets-as (bodies.prefix-then (args .c .row) (contract.stream (args .s .now) (args .c)) head-then)
-    (meeting.meets-no _ prefixed)
+    (meeting.meets-no _ (bodies.prefix-refused attributes))
 
 same-length-2 : tie.Need-same-length-2
 same-length-2 c = search needs
 
 returns-2 : tie.Need-returns-2
 returns-2 c =
-    let args = c .before .before .before .before .before .before .before .before .before .before .before .before .before .before .before .before .before .args in
-    let prefix = c .before .before .before .before .before .before .before .before .before .prefix in
-    let take-prefix = c .before .before .before .before .before .before .before .before .before .before .before .before .before .take-prefix in
+    let visibility = c .before .before .before .before .before .before .before .before .before .before .before .before .visibility in
+    let try-take = c .before .before .before .before .before .before .before .before .before .before .before .before .before .before .before .before .try-take in
+    let pre = c .before .before .before .before .before .before .before .before .before .before .before .before .before .before .before .before .before .before .before .before .pre in
+    let try-take2 = c .before .before .before .before .before .before .before .before .before .try-take2 in
+    let args = c .before .before .before .before .before .before .before .before .before .before .before .before .before .before .before .before .before .before .before .before .args in
     let r2 = c .before .r2 in
     let take = c .before .before .before .before .before .take in
-    let prefixed = meeting.say (contract.prefixShown (args .s .now) (contract.point (args .s .now) (args .c)))
-    contract.prefixSaid (prefix .given .1) (take-prefix .ensures) in
-    let headed = meeting.say (contract.headShown (args .s .now) (prefix .given .0 .0 .next)) contract.headSaid
+    let attributes = meeting.say (λ x. contract.any) contract.stepSaid (visibility .given .1) (try-take .ensures) in
+    let prefixed = bodies.meets-prefix pre attributes (try-take2 .ensures) in
+    let headed = meeting.say (contract.headShown (args .s .now) (try-take2 .result)) contract.headSaid
     (r2 .given .1) (take .ensures) in
     meeting.meets-as (bodies.prefix-then (args .c .row) (contract.stream (args .s .now) (args .c)) head-then)
     (meeting.meets-then _ prefixed (λ p k. meeting.meets-no _ headed))
@@ -84,20 +93,23 @@ same-length-3 : tie.Need-same-length-3
 same-length-3 c =
     let parts = c .before .before .parts in
     let take = c .before .before .before .before .before .before .before .before .before .before .take in
-    let take-prefix = c .before .before .before .before .before .before .before .before .before .before .before .before .before .before .before .before .before .before .take-prefix in
-    parts .kept .1 .1 .1 .1 .0 ∙ take .kept .1 .1 .0 ∙ take-prefix .kept .1 .1 .0
+    let try-take2 = c .before .before .before .before .before .before .before .before .before .before .before .before .before .before .try-take2 in
+    let try-take = c .before .before .before .before .before .before .before .before .before .before .before .before .before .before .before .before .before .before .before .before .before .try-take in
+    parts .kept .1 .1 .1 .1 .0 ∙ take .kept .1 .1 .0 ∙ try-take2 .kept .1 .1 .0 ∙ try-take .kept .1 .1 .0
 
 returns-3 : tie.Need-returns-3
 returns-3 c =
-    let args = c .before .before .before .before .before .before .before .before .before .before .before .before .before .before .before .before .before .before .before .before .before .before .args in
-    let prefix = c .before .before .before .before .before .before .before .before .before .before .before .before .before .before .prefix in
-    let take-prefix = c .before .before .before .before .before .before .before .before .before .before .before .before .before .before .before .before .before .before .take-prefix in
+    let visibility = c .before .before .before .before .before .before .before .before .before .before .before .before .before .before .before .before .before .visibility in
+    let try-take = c .before .before .before .before .before .before .before .before .before .before .before .before .before .before .before .before .before .before .before .before .before .try-take in
+    let pre = c .before .before .before .before .before .before .before .before .before .before .before .before .before .before .before .before .before .before .before .before .before .before .before .before .before .pre in
+    let try-take2 = c .before .before .before .before .before .before .before .before .before .before .before .before .before .before .try-take2 in
+    let args = c .before .before .before .before .before .before .before .before .before .before .before .before .before .before .before .before .before .before .before .before .before .before .before .before .before .args in
     let h = c .before .before .before .before .before .before .h in
     let take = c .before .before .before .before .before .before .before .before .before .before .take in
     let parts = c .before .before .parts in
-    let prefixed = meeting.say (contract.prefixShown (args .s .now) (contract.point (args .s .now) (args .c)))
-    contract.prefixSaid (prefix .given .1) (take-prefix .ensures) in
-    let headed = meeting.say (contract.headShown (args .s .now) (prefix .given .0 .0 .next)) contract.headSaid
+    let attributes = meeting.say (λ x. contract.any) contract.stepSaid (visibility .given .1) (try-take .ensures) in
+    let prefixed = bodies.meets-prefix pre attributes (try-take2 .ensures) in
+    let headed = meeting.say (contract.headShown (args .s .now) (try-take2 .result)) contract.headSaid
     (h .given .1) (take .ensures) in
     let s = args .s .now in
     let generic = places.meets-beyond reading.dataType headed in
@@ -105,13 +117,13 @@ returns-3 c =
     (meeting.meets-as (bodies.prefix-then (args .c .row) (contract.stream (args .s .now) (args .c)) head-then)
     (meeting.meets-then _ prefixed
     (λ p k.
-    let start = k .next .here in
+    let start = k .1 .here in
     meeting.meets-then (contract.partsAfter p) headed
-    (λ x w. parts .ensures (contract.point s (args .c)) p x
+    (λ x w. parts .ensures (args .c) p x
     (record {
-      prefix = k;
+      prefix = k .0;
       kind = w .0;
-      name = subst (λ (y : Point). contract.WordAt s (beyond contract.itemWord y) (h .given .0 .0 .name) (x .name)) start (w .1);
+      name = subst (λ (y : Point). contract.NameAt s (beyond contract.itemWord y) (h .given .0 .0 .name .token) (h .given .0 .0 .name .place) (x .name)) start (w .1);
       next = places.cursor-at (ap (beyond reading.dataType) start) generic;
     })))))
 
@@ -119,9 +131,10 @@ pub item-spec : {M : Type 1} → statement M
 item-spec =
     tie.close
     (tie.spec
-    take-prefix-requires
+    try-take-requires
     enum-known-r
-    enum-known-prefix
+    enum-known-visibility
+    try-take-requires-2
     take-requires
     enum-known-r-2
     enum-known-h

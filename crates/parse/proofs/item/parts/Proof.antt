@@ -52,7 +52,7 @@ enum-known-clause c = search needs
 
 body-requires : tie.Need-body-requires
 body-requires c κs =
-    let args = c .before .before .before .before .before .before .before .before .before .before .before .before .before .before .before .before .before .before .args in
+    let args = c .before .before .before .before .before .before .before .before .before .before .before .before .before .before .before .before .before .before .before .args in
     let d = c .before .before .before .before .before .before .before .before .before .d in
     let clause = c .before .before .clause in
     let try-take-constraints = c .before .before .before .before .before .before .try-take-constraints in
@@ -83,7 +83,7 @@ returns-2 : tie.Need-returns-2
 returns-2 c =
     let d = c .before .before .before .before .before .before .before .before .d in
     let try-take = c .before .before .before .before .before .before .before .before .before .before .before .before .try-take in
-    let args = c .before .before .before .before .before .before .before .before .before .before .before .before .before .before .before .before .before .args in
+    let args = c .before .before .before .before .before .before .before .before .before .before .before .before .before .before .before .before .before .before .args in
     let r2 = c .before .r2 in
     let try-take-constraints = c .before .before .before .before .before .try-take-constraints in
     let generics = meeting.say contract.genericsShown contract.countSaid (d .given .1) (try-take .ensures) in
@@ -98,7 +98,7 @@ returns-3 : tie.Need-returns-3
 returns-3 c =
     let d = c .before .before .before .before .before .before .before .before .before .before .before .before .before .before .before .d in
     let try-take = c .before .before .before .before .before .before .before .before .before .before .before .before .before .before .before .before .before .before .before .try-take in
-    let args = c .before .before .before .before .before .before .before .before .before .before .before .before .before .before .before .before .before .before .before .before .before .before .before .before .args in
+    let args = c .before .before .before .before .before .before .before .before .before .before .before .before .before .before .before .before .before .before .before .before .before .before .before .before .before .args in
     let clause = c .before .before .before .before .before .before .before .before .clause in
     let try-take-constraints = c .before .before .before .before .before .before .before .before .before .before .before .before .try-take-constraints in
     let r3 = c .before .r3 in
@@ -117,12 +117,12 @@ returns-4 : tie.Need-returns-4
 returns-4 c =
     let d = c .before .before .before .before .before .before .before .before .before .before .before .before .before .before .before .d in
     let try-take = c .before .before .before .before .before .before .before .before .before .before .before .before .before .before .before .before .before .before .before .try-take in
-    let args = c .before .before .before .before .before .before .before .before .before .before .before .before .before .before .before .before .before .before .before .before .before .before .before .before .args in
+    let args = c .before .before .before .before .before .before .before .before .before .before .before .before .before .before .before .before .before .before .before .before .before .before .before .before .before .args in
     let clause = c .before .before .before .before .before .before .before .before .clause in
     let try-take-constraints = c .before .before .before .before .before .before .before .before .before .before .before .before .try-take-constraints in
     let end = c .before .end in
     let body = c .before .before .before .before .before .body in
-    let pre = c .before .before .before .before .before .before .before .before .before .before .before .before .before .before .before .before .before .before .before .before .before .before .before .before .pre in
+    let pre = c .before .before .before .before .before .before .before .before .before .before .before .before .before .before .before .before .before .before .before .before .before .before .before .before .before .pre in
     let generics = meeting.say contract.genericsShown contract.countSaid (d .given .1) (try-take .ensures) in
     let clauses = meeting.say (contract.clauseShown (args .s .now) (contract.point (args .s .now) (d .given .0 .0)))
     contract.clauseSaid (clause .given .1) (try-take-constraints .ensures) in

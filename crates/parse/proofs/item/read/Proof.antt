@@ -39,7 +39,7 @@ returns c =
     let r = c .before .before .before .before .before .r in
     let refuse = c .before .before .refuse in
     items.read-refused (args .s .now) (args .rows) (pre .0) (args .roles .now) (pre .1) (r .given .0 .0)
-    (meeting.say (contract.itemShown (args .s .now) items.first) contract.itemSaid (r .given .1) (item .ensures))
+    (meeting.say (contract.itemShown (args .s .now) contract.first) contract.itemSaid (r .given .1) (item .ensures))
     (refuse .ensures .0) (refuse .ensures .1 ∙ ap (λ n. replicate n 255) (item .kept .1 .1 .0))
 
 same-length-2 : tie.Need-same-length-2
@@ -52,7 +52,7 @@ returns-2 c =
     let item = c .before .before .before .before .before .before .before .before .before .before .before .item in
     let i = c .before .before .before .before .before .before .before .i in
     items.read-accepted (args .s .now) (args .rows) (pre .0) (args .roles .now) (pre .1) (i .given .0 .0)
-    (meeting.say (contract.itemShown (args .s .now) items.first) contract.itemSaid (i .given .1) (item .ensures))
+    (meeting.say (contract.itemShown (args .s .now) contract.first) contract.itemSaid (i .given .1) (item .ensures))
     ((c .before .before .before .mark-left-over) .ensures) ((c .parsed) .ensures)
 
 pub read-spec : {M : Type 1} → statement M

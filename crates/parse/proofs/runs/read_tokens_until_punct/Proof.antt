@@ -20,10 +20,10 @@ told : (s : List ℕ) (c : Cursor) (b0 b1 : List ℕ) (st : Stops) (r depth : �
 told s c b0 b1 st r depth m h e = subst (contract.RunTokenRead s c b0 b1 st r depth m) e h
 
 abbrev Inv-loop : tie.InvT-loop
-Inv-loop s from roles₀ stops role c₀ depth₀ minus₀ roles c depth minus = Running s (stopsOf stops) role c₀ roles₀ c depth minus roles
+Inv-loop s roles₀ stops role c₀ depth₀ minus₀ roles c depth minus = Running s (stopsOf stops) role c₀ roles₀ c depth minus roles
 
 abbrev μ-loop : tie.MeasureT-loop
-μ-loop s from roles₀ stops role c₀ depth₀ minus₀ roles c depth minus = length s - c .at
+μ-loop s roles₀ stops role c₀ depth₀ minus₀ roles c depth minus = length s - c .at
 
 loop-holds : tie.Need-loop-holds Inv-loop μ-loop
 loop-holds c =

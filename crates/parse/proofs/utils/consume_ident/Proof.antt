@@ -93,7 +93,6 @@ returns-3 c =
         text = record { bytes = refl; within = meeting.token-within _ _ _ (l .token) };
         token = places.ident-leaf _ _ _ pre l;
         row = sym (ap (identRow (args .c .row)) (l .here));
-        place = refl;
       },
     )
 
@@ -114,20 +113,20 @@ same-length-2 c = search needs
 
 returns-5 : tie.Need-returns-5
 returns-5 c =
-    let args = c .before .before .before .before .before .before .before .before .before .before .before .before .before .before .before .before .before .args in
-    let pre = c .before .before .before .before .before .before .before .before .before .before .before .before .before .before .before .before .before .pre in
-    let peek = c .before .before .before .before .before .before .before .before .before .before .before .before .before .before .peek in
-    let t2 = c .before .before .before .before .before .before .before .before .before .before .before .before .t2 in
-    let past = c .before .before .before .before .before .before .before .before .before .before .past in
-    let lone-ident = c .before .before .before .before .before .before .before .before .before .lone-ident in
-    let w-2 = c .before .before .before .before .before .before .before .w in
+    let args = c .before .before .before .before .before .before .before .before .before .before .before .before .before .before .before .before .args in
+    let pre = c .before .before .before .before .before .before .before .before .before .before .before .before .before .before .before .before .pre in
+    let peek = c .before .before .before .before .before .before .before .before .before .before .before .before .before .peek in
+    let t2 = c .before .before .before .before .before .before .before .before .before .before .before .t2 in
+    let past = c .before .before .before .before .before .before .before .before .before .past in
+    let lone-ident = c .before .before .before .before .before .before .before .before .lone-ident in
+    let w-2 = c .before .before .before .before .before .before .w in
     let g = meeting.peeked _ _ (peek .ensures) (t2 .given .1) in
     let a = args in
     let w = subst (λ (d : Cursor). contract.loneShown (a .s .now) d (Found (w-2 .given .0 .0))) (past .ensures)
     (subst (contract.loneShown _ _) (w-2 .given .1) (lone-ident .ensures)) in
     let m = subst⁻¹ (λ b. contract.Moved (a .s .now) (a .c) (w-2 .given .0 .0 .next)
     (reading.copied (a .role) (at (a .s .now) (t2 .given .0 .0 .next) .here))
-    (head (at (a .s .now) (t2 .given .0 .0 .next) .outer)) (a .roles .now) b) ((c .before .before .before .fill) .ensures)
+    (head (at (a .s .now) (t2 .given .0 .0 .next) .outer)) (a .roles .now) b) ((c .before .before .fill) .ensures)
     (meeting.group-moved (a .s .now) (a .c) (t2 .given .0 .0) pre (a .roles .now) (a .role) (w-2 .given .0 .0 .next)
     g (w .4)) in
     meeting.meets-group (reading.word (a .role)) (a .s .now) (a .c) pre _ (t2 .given .0 .0) g (w-2 .given .0 .0 .next)
@@ -138,7 +137,6 @@ returns-5 c =
         text = w .1;
         token = places.ident-group _ _ _ _ g (w .5);
         row = w .3 ∙ sym (ap (identRow (a .c .row)) (g .here));
-        place = refl;
       },
     )
 

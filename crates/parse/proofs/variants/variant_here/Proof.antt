@@ -1,3 +1,4 @@
+use borrow.Author.Needs.{needs}
 use Rattle.parse.proofs.Meeting as meeting
 use Rattle.parse.specs.Contract as contract
 use Rattle.reading.specs.Reading as reading
@@ -11,7 +12,6 @@ use Rattle.token_list.specs.Stream.{Trees}
 use Prim.Native.Nat.{ℕ, _+_}
 use mathlib.Core.List.{List}
 use mathlib.Core.Path.{_≡_, refl, sym, _∙_, ap, subst, fun-ext}
-use borrow.Author.Needs.{needs}
 use Rattle.parse.proofs.variants.variant_here.Statement.{statement}
 use Rattle.parse.proofs.variants.variant_here.Tie as tie
 
@@ -42,15 +42,15 @@ variant-name-requires c κs = search needs
 enum-known-r : tie.Need-enum-known-r
 enum-known-r c = search needs
 
-enum-known-name : tie.Need-enum-known-name
-enum-known-name c = search needs
+enum-known-n : tie.Need-enum-known-n
+enum-known-n c = search needs
 
 variant-fields-requires : tie.Need-variant-fields-requires
 variant-fields-requires c κs =
-    let args = c .before .before .before .before .before .before .before .before .before .before .before .args in
-    let name = c .before .before .before .name in
-    let variant-name = c .before .before .before .before .before .before .before .variant-name in
-    let named = meeting.say (contract.variantNameShown (args .s .now) (args .c)) contract.wordStepSaid (name .given .1)
+    let args = c .before .before .before .before .before .before .before .before .before .before .before .before .args in
+    let n = c .before .before .before .before .n in
+    let variant-name = c .before .before .before .before .before .before .before .before .variant-name in
+    let named = meeting.say (contract.variantNameShown (args .s .now) (args .c)) contract.placedNameSaid (n .given .1)
     (variant-name .ensures) in
     meeting.landed named
 
@@ -62,11 +62,11 @@ enum-known-fields c = search needs
 
 variant-value-requires : tie.Need-variant-value-requires
 variant-value-requires c κs =
-    let name = c .before .before .before .before .before .before .before .before .before .before .name in
-    let args = c .before .before .before .before .before .before .before .before .before .before .before .before .before .before .before .before .before .before .args in
+    let n = c .before .before .before .before .before .before .before .before .before .before .before .n in
+    let args = c .before .before .before .before .before .before .before .before .before .before .before .before .before .before .before .before .before .before .before .args in
     let fields = c .before .before .fields in
     let variant-fields = c .before .before .before .before .before .before .variant-fields in
-    let d = name .given .0 .0 .next in
+    let d = n .given .0 .0 .next in
     let grouped = meeting.say (contract.fieldsShown (args .s .now) d) contract.fieldsSaid (fields .given .1)
     (variant-fields .ensures) in
     meeting.landed grouped
@@ -85,7 +85,7 @@ returns c =
     let args = c .before .before .before .before .before .before .before .before .before .args in
     let r = c .before .r in
     let variant-name = c .before .before .before .before .before .variant-name in
-    let named = meeting.say (contract.variantNameShown (args .s .now) (args .c)) contract.wordStepSaid (r .given .1)
+    let named = meeting.say (contract.variantNameShown (args .s .now) (args .c)) contract.placedNameSaid (r .given .1)
     (variant-name .ensures) in
     meeting.meets-as (split (args .c .row) (contract.stream (args .s .now) (args .c)))
     (meeting.meets-no rest named)
@@ -95,14 +95,14 @@ same-length-2 c = search needs
 
 returns-2 : tie.Need-returns-2
 returns-2 c =
-    let args = c .before .before .before .before .before .before .before .before .before .before .before .before .before .before .before .before .before .args in
-    let name = c .before .before .before .before .before .before .before .before .before .name in
-    let variant-name = c .before .before .before .before .before .before .before .before .before .before .before .before .before .variant-name in
+    let args = c .before .before .before .before .before .before .before .before .before .before .before .before .before .before .before .before .before .before .args in
+    let n = c .before .before .before .before .before .before .before .before .before .before .n in
+    let variant-name = c .before .before .before .before .before .before .before .before .before .before .before .before .before .before .variant-name in
     let r2 = c .before .r2 in
     let variant-fields = c .before .before .before .before .before .variant-fields in
-    let named = meeting.say (contract.variantNameShown (args .s .now) (args .c)) contract.wordStepSaid (name .given .1)
+    let named = meeting.say (contract.variantNameShown (args .s .now) (args .c)) contract.placedNameSaid (n .given .1)
     (variant-name .ensures) in
-    let d = name .given .0 .0 .next in
+    let d = n .given .0 .0 .next in
     let grouped = meeting.say (contract.fieldsShown (args .s .now) d) contract.fieldsSaid (r2 .given .1)
     (variant-fields .ensures) in
     meeting.meets-as (split (args .c .row) (contract.stream (args .s .now) (args .c)))
@@ -113,16 +113,16 @@ same-length-3 c = search needs
 
 returns-3 : tie.Need-returns-3
 returns-3 c =
-    let args = c .before .before .before .before .before .before .before .before .before .before .before .before .before .before .before .before .before .before .before .before .before .before .before .before .args in
-    let name = c .before .before .before .before .before .before .before .before .before .before .before .before .before .before .before .before .name in
-    let variant-name = c .before .before .before .before .before .before .before .before .before .before .before .before .before .before .before .before .before .before .before .before .variant-name in
+    let args = c .before .before .before .before .before .before .before .before .before .before .before .before .before .before .before .before .before .before .before .before .before .before .before .before .before .args in
+    let n = c .before .before .before .before .before .before .before .before .before .before .before .before .before .before .before .before .before .n in
+    let variant-name = c .before .before .before .before .before .before .before .before .before .before .before .before .before .before .before .before .before .before .before .before .before .variant-name in
     let fields = c .before .before .before .before .before .before .before .before .fields in
     let variant-fields = c .before .before .before .before .before .before .before .before .before .before .before .before .variant-fields in
     let r3 = c .before .r3 in
     let variant-value = c .before .before .before .before .before .variant-value in
-    let named = meeting.say (contract.variantNameShown (args .s .now) (args .c)) contract.wordStepSaid (name .given .1)
+    let named = meeting.say (contract.variantNameShown (args .s .now) (args .c)) contract.placedNameSaid (n .given .1)
     (variant-name .ensures) in
-    let d = name .given .0 .0 .next in
+    let d = n .given .0 .0 .next in
     let grouped = meeting.say (contract.fieldsShown (args .s .now) d) contract.fieldsSaid (fields .given .1)
     (variant-fields .ensures) in
     let e = fields .given .0 .1 .0 in
@@ -140,17 +140,16 @@ same-length-4 c = search needs
 
 returns-4 : tie.Need-returns-4
 returns-4 c =
-    let args = c .before .before .before .before .before .before .before .before .before .before .before .before .before .before .before .before .before .before .before .before .before .before .before .before .args in
-    let name = c .before .before .before .before .before .before .before .before .before .before .before .before .before .before .before .before .name in
-    let variant-name = c .before .before .before .before .before .before .before .before .before .before .before .before .before .before .before .before .before .before .before .before .variant-name in
+    let args = c .before .before .before .before .before .before .before .before .before .before .before .before .before .before .before .before .before .before .before .before .before .before .before .before .before .args in
+    let n = c .before .before .before .before .before .before .before .before .before .before .before .before .before .before .before .before .before .n in
+    let variant-name = c .before .before .before .before .before .before .before .before .before .before .before .before .before .before .before .before .before .before .before .before .before .variant-name in
     let fields = c .before .before .before .before .before .before .before .before .fields in
     let variant-fields = c .before .before .before .before .before .before .before .before .before .before .before .before .variant-fields in
     let value = c .before .value in
     let variant-value = c .before .before .before .before .before .variant-value in
-    let pre = c .before .before .before .before .before .before .before .before .before .before .before .before .before .before .before .before .before .before .before .before .before .before .before .before .pre in
-    let named = meeting.say (contract.variantNameShown (args .s .now) (args .c)) contract.wordStepSaid (name .given .1)
+    let named = meeting.say (contract.variantNameShown (args .s .now) (args .c)) contract.placedNameSaid (n .given .1)
     (variant-name .ensures) in
-    let d = name .given .0 .0 .next in
+    let d = n .given .0 .0 .next in
     let grouped = meeting.say (contract.fieldsShown (args .s .now) d) contract.fieldsSaid (fields .given .1)
     (variant-fields .ensures) in
     let e = fields .given .0 .1 .0 in
@@ -167,9 +166,9 @@ returns-4 c =
     (λ v w. (
       made h f v,
       refl,
-      record { attributes = k .0; name = k .1 .text; fields = g .0; value = w .0 },
+      record { name = k .1 .text; fields = g .0; value = w .0 },
       record {
-        attributes = record { inList = pre; here = refl };
+        attributes = k .0;
         name = k .1;
         fields = subst (λ (x : Point). contract.FieldsIn (x .row) (fields .given .0 .0)) group (g .1);
         value = subst (λ (x : Point). contract.ValueIn (args .s .now) (literalRow (x .row + 1) v)
@@ -184,7 +183,7 @@ variant-here-spec =
     (tie.spec
     variant-name-requires
     enum-known-r
-    enum-known-name
+    enum-known-n
     variant-fields-requires
     enum-known-r-2
     enum-known-fields

@@ -8,7 +8,6 @@ use Rattle.reading.specs.Role as role
 use Rattle.token_list.specs.Stream.{Trees}
 use Prim.Native.Nat.{ℕ}
 use mathlib.Core.List.{List}
-use mathlib.Core.Path.{subst}
 use borrow.Author.Needs.{needs}
 use Rattle.parse.proofs.variants.variant_name.Statement.{statement}
 use Rattle.parse.proofs.variants.variant_name.Tie as tie
@@ -78,19 +77,19 @@ same-length-3 c = search needs
 
 returns-3 : tie.Need-returns-3
 returns-3 c =
-    let args = c .before .before .before .before .before .before .before .before .before .before .before .before .before .before .before .before .args in
-    let d = c .before .before .before .before .before .before .before .before .d in
-    let try-take = c .before .before .before .before .before .before .before .before .before .before .before .before .try-take in
-    let w = c .before .w in
-    let consume-ident = c .before .before .before .before .before .consume-ident in
-    let pre = c .before .before .before .before .before .before .before .before .before .before .before .before .before .before .before .before .pre in
+    let d = c .before .before .before .before .before .before .before .before .before .before .d in
+    let try-take = c .before .before .before .before .before .before .before .before .before .before .before .before .before .before .try-take in
+    let w = c .before .before .before .w in
+    let consume-ident = c .before .before .before .before .before .before .before .consume-ident in
+    let pre = c .before .before .before .before .before .before .before .before .before .before .before .before .before .before .before .before .before .before .pre in
+    let args = c .before .before .before .before .before .before .before .before .before .before .before .before .before .before .before .before .before .before .args in
     let attributes = meeting.say (λ x. contract.any) contract.stepSaid (d .given .1) (try-take .ensures) in
     let found = meeting.say-word (w .given .1) (consume-ident .ensures) in
     let named = places.meets-beyond reading.attributes attributes .here in
     meeting.meets-then word-then (meeting.meets-inside reading.attributes pre attributes)
     (λ a i. meeting.meets-word (name-then a) _ found
     (λ text x. meeting.meets-stay _ _ _ _ _ (meeting.landed found)
-    (i .1, subst (λ (p : Point). contract.WordAt (args .s .now) p (w .given .0 .0) text) named x)))
+    (i .1, places.placed-name (args .s .now) (d .given .0 .0) named x)))
 
 pub variant-name-spec : {M : Type 1} → statement M
 variant-name-spec =

@@ -1,7 +1,7 @@
+use Rattle.parse.proofs.Meeting as meeting
+use Rattle.parse.specs.Contract as contract
+use Rattle.reading.specs.Reading as reading
 use mathlib.Core.Path.{refl, _∙_}
-use Rattle.reading.specs.Reading.{visibility}
-use Rattle.parse.specs.Contract.{stream}
-use Rattle.parse.proofs.Meeting.{meets-same}
 use Rattle.parse.proofs.Looks.{no-visibility}
 use borrow.Author.Needs.{needs}
 use Rattle.parse.proofs.visibility.try_take.Statement.{statement}
@@ -10,23 +10,27 @@ use Rattle.parse.proofs.visibility.try_take.Tie as tie
 look-requires : tie.Need-look-requires
 look-requires c κs = search needs
 
-take-requires : tie.Need-take-requires
-take-requires c κs = search needs
+try-take-at-requires : tie.Need-try-take-at-requires
+try-take-at-requires c κs = search needs
 
 same-length : tie.Need-same-length
 same-length c = search needs
 
 returns : tie.Need-returns
-returns c = search needs
+returns c =
+    let try-take-at = c .before .before .before .try-take-at in
+    meeting.meets-show (λ v h. tt) (try-take-at .ensures)
 
-take-requires-2 : tie.Need-take-requires-2
-take-requires-2 c κs = search needs
+try-take-at-requires-2 : tie.Need-try-take-at-requires-2
+try-take-at-requires-2 c κs = search needs
 
 same-length-2 : tie.Need-same-length-2
 same-length-2 c = search needs
 
 returns-2 : tie.Need-returns-2
-returns-2 c = search needs
+returns-2 c =
+    let try-take-at2 = c .before .before .before .try-take-at2 in
+    meeting.meets-show (λ v h. tt) (try-take-at2 .ensures)
 
 returns-3 : tie.Need-returns-3
 returns-3 c =
@@ -36,20 +40,20 @@ returns-3 c =
     let if1 = c .before .before .if1 in
     let if2 = c .if2 in
     let l = look .ensures in
-    meets-same visibility (args .s .now) (args .c) pre _ _ _ _ refl
-    (no-visibility (args .c .row) (stream (args .s .now) (args .c)) (λ e. if1 .left (l .kind ∙ e))
+    meeting.meets-same reading.visibility (args .s .now) (args .c) pre _ _ _ _ refl
+    (no-visibility (args .c .row) (contract.stream (args .s .now) (args .c)) (λ e. if1 .left (l .kind ∙ e))
     (λ e. if2 .left (l .mark ∙ e)))
-    refl
+    tt
 
 pub try-take-spec : {M : Type 1} → statement M
 try-take-spec =
     tie.close
     (tie.spec
     look-requires
-    take-requires
+    try-take-at-requires
     same-length
     returns
-    take-requires-2
+    try-take-at-requires-2
     same-length-2
     returns-2
     returns-3)

@@ -7,8 +7,8 @@ use Prim.Native.Nat.{ℕ}
 use mathlib.Core.List.{List}
 use mathlib.Core.Path.{_≡_, refl, subst}
 use borrow.Author.Needs.{needs}
-use Rattle.parse.proofs.visibility.take.Statement.{statement}
-use Rattle.parse.proofs.visibility.take.Tie as tie
+use Rattle.parse.proofs.visibility.try_take_at.Statement.{statement}
+use Rattle.parse.proofs.visibility.try_take_at.Tie as tie
 
 told : (s : List ℕ) (c : Cursor) (b0 b1 : List ℕ) {t u : PubStep} → contract.PubRead s c b0 b1 t → t ≡ u →
     contract.PubRead s c b0 b1 u
@@ -75,8 +75,8 @@ returns-3 c =
     (meeting.meets-show (λ v h. (b .0, b .1, h .1))
     (meeting.meets-inside reading.anyScope (b .1 .inList) (any-scope .ensures)))
 
-pub take-spec : {M : Type 1} → statement M
-take-spec =
+pub try-take-at-spec : {M : Type 1} → statement M
+try-take-at-spec =
     tie.close
     (tie.spec
     pub-word-requires

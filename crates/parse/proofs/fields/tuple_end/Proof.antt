@@ -1,0 +1,130 @@
+use borrow.Author.Needs.{needs}
+use Rattle.parse.proofs.Meeting as meeting
+use Rattle.parse.specs.Contract as contract
+use Rattle.reading.specs.Reading as reading
+use Rattle.parse.proofs.Bodies as bodies
+use Rattle.reading.specs.Took.{Reader, _>>=_}
+use Rattle.reading.specs.Declaration.{Visibility, UnnamedField}
+use Rattle.reading.specs.Role as role
+use Rattle.token_list.specs.Stream.{Trees}
+use mathlib.Core.List.{List}
+use mathlib.Core.Path.{refl}
+use Rattle.parse.proofs.fields.tuple_end.Statement.{statement}
+use Rattle.parse.proofs.fields.tuple_end.Tie as tie
+
+abbrev made : contract.Prefix → Trees → UnnamedField
+made p t = record { attributes = p .attributes; visibility = p .visibility; type = t }
+
+abbrev type-then : List Trees → Visibility → Reader (reading.Maybe UnnamedField)
+type-then a v = reading.run reading.fieldStops role.type >>= λ t. reading.comma (made (record { attributes = a; visibility = v }) t)
+
+try-take-requires : tie.Need-try-take-requires
+try-take-requires c κs = search needs
+
+enum-known-r : tie.Need-enum-known-r
+enum-known-r c = search needs
+
+enum-known-visibility : tie.Need-enum-known-visibility
+enum-known-visibility c = search needs
+
+try-take-requires-2 : tie.Need-try-take-requires-2
+try-take-requires-2 c κs =
+    let visibility = c .before .before .visibility in
+    let try-take = c .before .before .before .before .before .before .try-take in
+    let attributes = meeting.say (λ x. contract.any) contract.stepSaid (visibility .given .1) (try-take .ensures) in
+    meeting.landed attributes
+
+type-end-requires : tie.Need-type-end-requires
+type-end-requires c κs =
+    let visibility = c .before .before .before .before .before .before .visibility in
+    let try-take = c .before .before .before .before .before .before .before .before .before .before .try-take in
+    let pre = c .before .before .before .before .before .before .before .before .before .before .before .before .before .before .pre in
+    let try-take2 = c .before .before .before .try-take2 in
+    let attributes = meeting.say (λ x. contract.any) contract.stepSaid (visibility .given .1) (try-take .ensures) in
+    let prefixed = bodies.meets-prefix pre attributes (try-take2 .ensures) in
+    meeting.landed prefixed
+
+enum-known-r-2 : tie.Need-enum-known-r-2
+enum-known-r-2 c = search needs
+
+enum-known-next : tie.Need-enum-known-next
+enum-known-next c = search needs
+
+same-length : tie.Need-same-length
+same-length c = search needs
+
+returns : tie.Need-returns
+returns c =
+    let r = c .before .r in
+    let try-take = c .before .before .before .before .before .try-take in
+    let args = c .before .before .before .before .before .before .before .before .before .args in
+    let attributes = meeting.say (λ x. contract.any) contract.stepSaid (r .given .1) (try-take .ensures) in
+    meeting.meets-as (bodies.prefix-then (args .c .row) (contract.stream (args .s .now) (args .c)) type-then)
+    (meeting.meets-no _ (bodies.prefix-refused attributes))
+
+same-length-2 : tie.Need-same-length-2
+same-length-2 c = search needs
+
+returns-2 : tie.Need-returns-2
+returns-2 c =
+    let visibility = c .before .before .before .before .before .before .before .before .before .before .before .before .visibility in
+    let try-take = c .before .before .before .before .before .before .before .before .before .before .before .before .before .before .before .before .try-take in
+    let pre = c .before .before .before .before .before .before .before .before .before .before .before .before .before .before .before .before .before .before .before .before .pre in
+    let try-take2 = c .before .before .before .before .before .before .before .before .before .try-take2 in
+    let args = c .before .before .before .before .before .before .before .before .before .before .before .before .before .before .before .before .before .before .before .before .args in
+    let r2 = c .before .r2 in
+    let type-end = c .before .before .before .before .before .type-end in
+    let attributes = meeting.say (λ x. contract.any) contract.stepSaid (visibility .given .1) (try-take .ensures) in
+    let prefixed = bodies.meets-prefix pre attributes (try-take2 .ensures) in
+    let d = try-take2 .result in
+    meeting.meets-as (bodies.prefix-then (args .c .row) (contract.stream (args .s .now) (args .c)) type-then)
+    (meeting.meets-then _ prefixed
+    (λ p h. meeting.meets-as
+    (bodies.comma-as (d .row) (reading.run reading.fieldStops role.type (d .row) (contract.stream (args .s .now) d))
+    (made p))
+    (meeting.meets-no _
+    (meeting.say (λ x. contract.any) contract.stepSaid
+    (r2 .given .1) (type-end .ensures)))))
+
+same-length-3 : tie.Need-same-length-3
+same-length-3 c = search needs
+
+returns-3 : tie.Need-returns-3
+returns-3 c =
+    let visibility = c .before .before .before .before .before .before .before .before .before .before .before .before .visibility in
+    let try-take = c .before .before .before .before .before .before .before .before .before .before .before .before .before .before .before .before .try-take in
+    let pre = c .before .before .before .before .before .before .before .before .before .before .before .before .before .before .before .before .before .before .before .before .pre in
+    let try-take2 = c .before .before .before .before .before .before .before .before .before .try-take2 in
+    let args = c .before .before .before .before .before .before .before .before .before .before .before .before .before .before .before .before .before .before .before .before .args in
+    let next = c .before .next in
+    let type-end = c .before .before .before .before .before .type-end in
+    let attributes = meeting.say (λ x. contract.any) contract.stepSaid (visibility .given .1) (try-take .ensures) in
+    let prefixed = bodies.meets-prefix pre attributes (try-take2 .ensures) in
+    let d = try-take2 .result in
+    meeting.meets-as (bodies.prefix-then (args .c .row) (contract.stream (args .s .now) (args .c)) type-then)
+    (meeting.meets-then _ prefixed
+    (λ p h. meeting.meets-as
+    (bodies.comma-as (d .row) (reading.run reading.fieldStops role.type (d .row) (contract.stream (args .s .now) d))
+    (made p))
+    (meeting.meets-map (d .row) (λ f. reading.one (made p f))
+    (λ f k. (made p f, refl))
+    (meeting.say (λ x. contract.any) contract.stepSaid
+    (next .given .1) (type-end .ensures)))))
+
+pub tuple-end-spec : {M : Type 1} → statement M
+tuple-end-spec =
+    tie.close
+    (tie.spec
+    try-take-requires
+    enum-known-r
+    enum-known-visibility
+    try-take-requires-2
+    type-end-requires
+    enum-known-r-2
+    enum-known-next
+    same-length
+    returns
+    same-length-2
+    returns-2
+    same-length-3
+    returns-3)
