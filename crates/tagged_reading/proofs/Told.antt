@@ -67,7 +67,8 @@ module _ (b : ℕ) where
 
     keyed-told : (row : ℕ) (q : Row) (us : Trees) → isIdent q ≡ true → row + size (leaf q us) ≤ b
         → Told (leaf q us) (keyed row (q .text) us)
-    keyed-told row q end k h = added (tag (q .text) ∷ []) (role.tag ∷ []) (g.Entry.tag k g.Separated.last) refl refl done
+    keyed-told row q end k h =
+        added (tag (q .text) ∷ []) (role.tag ∷ []) (g.Entry.tag k g.Separated.last) refl refl done
     keyed-told row q (group d ts us) k h = refuses {p = row} refl (omega arith)
     keyed-told row q (leaf p us) k h =
         choice (isPunct COMMA p)

@@ -1,4 +1,5 @@
--- What the grammar admits with some differences, it admits with all: so with any of them there is at most one assignment.
+-- What the grammar admits with some differences, it admits with all: so with any of them there is at most one
+-- assignment.
 use mathlib.Core.Path.{_≡_, refl}
 use mathlib.Core.Bool.{Bool, true, _||_}
 use mathlib.Core.List.{List}

@@ -1,5 +1,5 @@
--- The grammar of tagged attributes (document 01, module 6) as relations, written without the reading. `N ts us rs` says:
--- an N stands first in the stream ts, us is what is left after it, and rs are the roles of the rows between.
+-- The grammar of tagged attributes (document 01, module 6) as relations, written without the reading. `N ts us rs`
+-- says: an N stands first in the stream ts, us is what is left after it, and rs are the roles of the rows between.
 -- Productions are those of the Rust Reference 1.63, "Attributes".
 use mathlib.Core.Path.{_≡_}
 use mathlib.Core.Bool.{Bool, true, false, _&&_, _||_}
@@ -25,8 +25,8 @@ abbrev pub everything : Difference → Bool
 everything d = true
 
 -- None of them: what document 01 and the Reference read alike, up to what stands inside literals. Refused then, though
--- the Reference admits it: a path of several segments; a MetaItem with a group of its own; an Expression as an entry, and
--- one that is no literal as a value.
+-- the Reference admits it: a path of several segments; a MetaItem with a group of its own; an Expression as an entry,
+-- and one that is no literal as a value.
 abbrev pub nothing : Difference → Bool
 nothing d = false
 
