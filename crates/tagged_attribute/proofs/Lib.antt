@@ -5,3 +5,6 @@ pub mod Entries
 pub mod Turns
 pub mod Finding
 pub mod Answers
+pub mod Lines
+pub mod Lengths
+pub mod Reports

@@ -72,12 +72,12 @@ module _ {s : List ℕ} where
           roles = e ∙ ap (λ (n : ℕ). sets b0 (c .row) (others n)) z;
         }
 
-adding-none : (a : Answer) → a ≡ adding [] [] a
+pub adding-none : (a : Answer) → a ≡ adding [] [] a
 adding-none none = refl
 adding-none (read es rs) = refl
 adding-none (refused n p) = refl
 
-adding-both : (es fs : List Entry) (rs qs : List ℕ) (a : Answer) →
+pub adding-both : (es fs : List Entry) (rs qs : List ℕ) (a : Answer) →
     adding es rs (adding fs qs a) ≡ adding (es ++ fs) (rs ++ qs) a
 adding-both es fs rs qs none = refl
 adding-both es fs rs qs (read gs ps) = simp append-assoc

@@ -20,7 +20,7 @@ use Rattle.tagged_reading.specs.Entry.{Entry}
 use Rattle.tagged_reading.specs.Grammar as g
 use Rattle.tagged_reading.specs.Grammar.{everything}
 use Rattle.tagged_reading.specs.Reading.{Answer, none, read, refused, tagged}
-use Rattle.tagged_reading.specs.Answer.{framed, answer, buffer, taggedNumber, reads}
+use Rattle.tagged_reading.specs.Answer.{framed, answer, buffer, ownNumber, taggedNumber, reads}
 use Rattle.tagged_reading.specs.Promise.{Assignment, OneEach, TaggedAssignment}
 use Rattle.tagged_reading.proofs.Told as told
 use Rattle.tagged_reading.proofs.Told.{AllTold, Assigned, tagged-told}
@@ -48,6 +48,10 @@ never e = let z : _≡_ {A = ℕ} 0 1 = cc in omega arith
 
 never-none : {es : List Entry} {rs : List ℕ} → read es rs ≡ none → ⊥
 never-none e = let z : _≡_ {A = ℕ} 0 1 = cc in omega arith
+
+or-second : (t : Bool) {u : Bool} → u ≡ true → (t || u) ≡ true
+or-second true e = refl
+or-second false e = e
 
 -- ## Lists
 
@@ -137,7 +141,7 @@ module _ (prefix s : List ℕ) where
         let o = check-refusal s m p e in
         let h = and-parts (leb 1 m) (leb m 7) (o .one) in
         let low : (leb 1 m && leb m 8) ≡ true = and-both _ _ (h .0) (le-leb m 8 (omega (arith, leb-true m 7 (h .1)))) in
-        record { one = ap (λ (t : Bool). t || (between 28 29 m || eqb m 31)) low; stands = o .stands }
+        record { one = ap (λ (t : Bool). t || ownNumber m) low; stands = o .stands }
 
     own-number : (k : ℕ) {m p : ℕ} → list.check s ≡ list.Answer.passed k → AllTold prefix stream (refused m p)
         → OneRefusal taggedNumber s m p
@@ -148,7 +152,7 @@ module _ (prefix s : List ℕ) where
           begins = omega (arith, passed-list s k e .size, b .begun, l);
           low = omega (arith, passed-list s k e .size, b .rows, l);
         } in
-        record { one = one; stands = ⊎-elim inl (λ l. inr (row l)) place }
+        record { one = or-second (between 1 8 m) one; stands = ⊎-elim inl (λ l. inr (row l)) place }
 
     pub answer-refusal : (m p : ℕ) → answer prefix s n ≡ refused m p → OneRefusal taggedNumber s m p
     answer-refusal m p =
@@ -159,3 +163,23 @@ module _ (prefix s : List ℕ) where
         subst (λ (v : ℕ). OneRefusal taggedNumber s v p) x
         (subst (OneRefusal taggedNumber s 8) y (record { one = refl; stands = inl refl })))
         (λ k e l i. own-number k e (subst (AllTold prefix stream) i (tagged-told prefix stream)))
+
+    -- with a role byte for each row that a list may have, 8 is not given
+    pub never-short : 4096 ≤ n → (p : ℕ) → answer prefix s n ≡ refused 8 p → ⊥
+    never-short room p =
+        answer-cases (λ (a : Answer). a ≡ refused 8 p → ⊥)
+        (λ m q e i. let x : m ≡ 8 = cc in
+        false≢true (sym (ap (between 1 7) x) ∙ check-refusal s m q e .one))
+        (λ k e l i. omega (arith, bounds s e .rows))
+        (λ k e l i. own (subst (AllTold prefix stream) i (tagged-told prefix stream)))
+      where
+        own : AllTold prefix stream (refused 8 p) → ⊥
+        own (told.AllTold.refuses one place) = false≢true one
+
+    -- what is read is read of a list that passed
+    pub read-passed : (es : List Entry) (rs : List ℕ) → answer prefix s n ≡ read es rs
+        → (k : ℕ) × (list.check s ≡ list.Answer.passed k) × (tagged prefix stream ≡ read es rs)
+    read-passed es rs =
+        answer-cases (λ (a : Answer). a ≡ read es rs
+        → (k : ℕ) × (list.check s ≡ list.Answer.passed k) × (tagged prefix stream ≡ read es rs))
+        (λ m q e i. absurd (never (sym i))) (λ k e l i. absurd (never (sym i))) (λ k e l i. (k, e, i))

@@ -22,7 +22,7 @@ use Rattle.tagged_reading.specs.Entry.{Entry, tag, property}
 use Rattle.tagged_reading.specs.Grammar as g
 use Rattle.tagged_reading.specs.Grammar.{everything}
 use Rattle.tagged_reading.specs.Reading.{Answer, none, read, refused, adding, before, entries, keyed, valued, separated, FIRST-ENTRY, listAfter, attribute, tagged}
-use Rattle.tagged_reading.specs.Answer.{taggedNumber}
+use Rattle.tagged_reading.specs.Answer.{ownNumber}
 
 -- ## Roles
 
@@ -125,11 +125,7 @@ pub record Assigned (prefix : List ℕ) (ts : Trees) (rs : List ℕ) : Type 0 wh
 pub data AllTold (prefix : List ℕ) (ts : Trees) : Answer → Type 0 where
   nothing : AllTold prefix ts none
   reads : {es : List Entry} (rs : List ℕ) → Assigned prefix ts rs → AllTold prefix ts (read es rs)
-  refuses : {n p : ℕ} → taggedNumber n ≡ true → (p ≡ END) ⊎ (p < size ts) → AllTold prefix ts (refused n p)
-
-or-second : (t : Bool) {u : Bool} → u ≡ true → (t || u) ≡ true
-or-second true e = refl
-or-second false e = e
+  refuses : {n p : ℕ} → ownNumber n ≡ true → (p ≡ END) ⊎ (p < size ts) → AllTold prefix ts (refused n p)
 
 module _ (prefix : List ℕ) where
   list-told : (d e : ℕ) (q : Row) (ts us : Trees) {a : Answer} → isWord prefix q ≡ true
@@ -148,7 +144,7 @@ module _ (prefix : List ℕ) where
         named = named-both rs (others (n + 1)) m (named-others (n + 1));
       })
   list-told d e q ts us k (refuses {n = n} {p = p} h l) =
-      refuses (or-second (between 1 8 n) (ap (λ (t : Bool). t || eqb n 31) h)) (inr l)
+      refuses (ap (λ (t : Bool). t || eqb n 31) h) (inr l)
 
   choose : {ts : Trees} {x y : Answer} (t : Bool) → (t ≡ true → AllTold prefix ts x)
       → (t ≡ false → AllTold prefix ts y) → AllTold prefix ts (cond t x y)

@@ -27,9 +27,12 @@ buffer n none = replicate n no-role
 buffer n (read es rs) = rs ++ replicate (n - length rs) no-role
 buffer n (refused m p) = replicate n no-role
 
--- the numbers of refusals: those of the list check, 8, 28, 29 and 31
+-- the numbers of a tagged attribute's own refusals, and with those of the list check and 8 all that are given
+abbrev pub ownNumber : ℕ → Bool
+ownNumber n = between 28 29 n || eqb n 31
+
 abbrev pub taggedNumber : ℕ → Bool
-taggedNumber n = between 1 8 n || (between 28 29 n || eqb n 31)
+taggedNumber n = between 1 8 n || ownNumber n
 
 -- whether entries are read: neither none nor a refusal
 abbrev pub reads : Answer → Bool
