@@ -24,6 +24,8 @@ for program in rows roles listing; do
     cmp examples/valve.tokens crates/$program/stdin
 done
 sed -n '/^    part name number$/,/^$/s/^    //p' README.md | cmp - examples/controller.listing
+cmp examples/tagged.tokens crates/tagged/stdin
+sed -n '/^    part name value$/,/^$/s/^    //p' README.md | cmp - crates/tagged/stdout
 
 # The names of roles and refusals are those of the header, with the same numbers.
 mkdir -p target/bindings

@@ -1,5 +1,5 @@
 -- The number of the answer about a tagged attribute.
-use mathlib.Core.Path.{_≡_, refl, sym}
+use mathlib.Core.Path.{_≡_, refl}
 use mathlib.Core.Bool.{Bool, true, false, _&&_, _||_}
 use mathlib.Core.List.{List}
 use Prim.Native.Nat.{ℕ, _≤_, _<_}
@@ -8,7 +8,6 @@ use borrow.Author.Tests.{leb-true, eqb-true}
 use lib.Dec.{leb, eqb}
 use Rattle.token_list.specs.Text.{between}
 use Rattle.token_list.specs.Place.{OneRefusal}
-use Rattle.token_list.specs.declared.check.Refusal.{Refusal}
 use Rattle.token_list.proofs.Texts.{and-parts}
 use Rattle.tagged_reading.specs.Reading as tagged
 use Rattle.tagged_reading.specs.Answer.{answer, taggedNumber}
@@ -54,9 +53,3 @@ pub read-code : (s : List ℕ) (e : EntriesAt) (a : tagged.Answer) → TaggedAs 
 read-code s e tagged.none h = absurd h
 read-code s e (tagged.read es rs) h = refl
 read-code s e (tagged.refused n p) h = absurd h
-
-pub refused-case : (s : List ℕ) (r : Refusal) (a : tagged.Answer) → TaggedAs s (taggeds.Refused r) a →
-    a ≡ tagged.refused (r .number) (r .place)
-refused-case s r tagged.none h = absurd h
-refused-case s r (tagged.read es rs) h = absurd h
-refused-case s r (tagged.refused n p) h = λ i. tagged.refused (sym (h .0) i) (sym (h .1) i)

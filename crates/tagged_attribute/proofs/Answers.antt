@@ -63,7 +63,7 @@ module _ (s : List ℕ) (first : Cursor) (row : first .row ≡ FIRST-ENTRY) (beh
   pub entries-given : (i : InList s first) (d : Cursor) (count : ℕ) (b2 b3 : List ℕ)
       → EntriesRead s first d count b1 b2
       → b3 ≡ sets (sets b2 (d .row) (others (rows - d .row))) rows (replicate (length b2 - rows) no-role)
-      → Given s was (taggeds.Read (record { first = first; count = count })) b0 b3
+      → Given s was (taggeds.Read (record { first = first; count = count; rows = rows })) b0 b3
   entries-given i d count b2 b3 k q =
       let rs = k .rs in
       let three : first .row - 0 ≡ 3 = omega (arith, row) in
@@ -72,11 +72,20 @@ module _ (s : List ℕ) (first : Cursor) (row : first .row ≡ FIRST-ENTRY) (beh
       k .roles ∙ (λ j. sets (opened j) (row j) rs) ∙ sym (sets-append b0 0 (others 3) rs) in
       let total : length (others 3 ++ rs) + behind ≡ rows = omega (arith, fits (k .es) rs (k .same)) in
       let ends : d .row ≡ length (others 3 ++ rs) = omega (arith, k .row, row) in
+      let counted : rows ≡ length (others 3 ++ (rs ++ others behind)) =
+      omega (arith, total, length-append rs (others behind), length-replicate behind role.other) in
       let e : was ≡ read (k .es) (others 3 ++ (rs ++ others behind)) =
       ap (λ (a : Answer). adding [] (others FIRST-ENTRY) (before behind a)) (k .same) in
       given-as s _ b0 b3 e
       (record {
-        answer = record { count = k .count; inList = i; row = row; roles = rs; same = k .same };
+        answer = record {
+          count = k .count;
+          rows = counted;
+          inList = i;
+          row = row;
+          roles = rs;
+          same = k .same;
+        };
         buffer = q ∙ stored b0 b2 (others 3 ++ rs) role.other no-role (d .row) rows behind marked ends total room;
       })
 

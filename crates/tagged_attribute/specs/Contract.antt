@@ -152,9 +152,10 @@ FoundAs s was (founds.Refused r) = was ≡ refused (r .number) (r .place)
 
 -- ## The whole answer
 
--- how many entries there are, and where they are read
-pub record EntriesOf (s : List ℕ) (e : EntriesAt) (es : List Entry) : Type 0 where
+-- how many entries there are, where they are read, and how many rows have a role
+pub record EntriesOf (s : List ℕ) (e : EntriesAt) (es : List Entry) (rs : List ℕ) : Type 0 where
   pub count : e .count ≡ length es
+  pub rows : e .rows ≡ length rs
   pub inList : InList s (e .first)
   pub row : e .first .row ≡ FIRST-ENTRY
   pub roles : List ℕ
@@ -166,7 +167,7 @@ TaggedAs s taggeds.Absent none = Unit {0}
 TaggedAs s taggeds.Absent (read es rs) = ⊥
 TaggedAs s taggeds.Absent (refused n p) = ⊥
 TaggedAs s (taggeds.Read e) none = ⊥
-TaggedAs s (taggeds.Read e) (read es rs) = EntriesOf s e es
+TaggedAs s (taggeds.Read e) (read es rs) = EntriesOf s e es rs
 TaggedAs s (taggeds.Read e) (refused n p) = ⊥
 TaggedAs s (taggeds.Refused r) none = ⊥
 TaggedAs s (taggeds.Refused r) (read es rs) = ⊥

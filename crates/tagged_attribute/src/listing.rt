@@ -109,8 +109,8 @@ fn put_entries(s: &[u8], from: Cursor, out: &mut [u8], start: usize) -> usize
     }
 }
 
-// Reads the tagged attribute with this prefix and writes its entries, `none` or the refusal at the start of out; answers the
-// text's length.
+// Reads the tagged attribute with this prefix and writes its entries, `none` or the refusal at the start of out;
+// answers the text's length.
 pub fn report_tagged(list: &[u8], prefix: &[u8], roles: &mut [u8], out: &mut [u8]) -> usize
     ensures { λ r. ⌜ Reported (now (prefix .entry)) (now (list .entry)) (now (roles .entry)) (now (roles .exit))
         (now (out .entry)) (now (out .exit)) r ⌝ }

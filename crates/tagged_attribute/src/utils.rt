@@ -33,10 +33,11 @@ ghost use Rattle.tagged_reading.specs.Reading.{adding, before, FIRST-ENTRY, att
 ghost use Rattle.tagged_reading.specs.Promise.{TaggedAssignment};
 ghost use Rattle.tagged_attribute.specs.Contract.{partRoles, tagRoles, propertyRoles, TurnRead, EnteredAs, AloneAs, FoundAs, Passed, listed, entriesAt, Fits, Given, Answered, reads};
 
-// Where the entries begin, and how many there are.
+// Where the entries begin, how many there are, and how many rows the list has, each with its role.
 pub struct EntriesAt {
     pub first: Cursor,
     pub count: usize,
+    pub rows: usize,
 }
 
 // The answer: the prefix does not stand there; the entries; or a refusal.
@@ -254,7 +255,7 @@ fn read_entries(s: &[u8], first: Cursor, roles: &mut [u8], rows: usize) -> Tagge
         Entered::At(d, count) => {
             let end = d.row;
             leave(roles, end, rows);
-            Tagged::Read(EntriesAt { first, count })
+            Tagged::Read(EntriesAt { first, count, rows })
         }
     }
 }

@@ -4,7 +4,8 @@ use Rattle.tagged_reading.specs.Answer.{answer}
 use Rattle.tagged_attribute.specs.Contract.{TaggedAs}
 use Rattle.exports.specs.Code.{code, taggedCase}
 use Rattle.exports.proofs.Codes.{coded-as}
-use Rattle.exports.proofs.TaggedCodes.{tagged-small, tagged-told, absent-code, read-code, refused-case}
+use Rattle.exports.proofs.TaggedCodes.{tagged-small, tagged-told, absent-code, read-code}
+use Rattle.tagged_attribute.proofs.Reports.{refused-as}
 use borrow.Author.Needs.{needs}
 use Rattle.exports.proofs.kusthrila_tagged.Statement.{statement}
 use Rattle.exports.proofs.kusthrila_tagged.Tie as tie
@@ -31,7 +32,7 @@ coded-requires c κs =
     let a = answer (args .prefix .now) s (length (args .roles .now)) in
     let e = parse-tagged-attribute .ensures .0 in
     let told = subst (λ r. TaggedAs s r a) (r .given .1) (e .answer) in
-    tagged-small (e .refusal _ _ (refused-case s _ a told)) .1
+    tagged-small (e .refusal _ _ (refused-as s _ a told)) .1
 
 same-length : tie.Need-same-length
 same-length c = search needs
@@ -75,7 +76,7 @@ returns-3 c =
     let a = answer (args .prefix .now) s (length (args .roles .now)) in
     let e = parse-tagged-attribute .ensures .0 in
     let told = subst (λ r. TaggedAs s r a) (r .given .1) (e .answer) in
-    let number = coded .ensures ∙ ap (λ x. code (taggedCase x)) (sym (refused-case s _ a told)) in
+    let number = coded .ensures ∙ ap (λ x. code (taggedCase x)) (sym (refused-as s _ a told)) in
     record { coded = coded-as (tagged-told _ s _) number; buffer = e .buffer }
 
 pub kusthrila-tagged-spec : {M : Type 1} → statement M
