@@ -1,7 +1,6 @@
 -- Laws on the whole answer.
 use mathlib.Core.Path.{_≡_, refl, ap, _∙_, sym, subst, subst⁻¹}
-use mathlib.Core.Bool.{true, false}
-use mathlib.Core.List.{List, [], _∷_, _++_}
+use mathlib.Core.List.{List, [], _++_}
 use Prim.Native.Nat.{ℕ, _+_, _-_, _≤_, _<_}
 use native.Mathlib.Omega.{arith}
 use borrow.Author.Tests.{lt-ltb, le-ltb}
@@ -23,8 +22,7 @@ use Rattle.tagged_reading.specs.Reading.{Answer, none, read, refused, adding, b
 use Rattle.tagged_reading.specs.Answer as answers
 use Rattle.tagged_reading.proofs.Told as told
 use Rattle.tagged_reading.proofs.Promise.{answer-refusal}
-use Rattle.tagged_attribute.specs.Contract.{entriesAt, listed, EntriesRead, EntriesFrom, Fits, EntriesOf, TaggedAs, Given, Answered, reads}
-use Rattle.tagged_attribute.specs.declared.utils.EntriesAt.{EntriesAt}
+use Rattle.tagged_attribute.specs.Contract.{entriesAt, listed, EntriesRead, EntriesFrom, Fits, TaggedAs, Given, Answered, reads}
 use Rattle.tagged_attribute.specs.declared.utils.Tagged.{Tagged}
 use Rattle.tagged_attribute.specs.declared.utils.Tagged.the-variants as taggeds
 use Rattle.tagged_attribute.proofs.Buffers.{stored}

@@ -1,9 +1,9 @@
 -- Laws on cursors that stand some rows apart in one stream, and on the tokens there.
-use mathlib.Core.Path.{_≡_, refl, ap, _∙_, sym, subst, subst⁻¹}
+use mathlib.Core.Path.{_≡_, ap, _∙_, subst, subst⁻¹}
 use mathlib.Core.List.{List, []}
-use Prim.Native.Nat.{ℕ, _+_, _≤_}
+use Prim.Native.Nat.{ℕ, _+_}
 use native.Mathlib.Omega.{arith}
-use lib.ListN.{length, length-replicate}
+use lib.ListN.{length-replicate}
 use Rattle.token_list.specs.Stream.{head, at}
 use Rattle.token_list.specs.Contract.{InList, TokenAt, LeafAt, GroupAt, Skipped, skipped}
 use Rattle.token_list.specs.declared.check.Cursor.{Cursor}

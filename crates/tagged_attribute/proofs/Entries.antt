@@ -2,12 +2,12 @@
 use mathlib.Core.Path.{_≡_, refl, ap, _∙_, sym, subst, subst⁻¹}
 use mathlib.Core.Bool.{true, false}
 use mathlib.Core.List.{List, [], _∷_, _++_}
-use Prim.Native.Nat.{ℕ, _+_, _-_, _≤_, _<_}
+use Prim.Native.Nat.{ℕ, _+_, _-_, _<_}
 use native.Mathlib.Omega.{arith}
 use lib.ListN.{length, length-append, length-replicate}
 use Rattle.token_list.specs.Byte.{COMMA, EQUALS}
-use Rattle.token_list.specs.Stream.{Trees, end, leaf, head, at}
-use Rattle.token_list.specs.Contract.{InList, LeafAt, GroupAt, rowOf, skipped}
+use Rattle.token_list.specs.Stream.{end, leaf, at}
+use Rattle.token_list.specs.Contract.{LeafAt, GroupAt, rowOf, skipped}
 use Rattle.token_list.specs.declared.check.Cursor.{Cursor}
 use Rattle.token_list.specs.declared.stream.Token.{Token}
 use Rattle.token_list.proofs.Texts.{chosen, passed-over}
@@ -20,7 +20,6 @@ use Rattle.tagged_reading.specs.Entry.{Entry, tag, property}
 use Rattle.tagged_reading.specs.Reading.{Answer, read, refused, adding, entries, keyed, valued, separated}
 use Rattle.tagged_attribute.specs.Contract.{Onward, Added, partRoles, tagRoles, propertyRoles, TagRead, PropertyRead, EntryRead, textOf, entriesAt}
 use Rattle.tagged_attribute.specs.declared.entry.EntryStep.{EntryStep}
-use Rattle.tagged_attribute.specs.declared.entry.EntryStep.the-variants as entrySteps
 use Rattle.tagged_attribute.proofs.Cursors.{onward-leaf, onward-group, onward-then, token-in, stream-past}
 
 -- another way to say what is read

@@ -1,7 +1,7 @@
 -- Laws on where the entries begin.
 use mathlib.Core.Path.{_≡_, refl, ap, _∙_, sym, subst}
 use mathlib.Core.Bool.{true, false}
-use mathlib.Core.List.{List, [], _∷_}
+use mathlib.Core.List.{List, []}
 use Prim.Native.Nat.{ℕ, _+_}
 use native.Mathlib.Omega.{arith}
 use Rattle.token_list.specs.Check.{END}
@@ -17,7 +17,7 @@ use Rattle.parse.specs.declared.utils.Step.{Step}
 use Rattle.parse.proofs.Meeting.{group-stream, past-in-of}
 use Rattle.tagged_reading.specs.Role.{others}
 use Rattle.tagged_reading.specs.Reading.{Answer, none, refused, adding, before, entries, FIRST-ENTRY, listAfter, attribute, tagged}
-use Rattle.tagged_attribute.specs.Contract.{Onward, entriesAt, listed, GroupAlone, AloneAs, EntriesFrom, FoundAs}
+use Rattle.tagged_attribute.specs.Contract.{Onward, listed, GroupAlone, AloneAs, EntriesFrom, FoundAs}
 use Rattle.tagged_attribute.specs.declared.utils.Found.{Found}
 use Rattle.tagged_attribute.proofs.Cursors.{onward-leaf, onward-group, stream-past}
 

@@ -1,5 +1,5 @@
 -- No text is longer than MOST: an entry's line has the texts of its rows, and at most 11 bytes more for each row.
-use mathlib.Core.Path.{_≡_, refl, ap, _∙_, sym, subst}
+use mathlib.Core.Path.{_≡_, subst}
 use mathlib.Core.Bool.{Bool, true, false, cond}
 use mathlib.Core.List.{List, [], _∷_, _++_}
 use Prim.Native.Nat.{ℕ, _+_, _*_, _≤_}
@@ -13,7 +13,7 @@ use Rattle.token_list.proofs.Passed.{passed-list}
 use Rattle.reading.specs.Token.{isIdent, isLiteral, isPunct, isWord, isEnd, whole}
 use Rattle.tagged_reading.specs.Role.{others}
 use Rattle.tagged_reading.specs.Entry.{Entry, tag, property}
-use Rattle.tagged_reading.specs.Reading.{Answer, none, read, refused, adding, before, entries, keyed, valued, separated, FIRST-ENTRY, listAfter, attribute, tagged}
+use Rattle.tagged_reading.specs.Reading.{Answer, none, read, refused, adding, before, entries, keyed, valued, separated, FIRST-ENTRY, tagged}
 use Rattle.tagged_reading.specs.Answer.{answer}
 use Rattle.tagged_reading.proofs.Promise.{read-passed}
 use Rattle.tagged_attribute.specs.Contract.{listed}

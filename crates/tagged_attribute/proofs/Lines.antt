@@ -1,7 +1,7 @@
 -- Laws on the lines of entries.
 use mathlib.Core.Path.{_≡_, refl, ap, _∙_, sym, subst}
 use mathlib.Core.List.{List, [], _∷_, _++_, append-assoc, append-nil}
-use Prim.Native.Nat.{ℕ, _+_, _*_, _-_, _≤_, _<_}
+use Prim.Native.Nat.{ℕ, _+_, _*_, _-_, _≤_}
 use native.Mathlib.Omega.{arith}
 use lib.ListN.{length, take, drop}
 use lib.Seq.{length-slice, length-take-le, take-add, drop-at}
@@ -12,7 +12,7 @@ use Rattle.token_list.specs.declared.check.Cursor.{Cursor}
 use Rattle.token_list.specs.declared.stream.Token.{Token}
 use Rattle.output.specs.Contract.{Put}
 use Rattle.output.proofs.Texts.{nothing, joined, kept}
-use Rattle.parse.specs.Contract.{TextOf, TokenIn}
+use Rattle.parse.specs.Contract.{TokenIn}
 use Rattle.parse.proofs.Meeting.{token-within}
 use Rattle.tagged_reading.specs.Entry.{Entry, tag, property}
 use Rattle.tagged_reading.specs.Reading.{Answer, none, read, refused, adding}

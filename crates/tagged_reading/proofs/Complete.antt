@@ -1,15 +1,14 @@
 -- What the grammar admits is read, with the same roles.
 use mathlib.Core.Path.{_≡_, refl, ap, _∙_, sym}
-use mathlib.Core.Bool.{Bool, true, false, cond}
+use mathlib.Core.Bool.{true, false}
 use mathlib.Core.List.{List, [], _∷_, _++_}
 use Prim.Native.Nat.{ℕ, _+_}
-use native.Mathlib.Omega.{arith}
 use lib.ListN.{length, length-replicate}
 use Rattle.token_list.specs.Byte.{COMMA, EQUALS}
 use Rattle.token_list.specs.Row.{Row}
-use Rattle.token_list.specs.Stream.{Trees, end, leaf, group, size}
-use Rattle.token_list.proofs.Texts.{chosen, passed-over, and-parts}
-use Rattle.reading.specs.Token.{isIdent, isLiteral, isPunct, whole}
+use Rattle.token_list.specs.Stream.{Trees, size}
+use Rattle.token_list.proofs.Texts.{chosen, passed-over}
+use Rattle.reading.specs.Token.{isPunct, whole}
 use Rattle.reading.proofs.CompleteTokens.{punct-other}
 use Rattle.tagged_reading.specs.Role as role
 use Rattle.tagged_reading.specs.Role.{others}

@@ -2,12 +2,12 @@
 use mathlib.Core.Path.{_≡_, refl, ap, _∙_, sym, subst}
 use mathlib.Core.Logic.{_⊎_, inl, inr, ⊎-elim}
 use mathlib.Core.Bool.{Bool, true, false, cond, _&&_, _||_, true≢false, false≢true}
-use mathlib.Core.List.{List, [], _∷_, _++_}
+use mathlib.Core.List.{List, _++_}
 use Prim.Native.Nat.{ℕ, _+_, _-_, _≤_, _<_}
 use native.Mathlib.Omega.{arith}
 use borrow.Author.Tests.{ltb-true, ltb-false, leb-true, le-leb}
-use lib.Dec.{ltb, leb, eqb}
-use lib.ListN.{length, replicate}
+use lib.Dec.{ltb, leb}
+use lib.ListN.{replicate}
 use Rattle.token_list.specs.Text.{between}
 use Rattle.token_list.specs.Check as list
 use Rattle.token_list.specs.Place.{RowOf, OneRefusal}

@@ -8,7 +8,7 @@ use lib.ListN.{length, replicate}
 use Rattle.token_list.specs.Layout.{FIRST-ROW}
 use Rattle.token_list.specs.Text.{all}
 use Rattle.token_list.specs.Check.{check, passed}
-use Rattle.token_list.specs.Stream.{Trees, at}
+use Rattle.token_list.specs.Stream.{at}
 use Rattle.reading.specs.Role.{none as no-role}
 use Rattle.tagged_reading.specs.Role.{isRole}
 use Rattle.tagged_reading.specs.Grammar.{Obeys, everything}

@@ -1,10 +1,9 @@
 -- What is read of a tagged attribute (document 01, module 6 and the table of refusals; src/utils.rs,
 -- parse_tagged_attribute).
-use mathlib.Core.Bool.{Bool, true, false, cond}
+use mathlib.Core.Bool.{cond}
 use mathlib.Core.List.{List, [], _∷_, _++_}
 use Prim.Native.Nat.{ℕ, _+_}
 use Rattle.token_list.specs.Byte.{COMMA, EQUALS}
-use Rattle.token_list.specs.Row.{Row}
 use Rattle.token_list.specs.Check.{END}
 use Rattle.token_list.specs.Stream.{Trees, end, leaf, group, size}
 use Rattle.reading.specs.Token.{isIdent, isLiteral, isPunct, isWord, isEnd, whole}

@@ -1,5 +1,4 @@
 use mathlib.Core.Path.{sym, ap, _∙_}
-use lib.ListN.{length}
 use lib.Seq.{slice, length-take-le}
 use Rattle.tagged_reading.specs.Answer.{answer}
 use Rattle.tagged_attribute.proofs.Reports as reports

@@ -1,6 +1,5 @@
 use Rattle.tagged_attribute.proofs.Entries as entries
 use Rattle.parse.proofs.Meeting as meeting
-use borrow.Author.Tests.{not-true, not-false}
 use mathlib.Core.Path.{sym, _∙_}
 use borrow.Author.Needs.{needs}
 use Rattle.tagged_attribute.proofs.entry.keyed.Statement.{statement}
