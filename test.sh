@@ -24,6 +24,8 @@ for program in rows roles listing; do
     cmp examples/valve.tokens crates/$program/stdin
 done
 sed -n '/^    part name number$/,/^$/s/^    //p' README.md | cmp - examples/controller.listing
+cmp examples/tagged.tokens crates/tagged/stdin
+sed -n '/^    part name value$/,/^$/s/^    //p' README.md | cmp - crates/tagged/stdout
 
 # The names of roles and refusals are those of the header, with the same numbers.
 mkdir -p target/bindings
@@ -32,12 +34,16 @@ names() { # KIND: the header's names and numbers
 }
 constants() { sed -n 's/^pub const \([A-Z_]*\): u8 = \([0-9]*\);$/\1 \2/p' "$1"; }
 names ROLE >target/bindings/roles
+names TAGGED >target/bindings/tagged
 names REFUSAL >target/bindings/refusals
 sed -n '/how many roles/q; s/^\([a-z-]*\) = \([0-9]*\)$/\1 \2/p' crates/reading/specs/Role.antt | tr 'a-z-' 'A-Z_' | cmp - target/bindings/roles
 constants crates/parse/src/role.rt | grep -v '^NONE ' | cmp - target/bindings/roles
 constants bindings/rust/src/role.rs | cmp - target/bindings/roles
 constants bindings/rust/src/refusal.rs | cmp - target/bindings/refusals
-for table in roles refusals; do # the README has them in two tables of numbers
+sed -n 's/^\([a-z]*\) = \([0-9]*\)$/\1 \2/p' crates/tagged_reading/specs/Role.antt | tr 'a-z' 'A-Z' | cmp - target/bindings/tagged
+constants crates/tagged_attribute/src/role.rt | cmp - target/bindings/tagged
+constants bindings/rust/src/tagged_role.rs | cmp - target/bindings/tagged
+for table in roles tagged refusals; do # the README has them in three tables of numbers
     cut -d' ' -f2 target/bindings/$table
 done | cmp - <(sed -n 's/^| \([0-9]*\) |.*/\1/p' README.md)
 

@@ -10,9 +10,9 @@
  * Nothing is allocated and nothing global is kept: the library has no data but constants, and calls only memset and its like. So
  * calls from several threads are independent, as long as none writes a buffer that another uses.
  *
- * A call needs no more than KUSTHRILA_STACK bytes of stack. Measured on x86-64 were some 4,900 in kusthrila_check, 5,100 in
- * kusthrila_read, 9,200 in kusthrila_listing and 9,400 in kusthrila_value, all in lists with 32 open groups; the rest is
- * margin. bindings/c/stack.c measures it, and test.sh does so each time. */
+ * A call needs no more than KUSTHRILA_STACK bytes of stack. Measured on x86-64 were some 4,900 in kusthrila_check, 5,000 in
+ * kusthrila_tagged, 5,100 in kusthrila_read, 9,200 in kusthrila_listing and 9,400 in kusthrila_value, all in lists with 32 open
+ * groups; the rest is margin. bindings/c/stack.c measures it, and test.sh does so each time. */
 #ifndef KUSTHRILA_H
 #define KUSTHRILA_H
 
@@ -27,6 +27,8 @@ extern "C" {
 #define KUSTHRILA_END 65535u
 #define KUSTHRILA_STRUCT 0u
 #define KUSTHRILA_ENUM 1u
+#define KUSTHRILA_ABSENT 0u
+#define KUSTHRILA_FOUND 1u
 
 /* No list has more rows: a role buffer of this many bytes is always long enough. */
 #define KUSTHRILA_MOST_ROWS 4096u
@@ -66,7 +68,15 @@ enum kusthrila_role {
     KUSTHRILA_ROLE_TYPE = 18            /* a field's type */
 };
 
-/* The refusals. 9 and 10 are none. */
+/* The roles of a tagged attribute's rows, named as in crates/tagged_reading/specs/Role.antt. */
+enum kusthrila_tagged_role {
+    KUSTHRILA_TAGGED_TAG = 20,   /* a tag, as `skip` */
+    KUSTHRILA_TAGGED_KEY = 21,   /* the key of `key = literal` */
+    KUSTHRILA_TAGGED_VALUE = 22, /* its literal */
+    KUSTHRILA_TAGGED_OTHER = 23  /* any other row */
+};
+
+/* The refusals. 9, 10 and 30 are none. */
 enum kusthrila_refusal {
     KUSTHRILA_REFUSAL_TOO_LONG = 1,             /* more than 65,536 bytes */
     KUSTHRILA_REFUSAL_LINE_OF_NAMES = 2,        /* the first line is not `kind text` */
@@ -92,7 +102,10 @@ enum kusthrila_refusal {
     KUSTHRILA_REFUSAL_NO_LIFETIME_NAME = 24,    /* no name after `'` */
     KUSTHRILA_REFUSAL_OTHER_ITEM_WORD = 25,     /* another item word than `struct` or `enum` */
     KUSTHRILA_REFUSAL_NEGATIVE_VALUE = 26,      /* the literal after `-` is not digits alone, or worth too much */
-    KUSTHRILA_REFUSAL_NO_CONST_NAME = 27        /* no name after `const` */
+    KUSTHRILA_REFUSAL_NO_CONST_NAME = 27,       /* no name after `const` */
+    KUSTHRILA_REFUSAL_NO_ENTRY_COMMA = 28,      /* tagged: no `,` after a value */
+    KUSTHRILA_REFUSAL_NO_ENTRY = 29,            /* tagged: neither a key nor a key and a value */
+    KUSTHRILA_REFUSAL_NOT_ONE_GROUP = 31        /* tagged: the list is not one group */
 };
 
 /* Checks a list: the number of its rows, or refusal 1 to 7. */
@@ -112,6 +125,13 @@ uint64_t kusthrila_listing(const uint8_t *list, size_t list_len, uint8_t *out, s
  * answer / 65536 up to answer % 65536. Else a refusal; 8 where scratch has fewer than KUSTHRILA_SCRATCH bytes. The scratch
  * is written only where the text is a part of it. The functions kusthrila_value_* below take the answer apart. */
 uint64_t kusthrila_value(const uint8_t *list, size_t list_len, size_t position, uint8_t *scratch, size_t scratch_len);
+
+/* Reads a tagged attribute: a list that is its group, as `[ prefix ( skip , name = "a" ) ]`. KUSTHRILA_FOUND, with a byte of enum
+ * kusthrila_tagged_role for each row in the first bytes of roles and KUSTHRILA_NO_ROLE in the rest; KUSTHRILA_ABSENT where the
+ * prefix does not stand there or no group follows it, or a refusal, both with KUSTHRILA_NO_ROLE in every byte of roles. The prefix
+ * is compared as text. roles must have a byte for each row, else refusal 8. */
+uint64_t kusthrila_tagged(const uint8_t *list, size_t list_len, const uint8_t *prefix, size_t prefix_len, uint8_t *roles,
+                          size_t roles_len);
 
 /* A refusal's number and place. */
 static inline uint64_t kusthrila_number(uint64_t answer) { return answer / KUSTHRILA_REFUSED; }

@@ -46,6 +46,12 @@ static void value_all(void) {
             kusthrila_value(lists[n].bytes, lists[n].length, position, scratch, sizeof scratch);
 }
 
+static void tagged_all(void) {
+    top = (uint8_t *)__builtin_frame_address(0);
+    for (size_t n = 0; n < count; n++)
+        kusthrila_tagged(lists[n].bytes, lists[n].length, (const uint8_t *)"p", 1, roles, sizeof roles);
+}
+
 static int measure(const char *name, void (*calls)(void)) {
     ucontext_t here, there;
     memset(stack, PAINT, sizeof stack);
@@ -118,5 +124,6 @@ int main(int argc, char **argv) {
     over |= measure("kusthrila_read", read_all);
     over |= measure("kusthrila_listing", listing_all);
     over |= measure("kusthrila_value", value_all);
+    over |= measure("kusthrila_tagged", tagged_all);
     return over;
 }

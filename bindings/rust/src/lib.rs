@@ -1,14 +1,23 @@
-//! Safe functions over the proved reader of token lists. Nothing is allocated and nothing global is kept; a call needs at most
-//! 16,384 bytes of stack (`include/kusthrila.h` says how that was measured).
+//! Safe functions over the proved reader of token lists. Nothing is allocated, but for the vector that `tagged` returns, and
+//! nothing global is kept; a call needs at most 16,384 bytes of stack (`include/kusthrila.h` says how that was measured).
 
 pub mod refusal;
 pub mod role;
+pub mod tagged_role;
 
 extern "C" {
     fn kusthrila_check(list: *const u8, list_len: usize) -> u64;
     fn kusthrila_read(list: *const u8, list_len: usize, roles: *mut u8, roles_len: usize) -> u64;
     fn kusthrila_listing(list: *const u8, list_len: usize, out: *mut u8, out_len: usize) -> u64;
     fn kusthrila_value(list: *const u8, list_len: usize, position: usize, scratch: *mut u8, scratch_len: usize) -> u64;
+    fn kusthrila_tagged(
+        list: *const u8,
+        list_len: usize,
+        prefix: *const u8,
+        prefix_len: usize,
+        roles: *mut u8,
+        roles_len: usize,
+    ) -> u64;
 }
 
 /// No list has more rows.
@@ -41,6 +50,13 @@ pub struct Refusal {
 pub enum Kind {
     Struct,
     Enum,
+}
+
+/// An entry of a tagged attribute: a tag's text, or the texts of a key and its literal.
+#[derive(Clone, Copy, Debug, PartialEq, Eq)]
+pub enum Entry<'a> {
+    Tag(&'a [u8]),
+    Property(&'a [u8], &'a [u8]),
 }
 
 // An answer below 2^32 refuses nothing; else it is 2^32 times the refusal's number, plus its place.
@@ -87,6 +103,32 @@ pub fn value<'a>(list: &'a [u8], position: usize, scratch: &'a mut [u8]) -> Resu
     })
 }
 
+/// Reads a tagged attribute, of a list that is its group, as `[ prefix ( skip , name = "a" ) ]`: its entries, with a byte of the
+/// module `tagged_role` for each row at the front of `roles` and `NO_ROLE` in the rest. `None` where the prefix does not stand
+/// there or no group follows it. After `None` or a refusal every byte of `roles` is `NO_ROLE`.
+pub fn tagged<'a>(list: &'a [u8], prefix: &[u8], roles: &mut [u8]) -> Result<Option<Vec<Entry<'a>>>, Refusal> {
+    // SAFETY: all are slices, `roles` is borrowed alone, and the call writes nothing past it.
+    let code = unsafe {
+        let (prefix_ptr, roles_ptr) = (prefix.as_ptr(), roles.as_mut_ptr());
+        kusthrila_tagged(list.as_ptr(), list.len(), prefix_ptr, prefix.len(), roles_ptr, roles.len())
+    };
+    if answer(code)? == 0 {
+        return Ok(None);
+    }
+    // Row n is line n + 1 after the line of names: its kind, one space, its text.
+    let texts = list.split(|byte| *byte == b'\n').skip(1).map(|line| line.get(2..).unwrap_or_default());
+    let (mut entries, mut key) = (Vec::new(), &list[..0]);
+    for (text, role) in texts.zip(roles.iter()) {
+        match *role {
+            tagged_role::TAG => entries.push(Entry::Tag(text)),
+            tagged_role::KEY => key = text,
+            tagged_role::VALUE => entries.push(Entry::Property(key, text)),
+            _ => {}
+        }
+    }
+    Ok(Some(entries))
+}
+
 #[cfg(test)]
 mod tests {
     use super::*;
@@ -124,5 +166,37 @@ mod tests {
         assert_eq!(value(list, 0, &mut scratch), Ok(Some(&b"-7"[..])));
         assert_eq!(scratch[2..], [7; 18]);
         assert_eq!(value(list, 0, &mut scratch[..19]), Err(Refusal { number: 8, place: Place::End }));
+    }
+
+    #[test]
+    fn reads_tagged_attributes() {
+        use tagged_role::{KEY, OTHER, TAG, VALUE};
+        let list = b"kind text\no [\ni p\no (\ni skip\np ,\ni name\np =\nl \"a b\"\nc )\nc ]\n";
+        let mut roles = [7u8; 11];
+        let entries = vec![Entry::Tag(b"skip"), Entry::Property(b"name", b"\"a b\"")];
+        assert_eq!(tagged(list, b"p", &mut roles), Ok(Some(entries)));
+        assert_eq!(roles, [OTHER, OTHER, OTHER, TAG, OTHER, KEY, OTHER, VALUE, OTHER, OTHER, NO_ROLE]);
+        assert_eq!(tagged(list, b"q", &mut roles), Ok(None));
+        assert_eq!(roles, [NO_ROLE; 11]);
+        assert_eq!(tagged(list, b"", &mut roles), Ok(None));
+        assert_eq!(tagged(list, &[b'p'; 256], &mut roles), Ok(None));
+        let short = Refusal { number: refusal::SHORT_BUFFER, place: Place::End };
+        assert_eq!(tagged(list, b"p", &mut roles[..9]), Err(short));
+        let refused = |number, place| Err(Refusal { number, place });
+        assert_eq!(tagged(b"kind text\n", b"p", &mut roles), refused(refusal::NOT_ONE_GROUP, Place::End));
+        let before = b"kind text\ni x\no [\nc ]\n";
+        assert_eq!(tagged(before, b"p", &mut roles), refused(refusal::NOT_ONE_GROUP, Place::Row(0)));
+        let after = b"kind text\no [\nc ]\ni x\n";
+        assert_eq!(tagged(after, b"p", &mut roles), refused(refusal::NOT_ONE_GROUP, Place::Row(2)));
+        let two = b"kind text\no [\nc ]\no [\nc ]\n";
+        assert_eq!(tagged(two, b"p", &mut roles), refused(refusal::NOT_ONE_GROUP, Place::Row(2)));
+        let key = b"kind text\no [\ni p\no (\no (\nc )\nc )\nc ]\n";
+        assert_eq!(tagged(key, b"p", &mut roles), refused(refusal::NO_ENTRY, Place::Row(3)));
+        let value = b"kind text\no [\ni p\no (\ni k\np =\no (\nc )\nc )\nc ]\n";
+        assert_eq!(tagged(value, b"p", &mut roles), Ok(Some(vec![])));
+        assert_eq!(roles, [OTHER, OTHER, OTHER, OTHER, OTHER, OTHER, OTHER, OTHER, OTHER, NO_ROLE, NO_ROLE]);
+        let comma = b"kind text\no [\ni p\no (\ni k\np =\nl 1\ni b\nc )\nc ]\n";
+        assert_eq!(tagged(comma, b"p", &mut roles), refused(refusal::NO_ENTRY_COMMA, Place::Row(6)));
+        assert_eq!(roles, [NO_ROLE; 11]);
     }
 }

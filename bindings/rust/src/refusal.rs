@@ -1,4 +1,4 @@
-//! The refusals' numbers. 9 and 10 are none. README.md says where each one's place is, and which comes first.
+//! The refusals' numbers. 9, 10 and 30 are none. README.md says where each one's place is, and which comes first.
 
 /// More than 65,536 bytes.
 pub const TOO_LONG: u8 = 1;
@@ -50,3 +50,9 @@ pub const OTHER_ITEM_WORD: u8 = 25;
 pub const NEGATIVE_VALUE: u8 = 26;
 /// No name after `const`.
 pub const NO_CONST_NAME: u8 = 27;
+/// Tagged: no `,` after a value.
+pub const NO_ENTRY_COMMA: u8 = 28;
+/// Tagged: neither a key nor a key and a value.
+pub const NO_ENTRY: u8 = 29;
+/// Tagged: the list is not one group.
+pub const NOT_ONE_GROUP: u8 = 31;

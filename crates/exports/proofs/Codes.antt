@@ -51,7 +51,7 @@ gives-back (refusal n p) h =
     passed-over _ _ _ (le-ltb (n * REFUSED + p) REFUSED (omega (arith, h .0)))
     ∙ (λ i. refusal (upper REFUSED n p (omega arith) (h .1) i) (lower REFUSED n p (h .1) i))
 
-place-low : {f : ℕ → Bool} {s : List ℕ} {n p : ℕ} → OneRefusal f s n p → p ≤ 65535
+pub place-low : {f : ℕ → Bool} {s : List ℕ} {n p : ℕ} → OneRefusal f s n p → p ≤ 65535
 place-low o = ⊎-elim (λ e. omega (arith, e)) (λ k. omega (arith, k .low)) (o .stands)
 
 -- a case whose refusal has one of these numbers, with a row or the end mark

@@ -1,2 +1,3 @@
 -- Laws on the answers' numbers.
 pub mod Codes
+pub mod TaggedCodes

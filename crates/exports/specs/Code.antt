@@ -10,6 +10,8 @@ use Rattle.token_list.specs.Check as list
 use Rattle.token_list.specs.Place.{OneRefusal}
 use Rattle.reading.specs.Declaration.{Kind, struct, enum}
 use Rattle.reading.specs.Answer as answers
+use Rattle.tagged_reading.specs.Reading as tagged
+use Rattle.tagged_reading.specs.Answer as taggedAnswers
 use Rattle.describe.specs.Listing as listing
 use Rattle.describe.specs.Value as value
 use Rattle.describe.specs.Contract.{placeOf}
@@ -93,3 +95,14 @@ pub record ValueInto (s : List ℕ) (position : ℕ) (before after : List ℕ) (
   pub coded : Coded answers.readNumber s (placeCase (placeOf s (value.answer s position (length before)))) r
   pub back : decodedPlace (decoded r) ≡ placeOf s (value.answer s position (length before))
   pub scratch : after ≡ value.scratch before (value.answer s position (length before))
+
+-- 0 where the prefix does not stand, 1 where it was found
+abbrev pub taggedCase : tagged.Answer → Case
+taggedCase tagged.none = accepted 0
+taggedCase (tagged.read es rs) = accepted 1
+taggedCase (tagged.refused n p) = refusal n p
+
+-- the answer for a prefix and a list s, and the whole role buffer
+pub record TaggedInto (prefix s before after : List ℕ) (r : ℕ) : Type 0 where
+  pub coded : Coded taggedAnswers.taggedNumber s (taggedCase (taggedAnswers.answer prefix s (length before))) r
+  pub buffer : after ≡ taggedAnswers.buffer (length before) (taggedAnswers.answer prefix s (length before))

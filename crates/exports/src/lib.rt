@@ -5,6 +5,8 @@ use describe::value;
 use describe::value::ValuePlace;
 use parse::item;
 use parse::item::Parse;
+use tagged_attribute::utils;
+use tagged_attribute::utils::Tagged;
 use token_list::check;
 use token_list::check::Checked;
 use token_list::check::Refusal;
@@ -12,7 +14,7 @@ ghost use mathlib.Core.Path.{_≡_};
 ghost use Prim.Native.Nat.{_≤_};
 ghost use Rattle.token_list.specs.Check.{END, check};
 ghost use Rattle.token_list.specs.Place.{checkNumber};
-ghost use Rattle.exports.specs.Code.{refusal, code, Coded, checkCase, ReadInto, ListedInto, ValueInto};
+ghost use Rattle.exports.specs.Code.{refusal, code, Coded, checkCase, ReadInto, ListedInto, ValueInto, TaggedInto};
 
 // A number from here on tells a refusal.
 const REFUSED: u64 = 4294967296;
@@ -83,5 +85,18 @@ pub extern "C" fn kusthrila_value(list: &[u8], position: usize, scratch: &mut [u
             from * IN_LIST + to
         }
         ValuePlace::Refused(r) => coded(r),
+    }
+}
+
+// Reads the tagged attribute with this prefix into role bytes: 0 where the prefix does not stand, 1 where it was found, or
+// a refusal.
+#[no_mangle]
+pub extern "C" fn kusthrila_tagged(list: &[u8], prefix: &[u8], roles: &mut [u8]) -> u64
+    ensures { λ r. ⌜ TaggedInto (now (prefix .entry)) (now (list .entry)) (now (roles .entry)) (now (roles .exit)) r ⌝ }
+{
+    match utils::parse_tagged_attribute(list, prefix, roles) {
+        Tagged::Absent => 0,
+        Tagged::Read(_) => 1,
+        Tagged::Refused(r) => coded(r),
     }
 }

@@ -51,16 +51,16 @@ take-part s (suc k) i e h f =
     ap (λ (n : ℕ). slice (i + 1) n s) a)
     ∙ sym (slice-next s i (i + suc k) (omega arith) (omega arith))
 
-module _ (s rs : List ℕ) (i e : ℕ) (order : i ≤ e) (fits : e ≤ length s) where
-  pub accepted-short : e - i < 9 → acceptedFits (slice i e s) rs ≡ false
+module _ (every : Bool) (s rs : List ℕ) (i e : ℕ) (order : i ≤ e) (fits : e ≤ length s) where
+  pub accepted-short : e - i < 9 → acceptedFits every (slice i e s) rs ≡ false
   unfolding acceptedFits
   accepted-short h = let l : length (slice i e s) < 9 =
       omega (arith, length-slice i e s fits) in rw (lt-ltb (length (slice i e s)) 9 l)
 
-  pub accepted-parts : 9 ≤ e - i → acceptedFits (slice i e s) rs ≡
-      (same (slice i (i + 9) s) ACCEPTED && lettersFit false (slice (i + 9) e s) rs)
+  pub accepted-parts : 9 ≤ e - i → acceptedFits every (slice i e s) rs ≡
+      (same (slice i (i + 9) s) ACCEPTED && lettersFit every (slice (i + 9) e s) rs)
   unfolding acceptedFits
   accepted-parts h =
       let l : 9 ≤ length (slice i e s) = omega (arith, length-slice i e s fits) in
       rw (le-ltb (length (slice i e s)) 9 l)
-      (λ n. same (take-part s 9 i e (omega arith) fits n) ACCEPTED && lettersFit false (drop-drop 9 i (take e s) n) rs)
+      (λ n. same (take-part s 9 i e (omega arith) fits n) ACCEPTED && lettersFit every (drop-drop 9 i (take e s) n) rs)

@@ -13,8 +13,10 @@ use Rattle.report.specs.Text.{answerText}
 use Rattle.reading.specs.Role as role
 use Rattle.reading.specs.Answer.{Answer, declared, refused, answer}
 use Rattle.describe.specs.Listing as listing
+use Rattle.tagged_reading.specs.Reading as tagged
+use Rattle.tagged_reading.specs.Answer.{answer as taggedAnswer}
 use Rattle.replay.specs.declared.header.Topic.{Topic}
-use Rattle.replay.specs.declared.header.Topic.the-variants.{Check, Roles, Every, Listing}
+use Rattle.replay.specs.declared.header.Topic.the-variants.{Check, Roles, Every, Listing, Tagged}
 
 -- the roles whose rows the Rust's answer always names
 abbrev pub NAMED : List ℕ
@@ -39,12 +41,12 @@ abbrev pub LETTERS : ℕ
 LETTERS = 9
 
 -- the line `accepted`, then the letters
-unfoldable pub acceptedFits : List ℕ → List ℕ → Bool
-acceptedFits t rs =
-    cond (ltb (length t) LETTERS) false (same (take LETTERS t) ACCEPTED && lettersFit false (drop LETTERS t) rs)
+unfoldable pub acceptedFits : Bool → List ℕ → List ℕ → Bool
+acceptedFits every t rs =
+    cond (ltb (length t) LETTERS) false (same (take LETTERS t) ACCEPTED && lettersFit every (drop LETTERS t) rs)
 
 abbrev pub rolesFit : List ℕ → Answer → Bool
-rolesFit t (declared d rs) = acceptedFits t rs
+rolesFit t (declared d rs) = acceptedFits false t rs
 rolesFit t (refused n p) = same t (refusalText n p)
 
 -- a refusal has no such section
@@ -60,9 +62,19 @@ listingFits t (listing.refused n p) = same t (refusalText n p)
 abbrev pub OUTPUT : ℕ
 OUTPUT = 262144
 
+-- the prefix that the recorded answers are about
+abbrev pub PREFIX : List ℕ
+PREFIX = bytes "p"
+
+abbrev pub taggedFits : List ℕ → tagged.Answer → Bool
+taggedFits t tagged.none = same t (bytes "none\n")
+taggedFits t (tagged.read es rs) = acceptedFits true t rs
+taggedFits t (tagged.refused n p) = same t (refusalText n p)
+
 -- whether a section's bytes are the answer to a list
 abbrev pub right : Topic → List ℕ → List ℕ → Bool
 right Check l t = same t (answerText (check l))
 right Roles l t = rolesFit t (answer l MAX-ROWS)
 right Every l t = everyFits t (answer l MAX-ROWS)
 right Listing l t = listingFits t (listing.answer l OUTPUT)
+right Tagged l t = taggedFits t (taggedAnswer PREFIX l MAX-ROWS)

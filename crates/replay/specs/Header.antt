@@ -8,7 +8,7 @@ use Rattle.token_list.specs.Byte.{code, bytes, SPACE, LF}
 use Rattle.token_list.specs.Text.{same, between, digit}
 use Rattle.reading.specs.Token.{worth}
 use Rattle.replay.specs.declared.header.Topic.{Topic}
-use Rattle.replay.specs.declared.header.Topic.the-variants.{Check, Roles, Every, Listing}
+use Rattle.replay.specs.declared.header.Topic.the-variants.{Check, Roles, Every, Listing, Tagged}
 use Rattle.replay.specs.declared.header.Section.{Section}
 use Rattle.replay.specs.declared.header.Section.the-variants.{List as Listed, Answer, Other}
 use Rattle.replay.specs.declared.header.Header.{Header}
@@ -22,6 +22,7 @@ topicName Check = bytes "check"
 topicName Roles = bytes "roles"
 topicName Every = bytes "every"
 topicName Listing = bytes "listing"
+topicName Tagged = bytes "tagged"
 
 abbrev pub sectionNamed : List ℕ → Section
 sectionNamed t =
@@ -29,7 +30,8 @@ sectionNamed t =
     (cond (same t (topicName Check)) (Answer Check)
     (cond (same t (topicName Roles)) (Answer Roles)
     (cond (same t (topicName Every)) (Answer Every)
-    (cond (same t (topicName Listing)) (Answer Listing) Other))))
+    (cond (same t (topicName Listing)) (Answer Listing)
+    (cond (same t (topicName Tagged)) (Answer Tagged) Other)))))
 
 -- how many bytes at the start pass the test
 abbrev pub run : (ℕ → Bool) → List ℕ → ℕ

@@ -11,6 +11,8 @@ use parse::role::WHERE_RUN;
 use report::check::report_check;
 use report::roles::Roles;
 use report::roles::read_roles;
+use tagged_attribute::utils::Tagged;
+use tagged_attribute::utils::parse_tagged_attribute;
 use token_list::check::Refusal;
 use token_list::layout::MAX_ROWS;
 use token_list::text::is_one_of;
@@ -26,7 +28,8 @@ ghost use Rattle.output.specs.Text.{refusalText};
 ghost use Rattle.report.specs.Text.{answerText};
 ghost use Rattle.reading.specs.Answer.{answer};
 ghost use Rattle.describe.specs.Listing as listing;
-ghost use Rattle.replay.specs.Answer.{OUTPUT, letterFits, lettersFit, acceptedFits, rolesFit, everyFits, listingFits, right};
+ghost use Rattle.tagged_reading.specs.Answer as tagged;
+ghost use Rattle.replay.specs.Answer.{OUTPUT, letterFits, lettersFit, acceptedFits, rolesFit, everyFits, listingFits, PREFIX, taggedFits, right};
 
 // Whether the bytes from start to end are the report of the list check.
 fn is_check(list: &[u8], s: &[u8], start: usize, end: usize) -> bool
@@ -90,9 +93,9 @@ fn letters_fit(s: &[u8], start: usize, end: usize, roles: &[u8], every: bool) ->
 const LETTERS: usize = 9;
 
 // Whether the bytes from start to end are the line `accepted` and the letters of the roles.
-fn accepted_fits(s: &[u8], start: usize, end: usize, roles: &[u8]) -> bool
+fn accepted_fits(s: &[u8], start: usize, end: usize, roles: &[u8], every: bool) -> bool
     requires { ⌜ (start ≤ end) × (end ≤ length (now s)) ⌝ }
-    ensures { λ r. ⌜ r ≡ acceptedFits (slice start end (now (s .entry))) (now (roles .entry)) ⌝ }
+    ensures { λ r. ⌜ r ≡ acceptedFits every (slice start end (now (s .entry))) (now (roles .entry)) ⌝ }
 {
     if end - start < LETTERS {
         return false;
@@ -101,7 +104,7 @@ fn accepted_fits(s: &[u8], start: usize, end: usize, roles: &[u8]) -> bool
     if !text_is(s, start, letters, b"accepted\n") {
         return false;
     }
-    letters_fit(s, letters, end, roles, false)
+    letters_fit(s, letters, end, roles, every)
 }
 
 // A byte for each row that a list may have.
@@ -119,7 +122,7 @@ fn is_roles(list: &[u8], s: &[u8], start: usize, end: usize) -> bool
     let mut roles = role_buffer();
     match read_roles(list, &mut roles) {
         Roles::Refused(r) => is_refusal(r, s, start, end),
-        Roles::Rows(n) => accepted_fits(s, start, end, &roles[..n]),
+        Roles::Rows(n) => accepted_fits(s, start, end, &roles[..n], false),
     }
 }
 
@@ -156,6 +159,24 @@ fn is_listing(list: &[u8], s: &[u8], start: usize, end: usize) -> bool
     }
 }
 
+// Whether the bytes from start to end are `none`, the refusal, or the letters of every row's role in the tagged attribute
+// that the recorded answers are about.
+fn is_tagged(list: &[u8], s: &[u8], start: usize, end: usize) -> bool
+    requires { ⌜ (start ≤ end) × (end ≤ length (now s)) ⌝ }
+    ensures { λ r. ⌜ r ≡ taggedFits (slice start end (now (s .entry)))
+        (tagged.answer PREFIX (now (list .entry)) MAX-ROWS) ⌝ }
+{
+    let mut roles = role_buffer();
+    match parse_tagged_attribute(list, b"p", &mut roles) {
+        Tagged::Absent => text_is(s, start, end, b"none\n"),
+        Tagged::Refused(r) => is_refusal(r, s, start, end),
+        Tagged::Read(e) => {
+            let n = e.rows;
+            accepted_fits(s, start, end, &roles[..n], true)
+        }
+    }
+}
+
 // Whether the bytes from start to end are the answer to the list about a topic.
 pub fn is_right(topic: Topic, list: &[u8], s: &[u8], start: usize, end: usize) -> bool
     requires { ⌜ (start ≤ end) × (end ≤ length (now s)) ⌝ }
@@ -166,5 +187,6 @@ pub fn is_right(topic: Topic, list: &[u8], s: &[u8], start: usize, end: usize) -
         Topic::Roles => is_roles(list, s, start, end),
         Topic::Every => is_every(list, s, start, end),
         Topic::Listing => is_listing(list, s, start, end),
+        Topic::Tagged => is_tagged(list, s, start, end),
     }
 }

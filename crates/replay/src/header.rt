@@ -16,6 +16,7 @@ pub enum Topic {
     Roles,
     Every,
     Listing,
+    Tagged,
 }
 
 // What a section holds: a list, an answer that is compared, or what is passed over.
@@ -69,6 +70,9 @@ fn section_named(s: &[u8], start: usize, end: usize) -> Section
     if text_is(s, start, end, b"listing") {
         return Section::Answer(Topic::Listing);
     }
+    if text_is(s, start, end, b"tagged") {
+        return Section::Answer(Topic::Tagged);
+    }
     Section::Other
 }
 
@@ -81,6 +85,7 @@ pub fn put_topic(out: &mut [u8], at: usize, topic: Topic) -> usize
         Topic::Roles => put_bytes(out, at, b"roles"),
         Topic::Every => put_bytes(out, at, b"every"),
         Topic::Listing => put_bytes(out, at, b"listing"),
+        Topic::Tagged => put_bytes(out, at, b"tagged"),
     }
 }
 

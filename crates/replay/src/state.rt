@@ -12,6 +12,7 @@ pub struct Counts {
     pub roles: usize,
     pub everys: usize,
     pub listings: usize,
+    pub taggeds: usize,
     pub differences: usize,
 }
 
@@ -39,6 +40,7 @@ pub fn start() -> State
             roles: 0,
             everys: 0,
             listings: 0,
+            taggeds: 0,
             differences: 0,
         },
     }
@@ -79,6 +81,10 @@ pub fn counted(counts: Counts, topic: Topic, right: bool) -> Counts
         }
         Topic::Listing => {
             next.listings = count(counts.listings);
+            next
+        }
+        Topic::Tagged => {
+            next.taggeds = count(counts.taggeds);
             next
         }
     }

@@ -10,6 +10,9 @@ use reader::Reader;
 use std::collections::BTreeMap;
 use std::io::{BufRead, BufReader};
 
+// The prefix that the recorded answers were asked for.
+const PREFIX: &[u8] = b"p";
+
 // A section's name and bytes.
 fn section(input: &mut impl BufRead) -> Option<(String, Vec<u8>)> {
     let mut header = String::new();
@@ -145,6 +148,20 @@ fn main() {
                 let ours = reader.listing(&list, MOST_LISTING).unwrap_or_else(|refusal| refused(&refusal));
                 counts.compare("listing", &ours, &body);
                 counts.values(&mut reader, &list, &every, &body);
+            }
+            "tagged" => {
+                let ours = match reader.tagged(&list, PREFIX, MOST_ROWS, fill) {
+                    Ok(Some(roles)) => [b"accepted\n".to_vec(), letters(roles)].concat(),
+                    Ok(None) => b"none\n".to_vec(),
+                    Err(refusal) => {
+                        *counts.refusals.entry(refusal.number).or_default() += 1;
+                        refused(&refusal)
+                    }
+                };
+                counts.compare("tagged", &ours, &body);
+                if list.starts_with(b"kind text\no ") {
+                    counts.count("tagged, lists that begin with a group");
+                }
             }
             _ => {}
         }

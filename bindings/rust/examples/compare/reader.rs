@@ -1,6 +1,7 @@
 //! The functions of the reader, called with buffers between guard bytes, and what holds of every answer.
 use crate::random::Random;
-use kusthrila::{check, listing, read, refusal, role, value, Place, Refusal, MOST_LISTING, MOST_ROWS, NO_ROLE, SCRATCH};
+use kusthrila::{check, listing, read, refusal, role, tagged, tagged_role, value};
+use kusthrila::{Entry, Place, Refusal, MOST_LISTING, MOST_ROWS, NO_ROLE, SCRATCH};
 
 const GUARD: u8 = 0xA5;
 const MARGIN: usize = 8;
@@ -29,6 +30,10 @@ impl Buffer {
     }
 }
 
+fn cleared(roles: &[u8]) {
+    assert!(roles.iter().all(|role| *role == NO_ROLE), "a role byte where nothing was read");
+}
+
 pub struct Reader {
     roles: Buffer,
     out: Buffer,
@@ -48,13 +53,34 @@ impl Reader {
         let mut roles = bytes.to_vec();
         self.roles.restore(lent);
         if let Err(refusal) = answer {
-            assert!(roles.iter().all(|role| *role == NO_ROLE), "a role byte after a refusal");
+            cleared(&roles);
             return Err(refusal);
         }
         let rest = roles.split_off(check(list).expect("an accepted list passes the check"));
         assert!(roles.iter().all(|role| *role <= role::TYPE), "a role of an accepted list");
         assert!(rest.iter().all(|role| *role == NO_ROLE), "a byte after the roles");
         Ok(roles)
+    }
+
+    /// The role of each row of a tagged attribute, with so many role bytes lent, which hold `fill`; none where the prefix does not
+    /// stand there. The entries are those that the roles name.
+    pub fn tagged(&mut self, list: &[u8], prefix: &[u8], lent: usize, fill: u8) -> Result<Option<Vec<u8>>, Refusal> {
+        let bytes = self.roles.lend(lent);
+        bytes.fill(fill);
+        let answer = tagged(list, prefix, bytes);
+        let mut roles = bytes.to_vec();
+        self.roles.restore(lent);
+        let Some(entries) = answer.inspect_err(|_| cleared(&roles))? else {
+            cleared(&roles);
+            return Ok(None);
+        };
+        let rest = roles.split_off(check(list).expect("an accepted list passes the check"));
+        assert!(roles.iter().all(|role| (tagged_role::TAG..=tagged_role::OTHER).contains(role)), "a role of a tagged attribute");
+        assert!(rest.iter().all(|role| *role == NO_ROLE), "a byte after the roles");
+        let named = roles.iter().filter(|role| **role != tagged_role::OTHER).count();
+        let parts = entries.iter().map(|entry| if let Entry::Tag(_) = entry { 1 } else { 2 });
+        assert_eq!(parts.sum::<usize>(), named, "the entries and the roles");
+        Ok(Some(roles))
     }
 
     /// The listing. After a refusal the whole output is as it was, else the bytes after the listing are.
@@ -98,6 +124,12 @@ impl Reader {
         assert_eq!(self.value(list, position, lent), right, "with {lent} bytes of scratch");
         let right = if lines.as_ref().is_ok_and(|lines| lent < lines.len()) { Err(SHORT) } else { lines };
         assert_eq!(self.listing(list, lent), right, "with {lent} bytes of output");
+
+        let prefix = [&b"p"[..], b"", b"result", &[b'p'; 300]][random.below(4)];
+        let parts = self.tagged(list, prefix, MOST_ROWS, fill);
+        assert!(checked.is_ok() || checked.as_ref().err() == parts.as_ref().err(), "the check and the tagged attribute");
+        let right = if checked.is_ok_and(|rows| lent < rows) { Err(SHORT) } else { parts };
+        assert_eq!(self.tagged(list, prefix, lent, !fill), right, "with {lent} role bytes");
         roles.is_ok()
     }
 }

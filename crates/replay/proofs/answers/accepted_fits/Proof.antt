@@ -13,7 +13,7 @@ sub-if1 c = search needs
 returns : tie.Need-returns
 returns c =
     let a = (c .before .before .before .args) in
-    sym (accepted-short (a .s .now) (a .roles .now) (a .start) (a .end) ((c .before .before .before .pre) .0)
+    sym (accepted-short (a .every) (a .s .now) (a .roles .now) (a .start) (a .end) ((c .before .before .before .pre) .0)
     ((c .before .before .before .pre) .1) ((c .if1) .taken))
 
 add-letters : tie.Need-add-letters
@@ -28,7 +28,7 @@ text-is-requires c κs = search needs
 returns-2 : tie.Need-returns-2
 returns-2 c =
     let a = (c .before .before .before .before .before .before .args) in
-    sym (accepted-parts (a .s .now) (a .roles .now) (a .start) (a .end)
+    sym (accepted-parts (a .every) (a .s .now) (a .roles .now) (a .start) (a .end)
     ((c .before .before .before .before .before .before .pre) .0)
     ((c .before .before .before .before .before .before .pre) .1) ((c .before .before .before .if1) .left) ∙
     and-fails _ _ (sym ((c .before .text-is) .ensures) ∙ not-true _ ((c .if2) .taken)))
@@ -39,7 +39,7 @@ letters-fit-requires c κs = search needs
 returns-3 : tie.Need-returns-3
 returns-3 c =
     let a = (c .before .before .before .before .before .before .before .args) in
-    (c .letters-fit) .ensures ∙ sym (accepted-parts (a .s .now) (a .roles .now) (a .start) (a .end)
+    (c .letters-fit) .ensures ∙ sym (accepted-parts (a .every) (a .s .now) (a .roles .now) (a .start) (a .end)
     ((c .before .before .before .before .before .before .before .pre) .0)
     ((c .before .before .before .before .before .before .before .pre) .1)
     ((c .before .before .before .before .if1) .left) ∙

@@ -26,6 +26,12 @@ enum-told-4 c = search needs
 is-listing-requires : tie.Need-is-listing-requires
 is-listing-requires c κs = search needs
 
+enum-told-5 : tie.Need-enum-told-5
+enum-told-5 c = search needs
+
+is-tagged-requires : tie.Need-is-tagged-requires
+is-tagged-requires c κs = search needs
+
 returns : tie.Need-returns
 returns c = rw (c .before .enum-told .given .1) (c .is-check .ensures)
 
@@ -37,6 +43,9 @@ returns-3 c = rw (c .before .enum-told3 .given .1) (c .is-every .ensures)
 
 returns-4 : tie.Need-returns-4
 returns-4 c = rw (c .before .enum-told4 .given .1) (c .is-listing .ensures)
+
+returns-5 : tie.Need-returns-5
+returns-5 c = rw (c .before .enum-told5 .given .1) (c .is-tagged .ensures)
 
 pub is-right-spec : {M : Type 1} → statement M
 is-right-spec =
@@ -50,7 +59,10 @@ is-right-spec =
     is-every-requires
     enum-told-4
     is-listing-requires
+    enum-told-5
+    is-tagged-requires
     returns
     returns-2
     returns-3
-    returns-4)
+    returns-4
+    returns-5)

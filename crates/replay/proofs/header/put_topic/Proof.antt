@@ -38,6 +38,15 @@ slice-aggregate-put-bytes-4 c = search needs
 put-bytes-requires-4 : tie.Need-put-bytes-requires-4
 put-bytes-requires-4 c κs = search needs
 
+enum-told-5 : tie.Need-enum-told-5
+enum-told-5 c = search needs
+
+slice-aggregate-put-bytes-5 : tie.Need-slice-aggregate-put-bytes-5
+slice-aggregate-put-bytes-5 c = search needs
+
+put-bytes-requires-5 : tie.Need-put-bytes-requires-5
+put-bytes-requires-5 c κs = search needs
+
 same-length : tie.Need-same-length
 same-length c = search needs
 
@@ -74,6 +83,15 @@ returns-4 c =
     let put-bytes4 = c .before .before .put-bytes4 in
     rw (enum-told4 .given .1) (put-bytes4 .ensures)
 
+same-length-5 : tie.Need-same-length-5
+same-length-5 c = search needs
+
+returns-5 : tie.Need-returns-5
+returns-5 c =
+    let enum-told5 = c .before .before .before .before .before .enum-told5 in
+    let put-bytes5 = c .before .before .put-bytes5 in
+    (rw (enum-told5 .given .1) (put-bytes5 .ensures), omega (arith, put-bytes5 .ensures .next))
+
 pub put-topic-spec : {M : Type 1} → statement M
 put-topic-spec =
     tie.close
@@ -90,6 +108,9 @@ put-topic-spec =
     enum-told-4
     slice-aggregate-put-bytes-4
     put-bytes-requires-4
+    enum-told-5
+    slice-aggregate-put-bytes-5
+    put-bytes-requires-5
     same-length
     returns
     same-length-2
@@ -97,4 +118,6 @@ put-topic-spec =
     same-length-3
     returns-3
     same-length-4
-    returns-4)
+    returns-4
+    same-length-5
+    returns-5)

@@ -80,9 +80,16 @@ returns-5 c =
       sym (c .before .text-is5 .ensures) ∙ c .if5 .taken,
     )
 
+slice-aggregate-text-is-6 : tie.Need-slice-aggregate-text-is-6
+slice-aggregate-text-is-6 c = search needs
+
+text-is-requires-6 : tie.Need-text-is-requires-6
+text-is-requires-6 c κs = search needs
+
 returns-6 : tie.Need-returns-6
 returns-6 c =
-    let not-every = c .before .before .before in
+    let not-listing = c .before .before .before in
+    let not-every = not-listing .before .before .before in
     let not-roles = not-every .before .before .before in
     let not-check = not-roles .before .before .before in
     let not-list = not-check .before .before .before in
@@ -91,7 +98,24 @@ returns-6 c =
       sym (not-check .before .text-is2 .ensures) ∙ not-check .if2 .left,
       sym (not-roles .before .text-is3 .ensures) ∙ not-roles .if3 .left,
       sym (not-every .before .text-is4 .ensures) ∙ not-every .if4 .left,
-      sym (c .before .text-is5 .ensures) ∙ c .if5 .left,
+      sym (not-listing .before .text-is5 .ensures) ∙ not-listing .if5 .left,
+      sym (c .before .text-is6 .ensures) ∙ c .if6 .taken,
+    )
+
+returns-7 : tie.Need-returns-7
+returns-7 c =
+    let not-listing = c .before .before .before in
+    let not-every = not-listing .before .before .before in
+    let not-roles = not-every .before .before .before in
+    let not-check = not-roles .before .before .before in
+    let not-list = not-check .before .before .before in
+    rw (
+      sym (not-list .before .text-is .ensures) ∙ not-list .if1 .left,
+      sym (not-check .before .text-is2 .ensures) ∙ not-check .if2 .left,
+      sym (not-roles .before .text-is3 .ensures) ∙ not-roles .if3 .left,
+      sym (not-every .before .text-is4 .ensures) ∙ not-every .if4 .left,
+      sym (not-listing .before .text-is5 .ensures) ∙ not-listing .if5 .left,
+      sym (c .before .text-is6 .ensures) ∙ c .if6 .left,
     )
 
 pub section-named-spec : {M : Type 1} → statement M
@@ -113,4 +137,7 @@ section-named-spec =
     slice-aggregate-text-is-5
     text-is-requires-5
     returns-5
-    returns-6)
+    slice-aggregate-text-is-6
+    text-is-requires-6
+    returns-6
+    returns-7)

@@ -29,6 +29,12 @@ enum-told-4 c = search needs
 count-requires-4 : tie.Need-count-requires-4
 count-requires-4 c κs = search needs
 
+enum-told-5 : tie.Need-enum-told-5
+enum-told-5 c = search needs
+
+count-requires-5 : tie.Need-count-requires-5
+count-requires-5 c κs = search needs
+
 returns : tie.Need-returns
 returns c = rw (c .before .enum-told .given .1, c .count .ensures, c .before .before .before .count-wrong .ensures)
 
@@ -40,6 +46,9 @@ returns-3 c = rw (c .before .enum-told3 .given .1, c .count3 .ensures, c .before
 
 returns-4 : tie.Need-returns-4
 returns-4 c = rw (c .before .enum-told4 .given .1, c .count4 .ensures, c .before .before .before .count-wrong .ensures)
+
+returns-5 : tie.Need-returns-5
+returns-5 c = rw (c .before .enum-told5 .given .1, c .count5 .ensures, c .before .before .before .count-wrong .ensures)
 
 pub counted-spec : {M : Type 1} → statement M
 counted-spec =
@@ -54,7 +63,10 @@ counted-spec =
     count-requires-3
     enum-told-4
     count-requires-4
+    enum-told-5
+    count-requires-5
     returns
     returns-2
     returns-3
-    returns-4)
+    returns-4
+    returns-5)

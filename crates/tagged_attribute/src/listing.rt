@@ -1,0 +1,127 @@
+// The entries of a tagged attribute, a line for each, written into a lent output.
+use crate::entry::EntryStep;
+use crate::entry::entry;
+use crate::utils::Tagged;
+use crate::utils::parse_tagged_attribute;
+use output::put::put_bytes;
+use output::put::put_refusal;
+use token_list::check::Cursor;
+use token_list::stream::Token;
+ghost use mathlib.Core.Path.{_≡_};
+ghost use mathlib.Core.List.{List};
+ghost use Prim.Native.Nat.{ℕ, _+_, _≤_};
+ghost use lib.ListN.{length};
+ghost use Rattle.token_list.specs.Layout.{MAX-BYTES};
+ghost use Rattle.token_list.specs.Contract.{InList};
+ghost use Rattle.output.specs.Contract.{Put};
+ghost use Rattle.tagged_reading.specs.Entry.{Entry, tag, property};
+ghost use Rattle.tagged_reading.specs.Reading.{read};
+ghost use Rattle.tagged_attribute.specs.Contract.{textOf, entriesAt};
+ghost use Rattle.tagged_attribute.specs.Listing.{entryLine, entryLines};
+ghost use Rattle.tagged_attribute.specs.Reported.{LOW, LINE, Readable, LineRead, Reported};
+
+// What one turn of the loop did: a line, or nothing, was written up to a place, and the next entry is at a cursor; or
+// there are no more.
+pub enum LineTurn {
+    On(Cursor, usize),
+    Done,
+}
+
+fn put_tag(s: &[u8], t: Token, out: &mut [u8], at: usize) -> usize
+    requires { ⌜ Readable (now s) t ⌝ }
+    requires { ⌜ at ≤ LOW ⌝ }
+    ensures { λ r. ⌜ Put (now (out .entry)) (now (out .exit)) at r (entryLine (tag (textOf (now (s .entry)) t))) ⌝ }
+    ensures { λ r. ⌜ r ≤ at + LINE ⌝ }
+{
+    let start = t.start;
+    let end = t.end;
+    let word = put_bytes(out, at, b"tag ");
+    let name = put_bytes(out, word, &s[start..end]);
+    put_bytes(out, name, b" -\n")
+}
+
+fn put_property(s: &[u8], k: Token, l: Token, out: &mut [u8], at: usize) -> usize
+    requires { ⌜ Readable (now s) k ⌝ }
+    requires { ⌜ Readable (now s) l ⌝ }
+    requires { ⌜ at ≤ LOW ⌝ }
+    ensures { λ r. ⌜ Put (now (out .entry)) (now (out .exit)) at r
+        (entryLine (property (textOf (now (s .entry)) k) (textOf (now (s .entry)) l))) ⌝ }
+    ensures { λ r. ⌜ r ≤ at + LINE ⌝ }
+{
+    let key = k.start;
+    let key_end = k.end;
+    let literal = l.start;
+    let literal_end = l.end;
+    let word = put_bytes(out, at, b"property ");
+    let name = put_bytes(out, word, &s[key..key_end]);
+    let space = put_bytes(out, name, b" ");
+    let value = put_bytes(out, space, &s[literal..literal_end]);
+    put_bytes(out, value, b"\n")
+}
+
+// The line of the entry at c.
+fn put_entry(s: &[u8], c: Cursor, out: &mut [u8], at: usize) -> LineTurn
+    requires { ⌜ InList (now s) c ⌝ }
+    requires { ⌜ length (now s) ≤ MAX-BYTES ⌝ }
+    requires { ⌜ at ≤ LOW ⌝ }
+    ensures { λ r. ⌜ LineRead (now (s .entry)) c (now (out .entry)) (now (out .exit)) at r ⌝ }
+{
+    match entry(s, c) {
+        EntryStep::Done => LineTurn::Done,
+        EntryStep::Refused(_) => LineTurn::Done,
+        EntryStep::Lost(d) => LineTurn::On(d, at),
+        EntryStep::Tag(t) => {
+            let name = t.tag;
+            let next = t.next;
+            let end = put_tag(s, name, out, at);
+            LineTurn::On(next, end)
+        }
+        EntryStep::Property(p) => {
+            let key = p.key;
+            let literal = p.literal;
+            let next = p.next;
+            let end = put_property(s, key, literal, out, at);
+            LineTurn::On(next, end)
+        }
+    }
+}
+
+// The lines of the entries from `from` on.
+fn put_entries(s: &[u8], from: Cursor, out: &mut [u8], start: usize) -> usize
+    requires { ⌜ InList (now s) from ⌝ }
+    requires { ⌜ length (now s) ≤ MAX-BYTES ⌝ }
+    requires { ⌜ start ≤ 64 ⌝ }
+    ensures { λ r. ⌜ ((es : List Entry) (rs : List ℕ) → entriesAt (now (s .entry)) from ≡ read es rs →
+        Put (now (out .entry)) (now (out .exit)) start r (entryLines es)) ⌝ }
+{
+    let mut c = from;
+    let mut at = start;
+    loop {
+        match put_entry(s, c, out, at) {
+            LineTurn::On(next, end) => {
+                c = next;
+                at = end;
+            }
+            LineTurn::Done => {
+                return at;
+            }
+        }
+    }
+}
+
+// Reads the tagged attribute with this prefix and writes its entries, `none` or the refusal at the start of out;
+// answers the text's length.
+pub fn report_tagged(list: &[u8], prefix: &[u8], roles: &mut [u8], out: &mut [u8]) -> usize
+    ensures { λ r. ⌜ Reported (now (prefix .entry)) (now (list .entry)) (now (roles .entry)) (now (roles .exit))
+        (now (out .entry)) (now (out .exit)) r ⌝ }
+{
+    match parse_tagged_attribute(list, prefix, roles) {
+        Tagged::Absent => put_bytes(out, 0, b"none\n"),
+        Tagged::Refused(r) => put_refusal(out, 0, r),
+        Tagged::Read(e) => {
+            let first = e.first;
+            let names = put_bytes(out, 0, b"part name value\n");
+            put_entries(list, first, out, names)
+        }
+    }
+}
