@@ -1,16 +1,15 @@
 -- Laws on the lines of entries.
 use mathlib.Core.Path.{_≡_, refl, ap, _∙_, sym, subst}
 use mathlib.Core.List.{List, [], _∷_, _++_, append-assoc, append-nil}
-use Prim.Native.Nat.{ℕ, _+_, _*_, _-_, _≤_}
+use Prim.Native.Nat.{ℕ, _+_, _-_, _<_}
 use native.Mathlib.Omega.{arith}
 use lib.ListN.{length, take, drop}
-use lib.Seq.{length-slice, length-take-le, take-add, drop-at}
+use lib.Seq.{length-take-le, take-add, drop-at}
 use Rattle.token_list.specs.Byte.{bytes}
-use Rattle.token_list.specs.Layout.{MAX-BYTES}
 use Rattle.token_list.specs.Contract.{InList}
 use Rattle.token_list.specs.declared.check.Cursor.{Cursor}
 use Rattle.token_list.specs.declared.stream.Token.{Token}
-use Rattle.output.specs.Contract.{Put}
+use Rattle.output.specs.Contract.{Put, FAR}
 use Rattle.output.proofs.Texts.{nothing, joined, kept}
 use Rattle.parse.specs.Contract.{TokenIn}
 use Rattle.parse.proofs.Meeting.{token-within}
@@ -18,7 +17,7 @@ use Rattle.tagged_reading.specs.Entry.{Entry, tag, property}
 use Rattle.tagged_reading.specs.Reading.{Answer, none, read, refused, adding}
 use Rattle.tagged_attribute.specs.Contract.{Added, TagRead, PropertyRead, textOf, entriesAt}
 use Rattle.tagged_attribute.specs.Listing.{entryLine, entryLines}
-use Rattle.tagged_attribute.specs.Reported.{LINE, Readable, LineAt, NoLine, LineRead}
+use Rattle.tagged_attribute.specs.Reported.{Readable, LineAt, NoLine, LineRead}
 use Rattle.tagged_attribute.specs.declared.entry.TagAt.{TagAt}
 use Rattle.tagged_attribute.specs.declared.entry.PropertyAt.{PropertyAt}
 use Rattle.tagged_attribute.specs.declared.listing.LineTurn.{LineTurn}
@@ -48,31 +47,25 @@ put-text {s} {t} {x} {y} {at} {r} h p =
     drop-at (take a s) (take (e - a) (drop a s)) a (length-take-le a s (omega (arith, h .forth, h .within))) in
     subst (Put x y at r) (sym part) p
 
-pub text-short : {s : List ℕ} {t : Token} → Readable s t → length (textOf s t) ≤ 65536
-text-short {s} {t} h = omega (arith, length-slice (t .start) (t .end) s (h .within), h .within, h .short)
-
-pub readable : (s : List ℕ) (row : ℕ) (t : Token) → TokenIn s row t → length s ≤ MAX-BYTES → Readable s t
-readable s row t k h = record { forth = k .text; within = token-within s _ t k; short = h }
+pub readable : (s : List ℕ) (row : ℕ) (t : Token) → TokenIn s row t → Readable s t
+readable s row t k = record { forth = k .text; within = token-within s _ t k }
 
 -- ## The line of the entry at a cursor
 
 module _ {s : List ℕ} {c : Cursor} {x y : List ℕ} {at r : ℕ} where
-  pub line-tag : {t : TagAt} → TagRead s c (entriesAt s c) t → Put x y at r (entryLine (tag (textOf s (t .tag))))
-      → r ≤ at + LINE → LineAt s c (t .next) x y at r
-  line-tag {t} h p l =
+  pub line-tag : {t : TagAt} → TagRead s c (entriesAt s c) t → Put x y at r (entryLine (tag (textOf s (t .tag)))) → LineAt s c (t .next) x y at r
+  line-tag {t} h p =
       let text = ap (λ (k : List ℕ). entryLine (tag k)) (sym (h .tag .bytes)) in
       record {
         es = tag (h .text) ∷ [];
         rs = _;
         added = h .added;
         put = subst (Put x y at r) (text ∙ sym (append-nil (entryLine (tag (h .text))))) p;
-        low = l;
       }
 
   pub line-property : {p : PropertyAt} → PropertyRead s c (entriesAt s c) p
-      → Put x y at r (entryLine (property (textOf s (p .key)) (textOf s (p .literal))))
-      → r ≤ at + LINE → LineAt s c (p .next) x y at r
-  line-property {p} h w l =
+      → Put x y at r (entryLine (property (textOf s (p .key)) (textOf s (p .literal)))) → LineAt s c (p .next) x y at r
+  line-property {p} h w =
       let text : entryLine (property (textOf s (p .key)) (textOf s (p .literal))) ≡
       entryLine (property (h .name) (h .text)) =
       λ i. entryLine (property (sym (h .key .bytes) i) (sym (h .literal .bytes) i)) in
@@ -81,12 +74,11 @@ module _ {s : List ℕ} {c : Cursor} {x y : List ℕ} {at r : ℕ} where
         rs = _;
         added = h .added;
         put = subst (Put x y at r) (text ∙ sym (append-nil (entryLine (property (h .name) (h .text))))) w;
-        low = l;
       }
 
-pub line-lost : {s : List ℕ} {c d : Cursor} {rs : List ℕ} (x : List ℕ) (at : ℕ) → Added s c d [] rs (entriesAt s c)
+pub line-lost : {s : List ℕ} {c d : Cursor} {rs : List ℕ} (x : List ℕ) (at : ℕ) → length x < FAR → Added s c d [] rs (entriesAt s c)
     → LineAt s c d x x at at
-line-lost x at h = record { es = []; rs = _; added = h; put = nothing x at; low = omega arith }
+line-lost x at f h = record { es = []; rs = _; added = h; put = nothing x at f }
 
 -- what was read has no entries, or was not read
 pub no-line : {s : List ℕ} {c : Cursor} (x : List ℕ) → entriesAt s c ≡ read [] [] → NoLine s c x x
@@ -124,17 +116,15 @@ pub record Written (s : List ℕ) (from c : Cursor) (x y : List ℕ) (start at :
   pub inList : InList s c
   pub same : entriesAt s from ≡ adding es rs (entriesAt s c)
   pub put : Put x y start at (entryLines es)
-  pub low : at ≤ start + LINE * c .row
 
-pub written-start : (s : List ℕ) (c : Cursor) (x : List ℕ) (at : ℕ) → InList s c → Written s c c x x at at
-written-start s c x at i =
+pub written-start : (s : List ℕ) (c : Cursor) (x : List ℕ) (at : ℕ) → length x < FAR → InList s c → Written s c c x x at at
+written-start s c x at f i =
     record {
       es = [];
       rs = [];
       inList = i;
       same = adding-none (entriesAt s c);
-      put = nothing x at;
-      low = omega arith;
+      put = nothing x at f;
     }
 
 module _ {s : List ℕ} {from c : Cursor} {x y : List ℕ} {start at : ℕ} (k : Written s from c x y start at) where
@@ -148,7 +138,6 @@ module _ {s : List ℕ} {from c : Cursor} {x y : List ℕ} {start at : ℕ} (k :
         same = k .same ∙ ap (adding (k .es) (k .rs)) (l .added .same) ∙
             adding-both (k .es) (l .es) (k .rs) (l .rs) (entriesAt s d);
         put = subst (Put x z start r) (sym (lines-both (k .es) (l .es))) (joined (k .put) (l .put));
-        low = omega (arith, k .low, l .low, o .row, l .added .some);
       }
 
   pub written-done : {z : List ℕ} → NoLine s c y z → (es : List Entry) (rs : List ℕ) → entriesAt s from ≡ read es rs

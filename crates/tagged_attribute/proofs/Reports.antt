@@ -6,17 +6,15 @@ use native.Mathlib.Omega.{arith}
 use lib.ListN.{length, take, replicate, length-append}
 use lib.Seq.{take-at}
 use Rattle.token_list.specs.Byte.{bytes}
-use Rattle.token_list.specs.Layout.{MAX-BYTES}
 use Rattle.token_list.specs.declared.check.Refusal.{Refusal}
-use Rattle.token_list.proofs.Bounds.{bounds}
 use Rattle.output.specs.Text.{refusalText}
-use Rattle.output.specs.Contract.{Put}
-use Rattle.output.proofs.Texts.{joined}
+use Rattle.output.specs.Contract.{Put, Printed}
+use Rattle.output.proofs.Texts.{joined, printed}
 use Rattle.tagged_reading.specs.Entry.{Entry}
 use Rattle.tagged_reading.specs.Reading.{Answer, none, read, refused}
 use Rattle.reading.specs.Role.{none as no-role}
 use Rattle.tagged_reading.specs.Answer.{answer, buffer}
-use Rattle.tagged_reading.proofs.Promise.{never-short, read-passed}
+use Rattle.tagged_reading.proofs.Promise.{never-short}
 use Rattle.tagged_attribute.specs.Contract.{EntriesOf, TaggedAs, Answered, entriesAt}
 use Rattle.tagged_attribute.specs.Listing.{entryLines, NAMES, answerText, MOST}
 use Rattle.tagged_attribute.specs.Reported.{Reported}
@@ -61,11 +59,11 @@ module _ (prefix s b0 b1 : List ℕ) (t : Tagged) (h : Answered prefix s t b0 b1
   pub was-refused : (f : Refusal) → t ≡ taggeds.Refused f → a ≡ refused (f .number) (f .place)
   was-refused f e = refused-as s f a (told e)
 
-  reported : {x y : List ℕ} {r : ℕ} {b : Answer} → a ≡ b → Put x y 0 r (answerText b) → r ≤ MOST
+  reported : {x y : List ℕ} {r : ℕ} {b : Answer} → a ≡ b → Printed x y r (answerText b) → r ≤ MOST
       → Reported prefix s b0 b1 x y r
   reported {x} {y} {r} e p l =
       record {
-        text = subst (λ (c : Answer). Put x y 0 r (answerText c)) (sym e) p;
+        text = subst (λ (c : Answer). Printed x y r (answerText c)) (sym e) p;
         short = l;
         roomy = never-short prefix s (length b0);
         refusal = h .refusal;
@@ -74,10 +72,10 @@ module _ (prefix s b0 b1 : List ℕ) (t : Tagged) (h : Answered prefix s t b0 b1
 
   pub reported-none : {x y : List ℕ} {r : ℕ} → t ≡ taggeds.Absent → Put x y 0 r (bytes "none\n")
       → Reported prefix s b0 b1 x y r
-  reported-none e p = reported (was-absent e) p (omega (arith, p .next))
+  reported-none e p = reported (was-absent e) (printed p (omega arith)) (omega (arith, p .next))
 
   pub reported-refused : {x y : List ℕ} {r : ℕ} (f : Refusal) → t ≡ taggeds.Refused f
-      → Put x y 0 r (refusalText (f .number) (f .place)) → r ≤ 0 + 64 → Reported prefix s b0 b1 x y r
+      → Printed x y r (refusalText (f .number) (f .place)) → r ≤ 64 → Reported prefix s b0 b1 x y r
   reported-refused f e p l = reported (was-refused f e) p (omega arith)
 
   module _ (e : EntriesAt) (q : t ≡ taggeds.Read e) where
@@ -98,11 +96,6 @@ module _ (prefix s b0 b1 : List ℕ) (t : Tagged) (h : Answered prefix s t b0 b1
         let b : b1 ≡ k .rs ++ rest = h .buffer ∙ ap (buffer (length b0)) (k .same) in
         k .same ∙ ap (read (k .es)) (sym (ap (take (e .rows)) b ∙ take-at (k .rs) rest (e .rows) (sym (k .of .rows))))
 
-    pub list-short : length s ≤ MAX-BYTES
-    list-short =
-        let k = entries-here in
-        bounds s (read-passed prefix s (length b0) (k .es) (k .rs) (k .same) .1) .bytes
-
     pub reported-read : {x y z : List ℕ} {i r : ℕ} → Put x y 0 i NAMES
         → ((es : List Entry) (rs : List ℕ) → entriesAt s (e .first) ≡ read es rs → Put y z i r (entryLines es))
         → Reported prefix s b0 b1 x z r
@@ -110,4 +103,4 @@ module _ (prefix s b0 b1 : List ℕ) (t : Tagged) (h : Answered prefix s t b0 b1
         let k = entries-here in
         let p = joined names (lines (k .es) (k .of .roles) (k .of .same)) in
         let short = lines-short prefix s (length b0) (k .es) (k .rs) (k .same) in
-        reported (k .same) p (omega (arith, p .next, short))
+        reported (k .same) (printed p (omega (arith, short))) (omega (arith, p .next, short))

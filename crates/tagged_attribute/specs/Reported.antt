@@ -1,13 +1,13 @@
 -- What ties the written lines to what is read of a tagged attribute.
 use mathlib.Core.Path.{_≡_}
 use mathlib.Core.List.{List, []}
-use Prim.Native.Nat.{ℕ, _+_, _≤_}
+use Prim.Native.Nat.{ℕ, _≤_}
 use lib.ListN.{length}
-use Rattle.token_list.specs.Layout.{MAX-BYTES, MAX-ROWS}
+use Rattle.token_list.specs.Layout.{MAX-ROWS}
 use Rattle.token_list.specs.Place.{OneRefusal}
 use Rattle.token_list.specs.declared.check.Cursor.{Cursor}
 use Rattle.token_list.specs.declared.stream.Token.{Token}
-use Rattle.output.specs.Contract.{Put}
+use Rattle.output.specs.Contract.{Put, Printed}
 use Rattle.tagged_reading.specs.Entry.{Entry}
 use Rattle.tagged_reading.specs.Reading.{read, refused}
 use Rattle.tagged_reading.specs.Answer as answers
@@ -16,18 +16,10 @@ use Rattle.tagged_attribute.specs.Listing.{entryLines, answerText, MOST}
 use Rattle.tagged_attribute.specs.declared.listing.LineTurn.{LineTurn}
 use Rattle.tagged_attribute.specs.declared.listing.LineTurn.the-variants as lineTurns
 
--- where a line may begin, and the most that it may have: two texts and the rest of the line
-abbrev pub LOW : ℕ
-LOW = 100000000000
-
-abbrev pub LINE : ℕ
-LINE = 131083
-
--- a token whose text stands in a list that is not too long
+-- a token whose text stands in the list
 pub record Readable (s : List ℕ) (t : Token) : Type 0 where
   pub forth : t .start ≤ t .end
   pub within : t .end ≤ length s
-  pub short : length s ≤ MAX-BYTES
 
 -- what was written for the entry at c, in an output that was x and is y
 pub record LineAt (s : List ℕ) (c d : Cursor) (x y : List ℕ) (at r : ℕ) : Type 0 where
@@ -35,7 +27,6 @@ pub record LineAt (s : List ℕ) (c d : Cursor) (x y : List ℕ) (at r : ℕ) : 
   pub rs : List ℕ
   pub added : Added s c d es rs (entriesAt s c)
   pub put : Put x y at r (entryLines es)
-  pub low : r ≤ at + LINE
 
 -- no more entries: there are none, or one is refused
 pub record NoLine (s : List ℕ) (c : Cursor) (x y : List ℕ) : Type 0 where
@@ -49,7 +40,7 @@ LineRead s c x y at lineTurns.Done = NoLine s c x y
 -- the report of a prefix and a list s: the text of the answer, in an output that was x and is y, with role bytes that
 -- were b0 and are b1
 pub record Reported (prefix s b0 b1 x y : List ℕ) (r : ℕ) : Type 0 where
-  pub text : Put x y 0 r (answerText (answers.answer prefix s (length b0)))
+  pub text : Printed x y r (answerText (answers.answer prefix s (length b0)))
   -- an output of MOST bytes has room for every text
   pub short : r ≤ MOST
   -- with a role byte for each row that a list may have the text is never that of refusal 8

@@ -9,16 +9,14 @@ use token_list::check::Cursor;
 use token_list::stream::Token;
 ghost use mathlib.Core.Path.{_≡_};
 ghost use mathlib.Core.List.{List};
-ghost use Prim.Native.Nat.{ℕ, _+_, _≤_};
-ghost use lib.ListN.{length};
-ghost use Rattle.token_list.specs.Layout.{MAX-BYTES};
+ghost use Prim.Native.Nat.{ℕ};
 ghost use Rattle.token_list.specs.Contract.{InList};
 ghost use Rattle.output.specs.Contract.{Put};
 ghost use Rattle.tagged_reading.specs.Entry.{Entry, tag, property};
 ghost use Rattle.tagged_reading.specs.Reading.{read};
 ghost use Rattle.tagged_attribute.specs.Contract.{textOf, entriesAt};
 ghost use Rattle.tagged_attribute.specs.Listing.{entryLine, entryLines};
-ghost use Rattle.tagged_attribute.specs.Reported.{LOW, LINE, Readable, LineRead, Reported};
+ghost use Rattle.tagged_attribute.specs.Reported.{Readable, LineRead, Reported};
 
 // What one turn of the loop did: a line, or nothing, was written up to a place, and the next entry is at a cursor; or
 // there are no more.
@@ -29,9 +27,7 @@ pub enum LineTurn {
 
 fn put_tag(s: &[u8], t: Token, out: &mut [u8], at: usize) -> usize
     requires { ⌜ Readable (now s) t ⌝ }
-    requires { ⌜ at ≤ LOW ⌝ }
     ensures { λ r. ⌜ Put (now (out .entry)) (now (out .exit)) at r (entryLine (tag (textOf (now (s .entry)) t))) ⌝ }
-    ensures { λ r. ⌜ r ≤ at + LINE ⌝ }
 {
     let start = t.start;
     let end = t.end;
@@ -43,10 +39,8 @@ fn put_tag(s: &[u8], t: Token, out: &mut [u8], at: usize) -> usize
 fn put_property(s: &[u8], k: Token, l: Token, out: &mut [u8], at: usize) -> usize
     requires { ⌜ Readable (now s) k ⌝ }
     requires { ⌜ Readable (now s) l ⌝ }
-    requires { ⌜ at ≤ LOW ⌝ }
     ensures { λ r. ⌜ Put (now (out .entry)) (now (out .exit)) at r
         (entryLine (property (textOf (now (s .entry)) k) (textOf (now (s .entry)) l))) ⌝ }
-    ensures { λ r. ⌜ r ≤ at + LINE ⌝ }
 {
     let key = k.start;
     let key_end = k.end;
@@ -62,8 +56,6 @@ fn put_property(s: &[u8], k: Token, l: Token, out: &mut [u8], at: usize) -> usiz
 // The line of the entry at c.
 fn put_entry(s: &[u8], c: Cursor, out: &mut [u8], at: usize) -> LineTurn
     requires { ⌜ InList (now s) c ⌝ }
-    requires { ⌜ length (now s) ≤ MAX-BYTES ⌝ }
-    requires { ⌜ at ≤ LOW ⌝ }
     ensures { λ r. ⌜ LineRead (now (s .entry)) c (now (out .entry)) (now (out .exit)) at r ⌝ }
 {
     match entry(s, c) {
@@ -89,8 +81,6 @@ fn put_entry(s: &[u8], c: Cursor, out: &mut [u8], at: usize) -> LineTurn
 // The lines of the entries from `from` on.
 fn put_entries(s: &[u8], from: Cursor, out: &mut [u8], start: usize) -> usize
     requires { ⌜ InList (now s) from ⌝ }
-    requires { ⌜ length (now s) ≤ MAX-BYTES ⌝ }
-    requires { ⌜ start ≤ 64 ⌝ }
     ensures { λ r. ⌜ ((es : List Entry) (rs : List ℕ) → entriesAt (now (s .entry)) from ≡ read es rs →
         Put (now (out .entry)) (now (out .exit)) start r (entryLines es)) ⌝ }
 {
@@ -117,7 +107,7 @@ pub fn report_tagged(list: &[u8], prefix: &[u8], roles: &mut [u8], out: &mut [u8
 {
     match parse_tagged_attribute(list, prefix, roles) {
         Tagged::Absent => put_bytes(out, 0, b"none\n"),
-        Tagged::Refused(r) => put_refusal(out, 0, r),
+        Tagged::Refused(r) => put_refusal(out, r),
         Tagged::Read(e) => {
             let first = e.first;
             let names = put_bytes(out, 0, b"part name value\n");

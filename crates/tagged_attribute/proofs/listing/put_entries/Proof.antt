@@ -15,17 +15,14 @@ abbrev μ-loop : tie.MeasureT-loop
 
 loop-holds : tie.Need-loop-holds Inv-loop μ-loop
 loop-holds c =
+    let good = c .before .before .good in
     let pre = c .before .before .pre in
-    lines.written-start _ _ _ _ (pre .0)
+    lines.written-start _ _ _ _ (omega (arith, good)) pre
 
 put-entry-requires : tie.Need-put-entry-requires Inv-loop μ-loop
 put-entry-requires c κs =
     let loop = c .before .loop in
-    let pre = c .before .before .before .before .pre in
-    let i = loop .inv in (
-      i .inList,
-      (pre .1 .0, omega (arith, i .low, i .inList .counted, i .inList .within, pre .1 .0, pre .1 .1)),
-    )
+    loop .inv .inList
 
 enum-known-next : tie.Need-enum-known-next Inv-loop μ-loop
 enum-known-next c =

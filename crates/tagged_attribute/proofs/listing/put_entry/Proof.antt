@@ -1,3 +1,4 @@
+use native.Mathlib.Omega.{arith}
 use Rattle.tagged_attribute.proofs.Turns as turns
 use Rattle.tagged_attribute.proofs.Lines as lines
 use borrow.Author.Needs.{needs}
@@ -24,9 +25,8 @@ put-tag-requires c κs =
     let t = c .before .before .before .before .t in
     let entry = c .before .before .before .before .before .before .entry in
     let args = c .before .before .before .before .before .before .before .before .before .args in
-    let pre = c .before .before .before .before .before .before .before .before .before .pre in
     let h = turns.entry-told _ _ _ (entry .ensures) (t .given .1) in
-    (lines.readable _ (args .c .row) _ (h .place) (pre .1 .0), pre .1 .1)
+    lines.readable _ (args .c .row) _ (h .place)
 
 enum-known-p : tie.Need-enum-known-p
 enum-known-p c = search needs
@@ -35,12 +35,8 @@ put-property-requires : tie.Need-put-property-requires
 put-property-requires c κs =
     let p = c .before .before .before .before .before .p in
     let entry = c .before .before .before .before .before .before .before .entry in
-    let earlier = c .before .before .before .before .before .before .before in
-    let pre = earlier .before .before .before .pre in
-    let h = turns.entry-told _ _ _ (entry .ensures) (p .given .1) in (
-      lines.readable _ _ _ (h .key-place) (pre .1 .0),
-      (lines.readable _ _ _ (h .literal-place) (pre .1 .0), pre .1 .1),
-    )
+    let h = turns.entry-told _ _ _ (entry .ensures) (p .given .1) in
+    (lines.readable _ _ _ (h .key-place), lines.readable _ _ _ (h .literal-place))
 
 returns : tie.Need-returns
 returns c =
@@ -56,9 +52,10 @@ returns-2 c =
 
 returns-3 : tie.Need-returns-3
 returns-3 c =
+    let good = c .before .before .before .before .before .before .good in
     let d = c .before .d in
     let entry = c .before .before .before .entry in
-    lines.line-lost _ _ (turns.entry-told _ _ _ (entry .ensures) (d .given .1))
+    lines.line-lost _ _ (omega (arith, good)) (turns.entry-told _ _ _ (entry .ensures) (d .given .1))
 
 same-length : tie.Need-same-length
 same-length c = search needs
@@ -69,7 +66,7 @@ returns-4 c =
     let t = c .before .before .before .before .before .before .before .t in
     let entry = c .before .before .before .before .before .before .before .before .before .entry in
     let h = turns.entry-told _ _ _ (entry .ensures) (t .given .1) in
-    lines.line-tag h (put-tag .ensures .0) (put-tag .ensures .1)
+    lines.line-tag h (put-tag .ensures)
 
 same-length-2 : tie.Need-same-length-2
 same-length-2 c = search needs
@@ -81,7 +78,7 @@ returns-5 c =
     let earlier = c .before .before .before .before .before .before .before .before in
     let entry = earlier .before .before .entry in
     let h = turns.entry-told _ _ _ (entry .ensures) (p .given .1) in
-    lines.line-property h (put-property .ensures .0) (put-property .ensures .1)
+    lines.line-property h (put-property .ensures)
 
 pub put-entry-spec : {M : Type 1} → statement M
 put-entry-spec =

@@ -1,5 +1,4 @@
 use Rattle.tagged_attribute.proofs.Lines as lines
-use native.Mathlib.Omega.{arith}
 use borrow.Author.Needs.{needs}
 use Rattle.tagged_attribute.proofs.listing.put_property.Statement.{statement}
 use Rattle.tagged_attribute.proofs.listing.put_property.Tie as tie
@@ -62,16 +61,12 @@ returns c =
     let first = first .before .before .before .before .before in
     let pre = first .before .before .before .before .before .pre in
     let args = first .before .before .before .before .before .args in
-    let key = lines.text-short (pre .0) in
-    let value = lines.text-short (pre .1 .0) in
     let one = put-bytes .ensures in
     let two = lines.put-text {t = args .k} (pre .0) (put-bytes2 .ensures) in
     let three = put-bytes3 .ensures in
-    let four = lines.put-text {t = args .l} (pre .1 .0) (put-bytes4 .ensures) in
-    let five = put-bytes5 .ensures in (
-      lines.property-line one two three four five,
-      omega (arith, key, value, one .next, two .next, three .next, four .next, five .next),
-    )
+    let four = lines.put-text {t = args .l} (pre .1) (put-bytes4 .ensures) in
+    let five = put-bytes5 .ensures in
+    lines.property-line one two three four five
 
 pub put-property-spec : {M : Type 1} → statement M
 put-property-spec =

@@ -1,5 +1,4 @@
 use Rattle.tagged_attribute.proofs.Lines as lines
-use native.Mathlib.Omega.{arith}
 use borrow.Author.Needs.{needs}
 use Rattle.tagged_attribute.proofs.listing.put_tag.Statement.{statement}
 use Rattle.tagged_attribute.proofs.listing.put_tag.Tie as tie
@@ -40,11 +39,8 @@ returns c =
     let start = earlier .before .before .before .before .before in
     let pre = start .before .before .before .before .before .pre in
     let args = start .before .before .before .before .before .args in
-    let short = lines.text-short (pre .0) in
-    let name = lines.put-text {t = args .t} (pre .0) (put-bytes2 .ensures) in (
-      lines.tag-line (put-bytes .ensures) name (put-bytes3 .ensures),
-      omega (arith, short, put-bytes .ensures .next, name .next, put-bytes3 .ensures .next),
-    )
+    let name = lines.put-text {t = args .t} pre (put-bytes2 .ensures) in
+    lines.tag-line (put-bytes .ensures) name (put-bytes3 .ensures)
 
 pub put-tag-spec : {M : Type 1} → statement M
 put-tag-spec =

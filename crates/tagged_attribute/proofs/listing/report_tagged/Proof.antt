@@ -1,5 +1,4 @@
 use Rattle.tagged_attribute.proofs.Reports as reports
-use native.Mathlib.Omega.{arith}
 use borrow.Author.Needs.{needs}
 use Rattle.tagged_attribute.proofs.listing.report_tagged.Statement.{statement}
 use Rattle.tagged_attribute.proofs.listing.report_tagged.Tie as tie
@@ -33,7 +32,6 @@ put-bytes-requires-2 c κs = search needs
 
 put-entries-requires : tie.Need-put-entries-requires
 put-entries-requires c κs =
-    let put-bytes2 = c .before .before .before .put-bytes2 in
     let earlier = c .before .before .before in
     let e = earlier .before .before .before .before .before .e in
     let start = earlier .before .before .before .before .before in
@@ -44,8 +42,7 @@ put-entries-requires c κs =
     let s = args .list .now in
     let prefix = args .prefix .now in
     let k = reports.entries-here prefix s (args .roles .now) _ _ (p .ensures .0) _ (e .given .1) in
-    let short = reports.list-short prefix s (args .roles .now) _ _ (p .ensures .0) _ (e .given .1) in
-    (k .of .inList, (short, omega (arith, put-bytes2 .ensures .next)))
+    k .of .inList
 
 same-length : tie.Need-same-length
 same-length c = search needs
