@@ -110,20 +110,30 @@ pub fn try_take(s: &[u8], c: Cursor, roles: &mut [u8]) -> Cursor
     ensures { λ r. ⌜ Meets (now (s .entry)) c (now (roles .entry)) (now (roles .exit)) any (on r)
         (visibility (c .row) (stream (now (s .entry)) c)) ⌝ }
 {
-    // Two calls keep `try_take_at` out of line, and the short way short.
+    // Two calls keep `take` out of line, and the short way short.
     let l = look(s, c);
     if l.kind == b'o' {
-        let v = try_take_at(s, c, roles);
-        return v.next;
+        return take(s, c, roles);
     }
     if l.mark == b'p' {
-        let v = try_take_at(s, c, roles);
-        return v.next;
+        return take(s, c, roles);
     }
     c
 }
 
-// The same, with how `pub` stands and where its scope is read.
+// The same by the tokens themselves, where a look has found a group or a text that starts with `p`. Its
+// answer is a cursor and no record, so that no cursor goes through memory where there is no `pub`: empty
+// types took one and a half times as long.
+fn take(s: &[u8], c: Cursor, roles: &mut [u8]) -> Cursor
+    requires { ⌜ InList (now s) c ⌝ }
+    ensures { λ r. ⌜ Meets (now (s .entry)) c (now (roles .entry)) (now (roles .exit)) any (on r)
+        (visibility (c .row) (stream (now (s .entry)) c)) ⌝ }
+{
+    let v = try_take_at(s, c, roles);
+    v.next
+}
+
+// A visibility with how its `pub` stands and where its scope is read.
 pub fn try_take_at(s: &[u8], c: Cursor, roles: &mut [u8]) -> VisibilityAt
     requires { ⌜ InList (now s) c ⌝ }
     ensures { λ r. ⌜ Meets (now (s .entry)) c (now (roles .entry)) (now (roles .exit))

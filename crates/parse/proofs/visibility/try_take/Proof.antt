@@ -10,27 +10,27 @@ use Rattle.parse.proofs.visibility.try_take.Tie as tie
 look-requires : tie.Need-look-requires
 look-requires c κs = search needs
 
-try-take-at-requires : tie.Need-try-take-at-requires
-try-take-at-requires c κs = search needs
+take-requires : tie.Need-take-requires
+take-requires c κs = search needs
 
 same-length : tie.Need-same-length
 same-length c = search needs
 
 returns : tie.Need-returns
 returns c =
-    let try-take-at = c .before .before .before .try-take-at in
-    meeting.meets-show (λ v h. tt) (try-take-at .ensures)
+    let take = c .before .before .take in
+    take .ensures
 
-try-take-at-requires-2 : tie.Need-try-take-at-requires-2
-try-take-at-requires-2 c κs = search needs
+take-requires-2 : tie.Need-take-requires-2
+take-requires-2 c κs = search needs
 
 same-length-2 : tie.Need-same-length-2
 same-length-2 c = search needs
 
 returns-2 : tie.Need-returns-2
 returns-2 c =
-    let try-take-at2 = c .before .before .before .try-take-at2 in
-    meeting.meets-show (λ v h. tt) (try-take-at2 .ensures)
+    let take2 = c .before .before .take2 in
+    take2 .ensures
 
 returns-3 : tie.Need-returns-3
 returns-3 c =
@@ -50,10 +50,10 @@ try-take-spec =
     tie.close
     (tie.spec
     look-requires
-    try-take-at-requires
+    take-requires
     same-length
     returns
-    try-take-at-requires-2
+    take-requires-2
     same-length-2
     returns-2
     returns-3)
