@@ -12,10 +12,10 @@ use Rattle.token_list.specs.Row.{Row, first}
 use Rattle.token_list.specs.Stream.{Trees, end, leaf, group}
 use Rattle.token_list.proofs.Texts.{and-parts, chosen, passed-over, and-last, and-fails}
 use Rattle.reading.specs.Role as role
-use Rattle.reading.specs.Token.{isIdent, isLiteral, isPunct, isWord, copied, lone, starts, isGroup, PUB, STRUCT, ENUM, Stops}
+use Rattle.reading.specs.Token.{isIdent, isLiteral, isPunct, isWord, copied, lone, starts, isGroup, PUB, STRUCT, ENUM, Stops, stopping}
 use Rattle.reading.specs.Grammar as g
 use Rattle.reading.specs.Grammar.{everything}
-use Rattle.reading.specs.Declaration.{Kind, struct, enum}
+use Rattle.reading.specs.Declaration.{default, public, restricted, Kind, struct, enum}
 use Rattle.reading.specs.Took.{Took, took, refuse, Reader, onward, after, _>>=_, pure}
 use Rattle.reading.specs.Reading as r
 use Rattle.reading.specs.Reading.{one, Word, missing, found, Ending, Verdict, belongs, ends, unopened}
@@ -170,14 +170,14 @@ module _ (st : Stops) (n : ℕ) where
       → Taken Any (r.runFrom st n e m (row + 1) us) rs vs →
       Taken Any (r.runFrom st n depth minus row (leaf q us)) (n ∷ rs) vs
   run-step depth minus q us row j h =
-      same-as (ap (λ (v : Verdict). r.judged v (λ e m. onward (n ∷ []) (r.runFrom st n e m (row + 1) us)) (leaf q us)
+      same-as (ap (λ (v : Verdict). r.judged depth v (λ e m. onward (n ∷ []) (r.runFrom st n e m (row + 1) us)) (leaf q us)
       row) j) (onward-taken (n ∷ []) h)
 
   run-ends : (depth : ℕ) (minus : Bool) (q : Row) (us : Trees) (row : ℕ) {e : Ending} →
       r.judge st depth minus q ≡ ends e
       → Taken Any (r.runFrom st n depth minus row (leaf q us)) [] (leaf q us)
-  run-ends depth minus q us row {e = e} j = taken-as e [] (leaf q us) tt
-      (ap (λ (v : Verdict). r.judged v (λ e m. onward (n ∷ []) (r.runFrom st n e m (row + 1) us)) (leaf q us) row) j)
+  run-ends depth minus q us row {e = e} j = taken-as (r.ended e depth) [] (leaf q us) tt
+      (ap (λ (v : Verdict). r.judged depth v (λ e m. onward (n ∷ []) (r.runFrom st n e m (row + 1) us)) (leaf q us) row) j)
 
   pub runFrom-complete : {depth : ℕ} {minus : Bool} {ts us : Trees} {rs : List ℕ} →
       g.Run everything st n depth minus ts us rs → (row : ℕ)
@@ -193,17 +193,14 @@ module _ (st : Stops) (n : ℕ) where
   runFrom-complete (g.Run.comma {depth = depth} {minus = minus} {q = q} {us = us} e z h) row =
       run-ends depth minus q us row (judge-comma st depth q minus e z h)
   runFrom-complete (g.Run.stop {depth = depth} {d = d} {ts = ts} {us = us} e) row =
-      taken-as r.atGroup [] (group d ts us) tt
-      (ap (λ (b : Bool). r.judged (cond b (ends r.atGroup) (belongs depth false))
-      (λ e m. onward (copied n ts) (r.runFrom st n e m (row + r.whole ts) us)) (group d ts us) row) e)
+      taken-as (r.ended r.atGroup depth) [] (group d ts us) tt (chosen (stopping st depth d) _ _ e)
   runFrom-complete (g.Run.token {depth = depth} {minus = minus} {q = q} {us = us} e h) row =
       run-step depth minus q us row (judge-token st depth q minus e) (runFrom-complete h (row + 1))
   runFrom-complete (g.Run.inside {depth = depth} {d = d} {ts = ts} {us = us} e h) row =
-      same-as
-      (ap (λ (b : Bool). r.judged (cond b (ends r.atGroup) (belongs depth false))
-      (λ e m. onward (copied n ts) (r.runFrom st n e m (row + r.whole ts) us)) (group d ts us) row) e)
+      same-as (passed-over (stopping st depth d) _ _ e)
       (onward-taken (copied n ts) (runFrom-complete h (row + r.whole ts)))
-  runFrom-complete (g.Run.ended e) row = taken-as r.atEnd [] end tt refl
+  runFrom-complete (g.Run.ended {depth = depth} e) row =
+      taken-as (r.ended r.atEnd depth) [] end tt refl
 
   pub run-complete : {ts us : Trees} {rs : List ℕ} → g.Run everything st n 0 false ts us rs →
       Takes Any (r.run st n) ts us rs
@@ -214,58 +211,65 @@ module _ (st : Stops) (n : ℕ) where
 
 -- ## Attributes and visibility
 
-attributes-none : (ts : Trees) → starts (isPunct 35) ts ≡ false → (row : ℕ) → r.attributes row ts ≡ took tt [] ts
+attributes-none : (ts : Trees) → starts (isPunct 35) ts ≡ false → (row : ℕ) → r.attributes row ts ≡ took [] [] ts
 attributes-none end e row = refl
 attributes-none (group d ts us) e row = refl
 attributes-none (leaf q us) e row = passed-over (isPunct 35 q) _ _ e
 
 attributes-taken : {ts us : Trees} {rs : List ℕ} → g.Attributes everything ts us rs → (row : ℕ) →
-    r.attributes row ts ≡ took tt rs us
-attributes-taken (g.Attributes.none {ts = ts} e) row = attributes-none ts e row
-attributes-taken (g.Attributes.attribute {q = q} {d = d} {ts = ts} e f h) row =
-    chosen (isPunct 35 q) _ _ e
-    ∙ chosen (eqb d 91) _ _ f
-    ∙ ap (onward (role.attribute-mark ∷ copied role.attribute-group ts)) (attributes-taken h (row + 1 + r.whole ts))
+    Taken Any (r.attributes row ts) rs us
+attributes-taken (g.Attributes.none {ts = ts} e) row = taken-as [] [] ts tt (attributes-none ts e row)
+attributes-taken (g.Attributes.attribute {q = q} {d = d} {ts = ts} {us = us} {vs = vs} {rs = rs} e f h) row =
+    let below = row + 1 + r.whole ts in
+    same-as (chosen (isPunct 35 q) _ _ e ∙ chosen (eqb d 91) _ _ f)
+    (onward-taken (role.attribute-mark ∷ copied role.attribute-group ts)
+    (and-pure {Q = Any} {m = r.attributes} {ts = us} {us = vs} {rs = rs} (λ xs. ts ∷ xs)
+    (record { from = λ n. attributes-taken h n }) (λ x y. tt) .from below))
 attributes-taken (g.Attributes.idle {q = q} {p = p} {us = us} a e f h) row =
-    chosen (isPunct 35 q) _ _ e
-    ∙ chosen (isPunct 35 p) _ _ f
-    ∙ ap (onward (role.idle-mark ∷ [])) (sym (chosen (isPunct 35 p) _ _ f) ∙ attributes-taken h (row + 1))
+    same-as (chosen (isPunct 35 q) _ _ e ∙ chosen (isPunct 35 p) _ _ f)
+    (onward-taken (role.idle-mark ∷ []) (same-as (sym (chosen (isPunct 35 p) _ _ f)) (attributes-taken h (row + 1))))
 
 pub attributes-complete : {ts us : Trees} {rs : List ℕ} → g.Attributes everything ts us rs →
     Takes Any r.attributes ts us rs
-attributes-complete {us = us} {rs = rs} h = record { from = λ row. taken-as tt rs us tt (attributes-taken h row) }
+attributes-complete h = record { from = attributes-taken h }
 
-visibility-none : (ts : Trees) → g.startsVisibility ts ≡ false → (row : ℕ) → r.visibility row ts ≡ took tt [] ts
+visibility-none : (ts : Trees) → g.startsVisibility ts ≡ false → (row : ℕ) → r.visibility row ts ≡ took default [] ts
 visibility-none end e row = refl
 visibility-none (group d ts us) e row = passed-over (lone (isWord PUB) ts) _ _ e
 visibility-none (leaf q us) e row = passed-over (isWord PUB q) _ _ e
 
-no-scope : (us : Trees) → g.startsScope us ≡ false → (row : ℕ) → r.scopeAfter row us ≡ took tt [] us
+no-scope : (us : Trees) → g.startsScope us ≡ false → (row : ℕ) → r.scopeAfter row us ≡ took public [] us
 no-scope end e row = refl
 no-scope (leaf q us) e row = refl
 no-scope (group d ts us) e row = passed-over (g.startsScope (group d ts us)) _ _ e
 
-no-group : (us : Trees) → isGroup us ≡ false → (row : ℕ) → r.anyScope row us ≡ took tt [] us
+no-group : (us : Trees) → isGroup us ≡ false → (row : ℕ) → r.anyScope row us ≡ took public [] us
 no-group end e row = refl
 no-group (leaf q us) e row = refl
 no-group (group d ts us) e row = absurd (false≢true (sym e))
 
 visibility-taken : {ts us : Trees} {rs : List ℕ} → g.Visibility everything ts us rs → (row : ℕ) →
-    r.visibility row ts ≡ took tt rs us
-visibility-taken (g.Visibility.none {ts = ts} e) row = visibility-none ts e row
-visibility-taken (g.Visibility.plain {q = q} {us = us} e f) row = chosen (isWord PUB q) _ _ e ∙
-    ap (onward (role.visibility ∷ [])) (no-scope us f (row + 1))
+    Taken Any (r.visibility row ts) rs us
+visibility-taken (g.Visibility.none {ts = ts} e) row = taken-as default [] ts tt (visibility-none ts e row)
+visibility-taken (g.Visibility.plain {q = q} {us = us} e f) row =
+    same-as (chosen (isWord PUB q) _ _ e)
+    (onward-taken (role.visibility ∷ []) (taken-as public [] us tt (no-scope us f (row + 1))))
 visibility-taken (g.Visibility.with-scope {q = q} {d = d} {ts = ts} {us = us} e f u) row =
-    chosen (isWord PUB q) _ _ e ∙ ap (onward (role.visibility ∷ [])) (chosen (g.startsScope (group d ts us)) _ _ f)
+    same-as (chosen (isWord PUB q) _ _ e)
+    (onward-taken (role.visibility ∷ [])
+    (taken-as (restricted d ts) (copied role.scope ts) us tt (chosen (g.startsScope (group d ts us)) _ _ f)))
 visibility-taken (g.Visibility.wrapped {d = d} {ts = ts} {us = us} a e f) row =
-    chosen (lone (isWord PUB) ts) _ _ e
+    taken-as public (copied role.visibility ts) us tt
+    (chosen (lone (isWord PUB) ts) _ _ e
     ∙ ap (onward (copied role.visibility ts)) (no-group us f (row + r.whole ts))
-    ∙ ap (λ (rs : List ℕ). took tt rs us) (append-nil (copied role.visibility ts))
-visibility-taken (g.Visibility.wrapped-scoped {ts = ts} a b e) row = chosen (lone (isWord PUB) ts) _ _ e
+    ∙ ap (λ (rs : List ℕ). took public rs us) (append-nil (copied role.visibility ts)))
+visibility-taken (g.Visibility.wrapped-scoped {e = d} {ts = ts} {us = us} {vs = vs} a b e) row =
+    taken-as (restricted d us) (copied role.visibility ts ++ copied role.scope us) vs tt
+    (chosen (lone (isWord PUB) ts) _ _ e)
 
 pub visibility-complete : {ts us : Trees} {rs : List ℕ} → g.Visibility everything ts us rs →
     Takes Any r.visibility ts us rs
-visibility-complete {us = us} {rs = rs} h = record { from = λ row. taken-as tt rs us tt (visibility-taken h row) }
+visibility-complete h = record { from = visibility-taken h }
 
 -- ## Words
 

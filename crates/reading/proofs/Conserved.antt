@@ -11,10 +11,10 @@ use Rattle.token_list.specs.Text.{same}
 use Rattle.token_list.specs.Row.{Row, first}
 use Rattle.token_list.specs.Stream.{Trees, end, leaf, group, size}
 use Rattle.reading.specs.Role as role
-use Rattle.reading.specs.Declaration.{Kind, struct, enum, Parameter, Field, Fields, Value, Variant, Body, Declaration}
+use Rattle.reading.specs.Declaration.{Visibility, Kind, struct, enum, Parameter, UnnamedField, Field, Fields, Value, Variant, Body, Declaration}
 use Rattle.reading.specs.Took.{Took, took, refuse, Reader, onward, after, _>>=_, pure, wrong}
 use Rattle.reading.specs.Reading as r
-use Rattle.reading.specs.Reading.{Maybe, done, one, Word, missing, found, Stops, Ending, Verdict, belongs, ends, unopened, rounds, every, more}
+use Rattle.reading.specs.Reading.{Maybe, done, one, Word, missing, found, Stops, Ending, RunEnd, Verdict, belongs, ends, unopened, rounds, every, more}
 pub use Rattle.reading.proofs.Rounds.{Parted, past-none, past-leaf, past-group, past-both, ownNumber, Conserved, Conserving, conserved, refusal-number, onward-conserved, after-conserved, bind, pure-conserving, choice, reader-choice, nothing-taken, from-conserved, copied-length, copied-conserved, copied-alone, one-row, Shorter, onward-shorter, onward-still, after-shorter, least, after-still, shorter-choice, from-shorter, looser, Round, Rounding, round-conserved, shorter-round, round-choice, onward-round, after-round, Ended, ended-at, Last, Lasting, onward-last, after-last, bind-last, last-choice, closing-conserved, pure-after-ended, fuel, every-step, every-conserving, every-ended}
 use Rattle.reading.proofs.Rounds.{taken, shorter, another, finished, ended, last, refused}
 
@@ -30,23 +30,23 @@ punctIf-conserving b n row end = nothing-taken
 punctIf-conserving b n row (leaf q us) = choice (r.isPunct b q) (one-row n q us) nothing-taken
 punctIf-conserving b n row (group d ts us) = nothing-taken
 
-judged-conserved : (v : Verdict) {go : ℕ → Bool → Took Ending} (ts : Trees) (row : ℕ) →
+judged-conserved : (depth : ℕ) (v : Verdict) {go : ℕ → Bool → Took RunEnd} (ts : Trees) (row : ℕ) →
     ((e : ℕ) (m : Bool) → Conserved ts (go e m))
-    → Conserved ts (r.judged v go ts row)
-judged-conserved (belongs e m) ts row c = c e m
-judged-conserved (ends e) ts row c = nothing-taken
-judged-conserved unopened ts row c = refused refl
+    → Conserved ts (r.judged depth v go ts row)
+judged-conserved depth (belongs e m) ts row c = c e m
+judged-conserved depth (ends e) ts row c = nothing-taken
+judged-conserved depth unopened ts row c = refused refl
 
 pub runFrom-conserving : (st : Stops) (n depth : ℕ) (minus : Bool) → Conserving (r.runFrom st n depth minus)
 runFrom-conserving st n depth minus row end = nothing-taken
 runFrom-conserving st n depth minus row (leaf q us) =
-    judged-conserved (r.judge st depth minus q) (leaf q us) row
+    judged-conserved depth (r.judge st depth minus q) (leaf q us) row
     (λ e m. onward-conserved (n ∷ []) (past-leaf q us) (runFrom-conserving st n e m (row + 1) us))
 runFrom-conserving st n depth minus row (group d ts us) =
-    judged-conserved (r.judgeGroup st depth d) (group d ts us) row
-    (λ e m. copied-conserved n d ts us (runFrom-conserving st n e m (row + r.whole ts) us))
+    choice (r.stopping st depth d) nothing-taken
+    (copied-conserved n d ts us (runFrom-conserving st n depth false (row + r.whole ts) us))
 
-kept-conserved : {ts : Trees} {t : Took Ending} (us : Trees) → Conserved ts t → Conserved ts (r.kept us t)
+kept-conserved : {ts : Trees} {t : Took RunEnd} (us : Trees) → Conserved ts t → Conserved ts (r.kept us t)
 kept-conserved us (taken rs vs e) = taken rs vs e
 kept-conserved us (refused n) = refused n
 
@@ -69,7 +69,9 @@ mutual
       choice (eqb d 91)
       (onward-conserved (role.attribute-mark ∷ r.copied role.attribute-group ts)
       (past-both (role.attribute-mark ∷ []) (r.copied role.attribute-group ts) (past-leaf q (group d ts us))
-      (past-group role.attribute-group d ts us)) (attributes-conserving (row + 1 + r.whole ts) us))
+      (past-group role.attribute-group d ts us))
+      (after-conserved _ (λ xs. pure (ts ∷ xs)) (attributes-conserving (row + 1 + r.whole ts) us)
+      (λ xs. pure-conserving (ts ∷ xs))))
       (refused refl)
   marked-conserved row q (leaf p us) =
       choice (r.isPunct 35 p) (onward-conserved (role.idle-mark ∷ []) (past-leaf q (leaf p us))
@@ -165,7 +167,9 @@ pub clause-conserving : Conserving r.clause
 clause-conserving row end = nothing-taken
 clause-conserving row (group d ts us) = nothing-taken
 clause-conserving row (leaf q us) =
-    choice (r.isWord r.WHERE q) (from-conserved role.where-word row q us (run-conserving r.clauseStops role.where-run))
+    choice (r.isWord r.WHERE q)
+    (from-conserved role.where-word row q us
+    (bind (run-conserving r.clauseStops role.where-run) (λ t. pure-conserving _)))
     nothing-taken
 
 -- ## Fields
@@ -174,22 +178,22 @@ pub must-conserving : (n : ℕ) (b : Bool) → ownNumber n ≡ true → Conservi
 must-conserving n true own row ts = nothing-taken
 must-conserving n false own row ts = refused own
 
-pub fieldAfter-conserving : (n : List ℕ) → Conserving (r.fieldAfter n)
-fieldAfter-conserving n =
+pub fieldAfter-conserving : (a : List Trees) (v : Visibility) (n : List ℕ) → Conserving (r.fieldAfter a v n)
+fieldAfter-conserving a v n =
     bind (punctIf-conserving 58 role.separator) (λ t. bind (must-conserving 23 t refl)
     (λ u. bind (run-conserving r.fieldStops role.type) (λ f. comma-conserving _)))
 
-pub fieldStart-round : Rounding r.fieldStart
-fieldStart-round row end = finished [] end (past-none end)
-fieldStart-round row (group d ts us) = refused refl
-fieldStart-round row (leaf q us) =
+pub fieldStart-round : (a : List Trees) (v : Visibility) → Rounding (r.fieldStart a v)
+fieldStart-round a v row end = finished [] end (past-none end)
+fieldStart-round a v row (group d ts us) = refused refl
+fieldStart-round a v row (leaf q us) =
     round-choice (r.isIdent q) (shorter-round (omega arith)
-    (from-shorter role.field-name row q us (fieldAfter-conserving (q .text)))) (refused refl)
+    (from-shorter role.field-name row q us (fieldAfter-conserving a v (q .text)))) (refused refl)
 
 pub namedField-round : Rounding r.namedField
 namedField-round row ts =
-    after-round row (λ a. r.visibility >>= λ v. r.fieldStart) (attributes-conserving row ts)
-    (λ a row us. after-round row (λ v. r.fieldStart) (visibility-conserving row us) (λ v. fieldStart-round))
+    after-round row (λ a. r.visibility >>= λ v. r.fieldStart a v) (attributes-conserving row ts)
+    (λ a row us. after-round row (r.fieldStart a) (visibility-conserving row us) (fieldStart-round a))
 
 -- a field's run ends at a comma or at the end, so that with the comma a row at least is taken
 pub judge-comma : (q : Row) (e : Ending) → r.judge r.fieldStops 0 false q ≡ ends e → r.isPunct 44 q ≡ true
@@ -206,46 +210,56 @@ judge-comma q e =
     go true false false false x = cc
     go false lt gt co x = cc
 
-kept-shorter : {b : ℕ} {ts : Trees} {t : Took Ending} (us : Trees) → Shorter b ts t → Shorter b ts (r.kept us t)
+kept-shorter : {b : ℕ} {ts : Trees} {t : Took RunEnd} (us : Trees) → Shorter b ts t → Shorter b ts (r.kept us t)
 kept-shorter us (shorter rs vs e h) = shorter rs vs e h
 kept-shorter us (refused n) = refused n
 
-tail-leaf : (row : ℕ) (q : Row) (us : Trees) (v : Verdict) (go : ℕ → Bool → Took Ending) →
-    r.judge r.fieldStops 0 false q ≡ v
-    → ((e : ℕ) (m : Bool) → Shorter (size (leaf q us)) (leaf q us) (go e m))
-    → Shorter (size (leaf q us)) (leaf q us) (after row (r.kept (leaf q us) (r.judged v go (leaf q us) row)) r.comma)
-tail-leaf row q us (belongs e m) go j k = after-shorter row r.comma (kept-shorter (leaf q us) (k e m)) comma-conserving
-tail-leaf row q us (ends e) go j k = taken-comma (r.isPunct 44 q) (judge-comma q e j)
-  where
-    taken-comma : (b : Bool) → b ≡ true
-        → Shorter (size (leaf q us)) (leaf q us) (after row (took end [] (leaf q us))
-        (λ t row us'. after row (cond b (took true (role.separator ∷ []) us) (took false [] (leaf q us)))
-        (λ c. pure (one t))))
-    taken-comma true f = shorter (role.separator ∷ []) us (past-leaf q us) (omega arith)
-    taken-comma false f = absurd (false≢true f)
-tail-leaf row q us unopened go j k = refused refl
+-- a type made into a field, and the comma after it
+module _ {A : Type 0} (made : Trees → A) where
+  abbrev withComma : Trees → Reader (Maybe A)
+  withComma t = r.comma (made t)
 
--- a type and the comma after it
-tail-shorter : (row : ℕ) (ts : Trees) → Shorter (least ts) ts ((r.run r.fieldStops role.type >>= r.comma) row ts)
-tail-shorter row end = shorter [] end (past-none end) (omega arith)
-tail-shorter row (leaf q us) =
-    looser (omega arith)
-    (tail-leaf row q us (r.judge r.fieldStops 0 false q)
-    (λ e m. onward (role.type ∷ []) (r.runFrom r.fieldStops role.type e m (row + 1) us)) refl
-    (λ e m. onward-shorter (role.type ∷ []) (past-leaf q us) (omega arith)
-    (runFrom-conserving r.fieldStops role.type e m (row + 1) us)))
-tail-shorter row (group d ts us) =
-    after-shorter row r.comma
-    (kept-shorter (group d ts us)
-    (onward-shorter (r.copied role.type ts) (past-group role.type d ts us) (omega arith)
-    (runFrom-conserving r.fieldStops role.type 0 false (row + r.whole ts) us)))
-    comma-conserving
+  tail-leaf : (row : ℕ) (q : Row) (us : Trees) (v : Verdict) (go : ℕ → Bool → Took RunEnd) →
+      r.judge r.fieldStops 0 false q ≡ v
+      → ((e : ℕ) (m : Bool) → Shorter (size (leaf q us)) (leaf q us) (go e m))
+      → Shorter (size (leaf q us)) (leaf q us) (after row (r.kept (leaf q us) (r.judged 0 v go (leaf q us) row)) withComma)
+  tail-leaf row q us (belongs e m) go j k =
+      after-shorter row withComma (kept-shorter (leaf q us) (k e m)) (λ t. comma-conserving (made t))
+  tail-leaf row q us (ends e) go j k = taken-comma (r.isPunct 44 q) (judge-comma q e j)
+    where
+      taken-comma : (b : Bool) → b ≡ true
+          → Shorter (size (leaf q us)) (leaf q us) (after row (took end [] (leaf q us))
+          (λ t row us'. after row (cond b (took true (role.separator ∷ []) us) (took false [] (leaf q us)))
+          (λ c. pure (one (made t)))))
+      taken-comma true f = shorter (role.separator ∷ []) us (past-leaf q us) (omega arith)
+      taken-comma false f = absurd (false≢true f)
+  tail-leaf row q us unopened go j k = refused refl
+
+  tail-shorter : (row : ℕ) (ts : Trees) → Shorter (least ts) ts ((r.run r.fieldStops role.type >>= withComma) row ts)
+  tail-shorter row end = shorter [] end (past-none end) (omega arith)
+  tail-shorter row (leaf q us) =
+      looser (omega arith)
+      (tail-leaf row q us (r.judge r.fieldStops 0 false q)
+      (λ e m. onward (role.type ∷ []) (r.runFrom r.fieldStops role.type e m (row + 1) us)) refl
+      (λ e m. onward-shorter (role.type ∷ []) (past-leaf q us) (omega arith)
+      (runFrom-conserving r.fieldStops role.type e m (row + 1) us)))
+  tail-shorter row (group d ts us) =
+      after-shorter row withComma
+      (kept-shorter (group d ts us)
+      (onward-shorter (r.copied role.type ts) (past-group role.type d ts us) (omega arith)
+      (runFrom-conserving r.fieldStops role.type 0 false (row + r.whole ts) us)))
+      (λ t. comma-conserving (made t))
+
+abbrev unnamed : List Trees → Visibility → Trees → UnnamedField
+unnamed a v t = record { attributes = a; visibility = v; type = t }
 
 tupleType-shorter : (row : ℕ) (ts : Trees) → Shorter (least ts) ts (r.tupleType row ts)
 tupleType-shorter row ts =
-    after-still row (λ a. r.visibility >>= λ v. r.run r.fieldStops role.type >>= r.comma) (attributes-conserving row ts)
-    (λ a row us. after-still row (λ v. r.run r.fieldStops role.type >>= r.comma) (visibility-conserving row us)
-    (λ v. tail-shorter))
+    after-still row (λ a. r.visibility >>= λ v. r.run r.fieldStops role.type >>= withComma (unnamed a v))
+    (attributes-conserving row ts)
+    (λ a row us. after-still row (λ v. r.run r.fieldStops role.type >>= withComma (unnamed a v))
+    (visibility-conserving row us)
+    (λ v. tail-shorter (unnamed a v)))
 
 pub tupleField-round : Rounding r.tupleField
 tupleField-round row end = finished [] end (past-none end)
@@ -261,10 +275,10 @@ tupleFields-conserving = bind (every-conserving r.tupleField tupleField-round) (
 pub comma-last : {A : Type 0} (a : A) → Lasting (r.comma a)
 comma-last a = bind-last (r.punctIf 44 role.separator) (λ t row ts. another [] ts)
 
-pub fieldStart-last : Lasting r.fieldStart
-fieldStart-last row end = last []
-fieldStart-last row (group d ts us) = refused
-fieldStart-last row (leaf q us) =
+pub fieldStart-last : (a : List Trees) (v : Visibility) → Lasting (r.fieldStart a v)
+fieldStart-last a v row end = last []
+fieldStart-last a v row (group d ts us) = refused
+fieldStart-last a v row (leaf q us) =
     last-choice (r.isIdent q)
     (onward-last (role.field-name ∷ []) (bind-last (r.punctIf 58 role.separator)
     (λ t. bind-last (r.must 23 t) (λ u. bind-last (r.run r.fieldStops role.type) (λ f. comma-last _))) (row + 1)
@@ -272,11 +286,11 @@ fieldStart-last row (leaf q us) =
     refused
 
 pub namedField-last : Lasting r.namedField
-namedField-last = bind-last r.attributes (λ a. bind-last r.visibility (λ v. fieldStart-last))
+namedField-last = bind-last r.attributes (λ a. bind-last r.visibility (fieldStart-last a))
 
 pub tupleType-last : Lasting r.tupleType
 tupleType-last =
-    bind-last r.attributes (λ a. bind-last r.visibility (λ v. bind-last (r.run r.fieldStops role.type) comma-last))
+    bind-last r.attributes (λ a. bind-last r.visibility (λ v. bind-last (r.run r.fieldStops role.type) (λ t. comma-last _)))
 
 pub tupleField-last : Lasting r.tupleField
 tupleField-last row end = last []
@@ -344,16 +358,17 @@ word-shorter n f k row (group d ts us) = go (r.lone r.isIdent ts)
     go false = refused refl
 
 -- a variant's parts after its name
-abbrev pub variantRest : List ℕ → Reader (Maybe Variant)
-variantRest n = r.variantFields >>= λ f. r.valueIf >>= λ v. r.comma (record { name = n; fields = f; value = v })
+abbrev pub variantRest : List Trees → List ℕ → Reader (Maybe Variant)
+variantRest a n =
+    r.variantFields >>= λ f. r.valueIf >>= λ v. r.comma (record { attributes = a; name = n; fields = f; value = v })
 
-pub variantRest-conserving : (n : List ℕ) → Conserving (variantRest n)
-variantRest-conserving n = bind variantFields-conserving (λ f. bind valueIf-conserving (λ v. comma-conserving _))
+pub variantRest-conserving : (a : List Trees) (n : List ℕ) → Conserving (variantRest a n)
+variantRest-conserving a n = bind variantFields-conserving (λ f. bind valueIf-conserving (λ v. comma-conserving _))
 
 variantHere-shorter : (row : ℕ) (ts : Trees) → Shorter (least ts) ts (r.variantHere row ts)
 variantHere-shorter row ts =
-    after-still row (λ a. r.word role.variant-name >>= λ w. r.named! w >>= variantRest) (attributes-conserving row ts)
-    (λ a. word-shorter role.variant-name variantRest variantRest-conserving)
+    after-still row (λ a. r.word role.variant-name >>= λ w. r.named! w >>= variantRest a) (attributes-conserving row ts)
+    (λ a. word-shorter role.variant-name (variantRest a) (variantRest-conserving a))
 
 pub variant-round : Rounding r.variant
 variant-round row end = finished [] end (past-none end)

@@ -14,7 +14,7 @@ use Rattle.reading.specs.Role as role
 use Rattle.reading.specs.Token.{isIdent, isLiteral, isPunct, isWord, starts, isGroup, isEnd, negatable, CONST, WHERE, parameterStops, fieldStops, clauseStops}
 use Rattle.reading.specs.Grammar as g
 use Rattle.reading.specs.Grammar.{everything}
-use Rattle.reading.specs.Declaration.{Kind, struct, enum, Parameter, Field, Fields, Value, absent, Variant, Body, Declaration, without, angled}
+use Rattle.reading.specs.Declaration.{Visibility, Kind, struct, enum, Parameter, Generics, Constraints, unconstrained, constrained, Field, Fields, Value, absent, Variant, Body, Declaration, without, angled}
 use Rattle.reading.specs.Took.{Took, took, Reader, onward, after, _>>=_, pure}
 use Rattle.reading.specs.Reading as r
 use Rattle.reading.specs.Reading.{Maybe, done, one, every, more}
@@ -197,47 +197,47 @@ generics-complete (g.Generics.generics {q = q} e h) = record {
 }
 
 pub clause-complete : {ts us : Trees} {rs : List ℕ} → g.Clause everything ts us rs → Takes Any r.clause ts us rs
-clause-complete (g.Clause.none {ts = ts} e) = record { from = λ row. taken-as end [] ts tt (none ts e row) }
+clause-complete (g.Clause.none {ts = ts} e) = record { from = λ row. taken-as unconstrained [] ts tt (none ts e row) }
   where
-    none : (ts : Trees) → starts (isWord WHERE) ts ≡ false → (row : ℕ) → r.clause row ts ≡ took end [] ts
+    none : (ts : Trees) → starts (isWord WHERE) ts ≡ false → (row : ℕ) → r.clause row ts ≡ took unconstrained [] ts
     none end e row = refl
     none (group d ts us) e row = refl
     none (leaf q us) e row = passed-over (isWord WHERE q) _ _ e
 clause-complete (g.Clause.clause {q = q} e h u) =
     record {
       from = λ row. same-as (chosen (isWord WHERE q) _ _ e) (from-complete role.where-word row
-          (run-complete clauseStops role.where-run h));
+          (and-pure constrained (run-complete clauseStops role.where-run h) (λ x y. tt)));
     }
 
 -- ## Fields
 
-fieldAfter-complete : (n : List ℕ) (c : Row) {t : Bool} {vs ws xs : Trees} {rs cs : List ℕ} → isPunct 58 c ≡ true
+fieldAfter-complete : (a : List Trees) (v : Visibility) (n : List ℕ) (c : Row) {t : Bool} {vs ws xs : Trees} {rs cs : List ℕ} → isPunct 58 c ≡ true
     → g.Run everything fieldStops role.type 0 false vs ws rs
-    → g.Mark everything 44 t ws xs cs → Takes Another (r.fieldAfter n) (leaf c vs) xs (role.separator ∷ (rs ++ cs))
-fieldAfter-complete n c {vs = vs} i j m =
-    mark-then {f = λ t. r.must 23 t >>= λ u. r.run fieldStops role.type >>= λ f. r.comma (record {
-      name = n;
-      type = f;
-    })} {b = 58} {t = true} {us = vs} (g.Mark.present {q = c} i)
+    → g.Mark everything 44 t ws xs cs → Takes Another (r.fieldAfter a v n) (leaf c vs) xs (role.separator ∷ (rs ++ cs))
+fieldAfter-complete a v n c {vs = vs} i j m =
+    let made : Trees → Field = λ f. record { name = n; field = record { attributes = a; visibility = v; type = f } } in
+    mark-then {f = λ t. r.must 23 t >>= λ u. r.run fieldStops role.type >>= λ f. r.comma (made f)} {b = 58} {t = true}
+    {us = vs} (g.Mark.present {q = c} i)
     (and-then {m = r.must 23 true} (pure-takes {P = Any} tt vs tt)
     (λ z y. and-then (run-complete fieldStops role.type j)
-    (λ f y. comma-complete {A = Field} (record { name = n; type = f }) m)))
+    (λ f y. comma-complete {A = Field} (made f) m)))
 
-fieldStart-complete : (q c : Row) {t : Bool} {vs ws xs : Trees} {rs cs : List ℕ} → isIdent q ≡ true →
+fieldStart-complete : (a : List Trees) (v : Visibility) (q c : Row) {t : Bool} {vs ws xs : Trees} {rs cs : List ℕ} → isIdent q ≡ true →
     isPunct 58 c ≡ true
     → g.Run everything fieldStops role.type 0 false vs ws rs
-    → g.Mark everything 44 t ws xs cs → Takes Another r.fieldStart (leaf q (leaf c vs)) xs
+    → g.Mark everything 44 t ws xs cs → Takes Another (r.fieldStart a v) (leaf q (leaf c vs)) xs
     (role.field-name ∷ role.separator ∷ (rs ++ cs))
-fieldStart-complete q c e i j m =
+fieldStart-complete a v q c e i j m =
     record {
       from = λ row. same-as (chosen (isIdent q) _ _ e) (from-complete role.field-name row
-          (fieldAfter-complete (q .text) c i j m));
+          (fieldAfter-complete a v (q .text) c i j m));
     }
 
 namedField-complete : {ts us : Trees} {rs : List ℕ} → g.NamedField everything ts us rs →
     Takes Another r.namedField ts us rs
 namedField-complete (g.NamedField.field {q = q} {c = c} a v e i j u m) =
-    and-then (attributes-complete a) (λ x y. and-then (visibility-complete v) (λ x y. fieldStart-complete q c e i j m))
+    and-then (attributes-complete a) (λ x y. and-then (visibility-complete v)
+    (λ z y. fieldStart-complete x z q c e i j m))
 
 pub namedFields-complete : {ts : Trees} {rs : List ℕ} → g.NamedFields everything ts rs →
     Takes Any (every r.namedField) ts end rs
@@ -257,7 +257,7 @@ tupleType-complete : {ts us : Trees} {rs : List ℕ} → g.TupleField everything
     Takes Another r.tupleType ts us rs
 tupleType-complete (g.TupleField.field a v j u m) =
     and-then (attributes-complete a) (λ x y. and-then (visibility-complete v)
-    (λ x y. and-then (run-complete fieldStops role.type j) (λ t y. comma-complete t m)))
+    (λ x y. and-then (run-complete fieldStops role.type j) (λ t y. comma-complete _ m)))
 
 pub tupleFields-complete : {ts : Trees} {rs : List ℕ} → g.TupleFields everything ts rs →
     Takes Any (every r.tupleField) ts end rs
@@ -326,29 +326,30 @@ no-value (g.Mark.absent {ts = ts} e) p row = at-end ts p
     at-end (group d ts us) p = absurd (false≢true p)
 
 -- a variant's value and its `,`
-abbrev valueComma : List ℕ → Fields → Reader (Maybe Variant)
-valueComma n f = r.valueIf >>= λ v. r.comma (record { name = n; fields = f; value = v })
+abbrev valueComma : List Trees → List ℕ → Fields → Reader (Maybe Variant)
+valueComma a n f = r.valueIf >>= λ v. r.comma (record { attributes = a; name = n; fields = f; value = v })
 
-valueComma-complete : {t : Bool} {ws xs ys : Trees} {es cs : List ℕ} (n : List ℕ) (f : Fields) →
+valueComma-complete : {t : Bool} {ws xs ys : Trees} {es cs : List ℕ} (a : List Trees) (n : List ℕ) (f : Fields) →
     Takes Any r.valueIf ws xs es → g.Mark everything 44 t xs ys cs
-    → Takes Another (valueComma n f) ws ys (es ++ cs)
-valueComma-complete n f h m =
-    and-then h (λ v y. comma-complete {A = Variant} (record { name = n; fields = f; value = v }) m)
+    → Takes Another (valueComma a n f) ws ys (es ++ cs)
+valueComma-complete a n f h m =
+    and-then h (λ v y. comma-complete {A = Variant} (record { attributes = a; name = n; fields = f; value = v }) m)
 
-variantRest-complete : {vs ws ys : Trees} {fs es : List ℕ} (n : List ℕ) → g.VariantFields everything vs ws fs
-    → ((f : Fields) → Takes Another (valueComma n f) ws ys es) → Takes Another (c.variantRest n) vs ys (fs ++ es)
-variantRest-complete n h k = and-then (variantFields-complete h) (λ f y. k f)
+variantRest-complete : {vs ws ys : Trees} {fs es : List ℕ} (a : List Trees) (n : List ℕ) →
+    g.VariantFields everything vs ws fs
+    → ((f : Fields) → Takes Another (valueComma a n f) ws ys es) → Takes Another (c.variantRest a n) vs ys (fs ++ es)
+variantRest-complete a n h k = and-then (variantFields-complete h) (λ f y. k f)
 
 variantHere-complete : {ts us : Trees} {rs : List ℕ} → g.Variant everything ts us rs →
     Takes Another r.variantHere ts us rs
 variantHere-complete (g.Variant.plain {ws = ws} a b h m p) =
     and-then (attributes-complete a)
-    (λ x y. name-then {f = c.variantRest} b
-    (λ n. variantRest-complete n h (λ f. valueComma-complete n f
+    (λ x y. name-then {f = c.variantRest x} b
+    (λ n. variantRest-complete x n h (λ f. valueComma-complete x n f
     (record { from = λ row. taken-as absent [] ws tt (no-value m p row) }) m)))
 variantHere-complete (g.Variant.valued a b h k m p q) =
-    and-then (attributes-complete a) (λ x y. name-then {f = c.variantRest} b
-    (λ n. variantRest-complete n h (λ f. valueComma-complete n f (record { from = value-taken k }) m)))
+    and-then (attributes-complete a) (λ x y. name-then {f = c.variantRest x} b
+    (λ n. variantRest-complete x n h (λ f. valueComma-complete x n f (record { from = value-taken k }) m)))
 
 variant-open : (ts : Trees) → isEnd ts ≡ false → (row : ℕ) → r.variant row ts ≡ r.variantHere row ts
 variant-open end e row = absurd (false≢true (sym e))
@@ -392,10 +393,12 @@ enumBody-complete (g.EnumBody.variants {us = us} u h) = record {
 -- ## The item
 
 -- what is read after the word and the name
-abbrev itemRest : r.Head → Reader Declaration
-itemRest h =
-    r.generics >>= λ p. r.clause >>= λ c. r.bodyOf (h .kind) >>= λ b. pure
-    (record { kind = h .kind; name = h .name; generics = p; clause = c; body = b })
+abbrev declared : List Trees → Visibility → r.Head → Generics → Constraints → Body → Declaration
+declared a v h p c b =
+    record { attributes = a; visibility = v; kind = h .kind; name = h .name; generics = p; clause = c; body = b }
+
+abbrev itemRest : List Trees → Visibility → r.Head → Reader Declaration
+itemRest a v h = r.generics >>= λ p. r.clause >>= λ c. r.bodyOf (h .kind) >>= λ b. pure (declared a v h p c b)
 
 item-then : {ts₀ ts₁ ts₂ ts₃ ts₄ ts₅ ts₆ : Trees} {ks bs cs ds es fs : List ℕ} (k : Kind) →
     g.Attributes everything ts₀ ts₁ ks
@@ -405,13 +408,14 @@ item-then : {ts₀ ts₁ ts₂ ts₃ ts₄ ts₅ ts₆ : Trees} {ks bs cs ds es 
     → Takes Any r.item ts₀ ts₆ (ks ++ (bs ++ (cs ++ (ds ++ (es ++ fs)))))
 item-then {ts₃ = ts₃} {ts₅ = ts₅} {ts₆ = ts₆} {ds = ds} {es = es} {fs = fs} k a b c d e f =
     and-then (attributes-complete a) (λ x y. and-then (visibility-complete b)
-    (λ x y. and-then {f = itemRest} (dataType-complete k c) rest))
+    (λ z y. and-then {f = itemRest x z} (dataType-complete k c) (rest x z)))
   where
-    rest : (h : r.Head) → h .kind ≡ k → Takes Any (itemRest h) ts₃ ts₆ (ds ++ (es ++ fs))
-    rest h q =
+    rest : (a : List Trees) (v : Visibility) (h : r.Head) → h .kind ≡ k →
+        Takes Any (itemRest a v h) ts₃ ts₆ (ds ++ (es ++ fs))
+    rest a v h q =
         and-then (generics-complete d)
         (λ p y. and-then (clause-complete e)
-        (λ c y. and-pure (λ b. record { kind = h .kind; name = h .name; generics = p; clause = c; body = b })
+        (λ c y. and-pure (declared a v h p c)
         (subst (λ (l : Kind). Takes Any (r.bodyOf l) ts₅ ts₆ fs) (sym q) f) (λ x y. tt)))
 
 pub item-complete : {tuple : Bool} {ts us : Trees} {rs : List ℕ} → g.Item everything tuple ts us rs →

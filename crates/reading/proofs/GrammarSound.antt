@@ -11,11 +11,11 @@ use Rattle.reading.specs.Role as role
 use Rattle.reading.specs.Token.{isIdent, isLiteral, isPunct, isWord, starts, isEnd, negatable, CONST, WHERE, parameterStops, fieldStops, clauseStops}
 use Rattle.reading.specs.Grammar as g
 use Rattle.reading.specs.Grammar.{everything}
-use Rattle.reading.specs.Declaration.{Kind, struct, enum, Parameter, Field, Fields, Value, absent, Variant, Body, Declaration}
+use Rattle.reading.specs.Declaration.{Visibility, Kind, struct, enum, Parameter, constrained, UnnamedField, Field, Fields, Value, absent, Variant, Body, Declaration}
 use Rattle.reading.specs.Took.{Took, took, Reader, onward, after, _>>=_, pure}
 use Rattle.reading.specs.Reading as r
 use Rattle.reading.specs.Reading.{Maybe, done, one, Word, rounds, every, more}
-use Rattle.reading.proofs.SoundTokens.{Meets, met, refused, met-by, choice, onward-met, onward-still, after-met, run-sound, attributes-sound, visibility-sound, name-then, kindWord, dataType-sound}
+use Rattle.reading.proofs.SoundTokens.{Meets, met, refused, met-by, choice, onward-met, onward-still, after-met, pure-met, run-sound, attributes-sound, visibility-sound, name-then, kindWord, dataType-sound}
 
 -- ## Marks and generics
 
@@ -184,7 +184,9 @@ pub clause-sound : (row : ℕ) (ts : Trees) → Meets (λ x rs us. g.Clause ever
 clause-sound row end = met [] end (g.Clause.none refl)
 clause-sound row (group d ts us) = met [] (group d ts us) (g.Clause.none refl)
 clause-sound row (leaf q us) =
-    choice (isWord WHERE q) (λ e. onward-met (role.where-word ∷ []) (run-sound clauseStops role.where-run (row + 1) us)
+    choice (isWord WHERE q) (λ e. onward-met (role.where-word ∷ [])
+    (pure-met {P = λ rs vs. g.Run everything clauseStops role.where-run 0 false us vs rs} (row + 1) constrained
+    (run-sound clauseStops role.where-run (row + 1) us))
     (λ x rs vs h. g.Clause.clause e h refl)) (λ e. met [] (leaf q us) (g.Clause.none e))
 
 -- ## Fields
@@ -196,14 +198,17 @@ data FieldRead : Trees → Maybe Field → List ℕ → Trees → Type 0 where
 
 module _ (ts us : Trees) (ks : List ℕ) (h : g.Attributes everything ts us ks) where
   fieldAfter-read : (bs : List ℕ) (q : Row) (vs : Trees) → g.Visibility everything us (leaf q vs) bs →
-      isIdent q ≡ true → (n : List ℕ) (row : ℕ)
-      → Meets (λ m qs ws. FieldRead ts m (ks ++ (bs ++ (role.field-name ∷ qs))) ws) (r.fieldAfter n row vs)
-  fieldAfter-read bs q vs i e n row = after-met row (punctIf-sound 58 row vs) (go i)
+      isIdent q ≡ true → (a : List Trees) (v : Visibility) (n : List ℕ) (row : ℕ)
+      → Meets (λ m qs ws. FieldRead ts m (ks ++ (bs ++ (role.field-name ∷ qs))) ws) (r.fieldAfter a v n row vs)
+  fieldAfter-read bs q vs i e a v n row = after-met row (punctIf-sound 58 row vs) (go i)
     where
       go : {vs : Trees} → g.Visibility everything us (leaf q vs) bs → (t : Bool) (rs : List ℕ) (ws : Trees) →
           g.Mark everything 58 t vs ws rs → (row : ℕ)
           → Meets (λ m qs xs. FieldRead ts m (ks ++ (bs ++ (role.field-name ∷ (rs ++ qs)))) xs)
-          ((r.must 23 t >>= λ u. r.run fieldStops role.type >>= λ f. r.comma (record { name = n; type = f })) row ws)
+          ((r.must 23 t >>= λ u. r.run fieldStops role.type >>= λ f. r.comma (record {
+            name = n;
+            field = record { attributes = a; visibility = v; type = f };
+          })) row ws)
       go i true rs ws (g.Mark.present c) row =
           onward-still []
           (after-met (row + 0) (run-sound fieldStops role.type (row + 0) ws)
@@ -211,18 +216,19 @@ module _ (ts us : Trees) (ks : List ℕ) (h : g.Attributes everything ts us ks) 
           (λ t cs ys m row. met [] ys (rw append-nil (another (g.NamedField.field h i e c j refl m))))))
       go i false rs ws m row = refused
 
-  fieldStart-read : (bs : List ℕ) (vs : Trees) → g.Visibility everything us vs bs → (row : ℕ)
-      → Meets (λ m qs ws. FieldRead ts m (ks ++ (bs ++ qs)) ws) (r.fieldStart row vs)
-  fieldStart-read bs end i row = met {a = done} [] end (rw append-nil (last h i))
-  fieldStart-read bs (group d vs ws) i row = refused
-  fieldStart-read bs (leaf q vs) i row =
-      choice (isIdent q) (λ e. onward-still (role.field-name ∷ []) (fieldAfter-read bs q vs i e (q .text) (row + 1)))
+  fieldStart-read : (bs : List ℕ) (vs : Trees) → g.Visibility everything us vs bs → (a : List Trees) (v : Visibility) (row : ℕ)
+      → Meets (λ m qs ws. FieldRead ts m (ks ++ (bs ++ qs)) ws) (r.fieldStart a v row vs)
+  fieldStart-read bs end i a v row = met {a = done} [] end (rw append-nil (last h i))
+  fieldStart-read bs (group d vs ws) i a v row = refused
+  fieldStart-read bs (leaf q vs) i a v row =
+      choice (isIdent q)
+      (λ e. onward-still (role.field-name ∷ []) (fieldAfter-read bs q vs i e a v (q .text) (row + 1)))
       (λ e. refused)
 
 namedField-read : (row : ℕ) (ts : Trees) → Meets (FieldRead ts) (r.namedField row ts)
 namedField-read row ts =
     after-met row (attributes-sound row ts) (λ x ks us h row. after-met row (visibility-sound row us)
-    (λ y bs vs i row. fieldStart-read ts us ks h bs vs i row))
+    (λ y bs vs i row. fieldStart-read ts us ks h bs vs i x y row))
 
 pub namedFields-sound : (row : ℕ) (ts : Trees) → Meets (λ x rs us. g.NamedFields everything ts rs)
     (every r.namedField row ts)
@@ -237,8 +243,8 @@ namedFields-sound =
         → g.NamedFields everything ts (rs ++ qs)
     following ts us vs a rs qs (another h) k = g.NamedFields.next h k
 
-data TypeRead : Trees → Maybe Trees → List ℕ → Trees → Type 0 where
-  another : {a ts us : Trees} {rs : List ℕ} → isEnd ts ≡ false → g.TupleField everything ts us rs →
+data TypeRead : Trees → Maybe UnnamedField → List ℕ → Trees → Type 0 where
+  another : {a : UnnamedField} {ts us : Trees} {rs : List ℕ} → isEnd ts ≡ false → g.TupleField everything ts us rs →
       TypeRead ts (one a) rs us
   last : TypeRead end done [] end
 
@@ -263,17 +269,11 @@ tupleFields-sound =
     final : (ts : Trees) (rs : List ℕ) (us : Trees) → TypeRead ts done rs us → g.TupleFields everything ts rs
     final ts rs us last = g.TupleFields.last
 
-    following : (ts us vs a : Trees) (rs qs : List ℕ) → TypeRead ts (one a) rs us → g.TupleFields everything us qs →
-        g.TupleFields everything ts (rs ++ qs)
+    following : (ts us vs : Trees) (a : UnnamedField) (rs qs : List ℕ) → TypeRead ts (one a) rs us →
+        g.TupleFields everything us qs → g.TupleFields everything ts (rs ++ qs)
     following ts us vs a rs qs (another e h) k = g.TupleFields.next e h k
 
 -- ## Variants and bodies
-
-pure-met : {A B : Type 0} {P : List ℕ → Trees → Type 0} {t : Took A} (row : ℕ) (f : A → B) →
-    Meets (λ x rs us. P rs us) t
-    → Meets (λ x rs us. P rs us) (after row t (λ a. pure (f a)))
-pure-met row f (met rs us h) = met (rs ++ []) us (rw append-nil h)
-pure-met row f refused = refused
 
 closing-met : {A : Type 0} {P : List ℕ → Type 0} {M : List ℕ → Trees → Type 0} {t : Took A} (us : Trees) →
     Meets (λ x rs vs. P rs) t

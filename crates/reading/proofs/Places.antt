@@ -18,21 +18,21 @@ use Rattle.token_list.specs.Row.{Row}
 use Rattle.token_list.specs.Check.{END}
 use Rattle.token_list.specs.Stream.{Trees, end, leaf, group, size, at}
 use Rattle.reading.specs.Role as role
-use Rattle.reading.specs.Declaration.{Kind, struct, enum, Declaration}
-use Rattle.reading.specs.Took.{Took, took, refuse, Reader, onward, after, _>>=_, pure, wrong}
+use Rattle.reading.specs.Declaration.{Visibility, Kind, struct, enum, Declaration}
+use Rattle.reading.specs.Took.{Took, took, Cause, stopped, ranOut, Reader, onward, after, _>>=_, pure, wrong}
 use Rattle.reading.specs.Answer.{framed, answer, itemAnswer, readNumber}
 use Rattle.reading.proofs.Frame.{framed-cases}
 use Rattle.reading.specs.Answer.{refused as refused-at}
 use Rattle.reading.specs.Reading as r
-use Rattle.reading.specs.Reading.{Maybe, done, one, Word, missing, found, Stops, Ending, Verdict, belongs, ends, unopened, rounds, every, more}
+use Rattle.reading.specs.Reading.{Maybe, done, one, Word, missing, found, Stops, RunEnd, Verdict, belongs, ends, unopened, rounds, every, more}
 use Rattle.reading.proofs.Rounds.{Conserved, Conserving, taken, refused, Round, Rounding, another, finished, copied-length, refusal-number}
 use Rattle.reading.proofs.Conserved as c
 
 module _ (b : ℕ) where
   data Placed {A : Type 0} : Took A → Type 0 where
     takes : {a : A} {rs : List ℕ} {us : Trees} → Placed (took a rs us)
-    at-end : {n : ℕ} → Placed (refuse n END)
-    at-row : {n p : ℕ} → p < b → Placed (refuse n p)
+    at-end : {w : Cause} {n : ℕ} → Placed (stopped w n END)
+    at-row : {w : Cause} {n p : ℕ} → p < b → Placed (stopped w n p)
 
   abbrev Placing : {A : Type 0} → Reader A → Type 0
   Placing m = (row : ℕ) (ts : Trees) → row + size ts ≤ b → Placed (m row ts)
@@ -106,26 +106,26 @@ module _ (b : ℕ) where
       scope (leaf q us) = takes
       scope (group d ts us) = takes
 
-  judged-placed : (v : Verdict) {go : ℕ → Bool → Took Ending} (ts : Trees) (row : ℕ) → row < b →
+  judged-placed : (depth : ℕ) (v : Verdict) {go : ℕ → Bool → Took RunEnd} (ts : Trees) (row : ℕ) → row < b →
       ((e : ℕ) (m : Bool) → Placed (go e m))
-      → Placed (r.judged v go ts row)
-  judged-placed (belongs e m) ts row h k = k e m
-  judged-placed (ends e) ts row h k = takes
-  judged-placed unopened ts row h k = at-row h
+      → Placed (r.judged depth v go ts row)
+  judged-placed depth (belongs e m) ts row h k = k e m
+  judged-placed depth (ends e) ts row h k = takes
+  judged-placed depth unopened ts row h k = at-row h
 
   runFrom-placed : (st : Stops) (n depth : ℕ) (minus : Bool) → Placing (r.runFrom st n depth minus)
   runFrom-placed st n depth minus row end h = takes
   runFrom-placed st n depth minus row (leaf q us) h =
-      judged-placed (r.judge st depth minus q) (leaf q us) row (omega arith)
+      judged-placed depth (r.judge st depth minus q) (leaf q us) row (omega arith)
       (λ e m. onward-placed _ (runFrom-placed st n e m (row + 1) us (omega arith)))
   runFrom-placed st n depth minus row (group d ts us) h =
-      judged-placed (r.judgeGroup st depth d) (group d ts us) row (omega arith)
-      (λ e m. onward-placed _ (runFrom-placed st n e m (row + r.whole ts) us (omega arith)))
+      choice (r.stopping st depth d) takes (onward-placed _ (runFrom-placed st n depth false (row + r.whole ts) us
+      (omega arith)))
 
   run-placed : (st : Stops) (n : ℕ) → Placing (r.run st n)
   run-placed st n row ts h = kept (runFrom-placed st n 0 false row ts h)
     where
-      kept : {t : Took Ending} → Placed t → Placed (r.kept ts t)
+      kept : {t : Took RunEnd} → Placed t → Placed (r.kept ts t)
       kept takes = takes
       kept at-end = at-end
       kept (at-row l) = at-row l
@@ -143,7 +143,10 @@ module _ (b : ℕ) where
     marked-placed : (row : ℕ) (us : Trees) → row + 1 + size us ≤ b → Placed (r.marked row us)
     marked-placed row end h = at-end
     marked-placed row (group d ts us) h =
-        choice (eqb d 91) (onward-placed _ (attributes-placed (row + 1 + r.whole ts) us (omega arith)))
+        choice (eqb d 91)
+        (onward-placed _ (after-placed _ (λ xs. pure (ts ∷ xs)) (omega arith)
+        (c.attributes-conserving (row + 1 + r.whole ts) us)
+        (attributes-placed (row + 1 + r.whole ts) us (omega arith)) (λ xs. none (ts ∷ xs))))
         (at-row {p = row + 1} (omega arith))
     marked-placed row (leaf p us) h =
         choice (r.isPunct 35 p) (onward-placed _ (marked-placed (row + 1) us (omega arith)))
@@ -223,7 +226,7 @@ module _ (b : ℕ) where
       bind (c.punctIf-conserving x role.separator) (punctIf-placed x role.separator)
       (λ t. runIf-placed t r.parameterStops role.bound)
 
-  parameterName-placed : (n p : ℕ) → Placed {A = List ℕ} (refuse n p) → Placing (r.parameterName n p)
+  parameterName-placed : (n p : ℕ) → Placed {A = List ℕ} (ranOut n p) → Placing (r.parameterName n p)
   parameterName-placed n p k row end h = k
   parameterName-placed n p k row (leaf q us) h = choice (r.isIdent q) takes (at-row {p = row} (omega arith))
   parameterName-placed n p k row (group d ts us) h = at-row {p = row} (omega arith)
@@ -271,12 +274,15 @@ module _ (b : ℕ) where
   clause-placed row end h = takes
   clause-placed row (group d ts us) h = takes
   clause-placed row (leaf q us) h =
-      choice (r.isWord r.WHERE q) (from-placed _ row q us h (run-placed r.clauseStops role.where-run)) takes
+      choice (r.isWord r.WHERE q)
+      (from-placed _ row q us h
+      (bind (c.run-conserving r.clauseStops role.where-run) (run-placed r.clauseStops role.where-run) (λ t. none _)))
+      takes
 
   -- ## Fields
 
-  fieldAfter-placed : (n : List ℕ) → Placing (r.fieldAfter n)
-  fieldAfter-placed n =
+  fieldAfter-placed : (a : List Trees) (v : Visibility) (n : List ℕ) → Placing (r.fieldAfter a v n)
+  fieldAfter-placed a v n =
       bind (c.punctIf-conserving 58 role.separator) (punctIf-placed 58 role.separator)
       (λ t. bind (c.must-conserving 23 t refl) (must t)
       (λ u. bind (c.run-conserving r.fieldStops role.type) (run-placed r.fieldStops role.type) (λ f. comma-placed _)))
@@ -285,22 +291,24 @@ module _ (b : ℕ) where
       must true = none _
       must false = wrong-placed 23
 
-  fieldStart-placed : Placing r.fieldStart
-  fieldStart-placed row end h = takes
-  fieldStart-placed row (group d ts us) h = at-row {p = row} (omega arith)
-  fieldStart-placed row (leaf q us) h =
-      choice (r.isIdent q) (from-placed _ row q us h (fieldAfter-placed (q .text))) (at-row {p = row} (omega arith))
+  fieldStart-placed : (a : List Trees) (v : Visibility) → Placing (r.fieldStart a v)
+  fieldStart-placed a v row end h = takes
+  fieldStart-placed a v row (group d ts us) h = at-row {p = row} (omega arith)
+  fieldStart-placed a v row (leaf q us) h =
+      choice (r.isIdent q) (from-placed _ row q us h (fieldAfter-placed a v (q .text)))
+      (at-row {p = row} (omega arith))
 
   namedField-placed : Placing r.namedField
   namedField-placed =
       bind c.attributes-conserving attributes-placed (λ a. bind c.visibility-conserving visibility-placed
-      (λ v. fieldStart-placed))
+      (fieldStart-placed a))
 
   tupleType-placed : Placing r.tupleType
   tupleType-placed =
       bind c.attributes-conserving attributes-placed
       (λ a. bind c.visibility-conserving visibility-placed
-      (λ v. bind (c.run-conserving r.fieldStops role.type) (run-placed r.fieldStops role.type) comma-placed))
+      (λ v. bind (c.run-conserving r.fieldStops role.type) (run-placed r.fieldStops role.type)
+      (λ t. comma-placed _)))
 
   tupleField-placed : Placing r.tupleField
   tupleField-placed row end h = takes
@@ -401,10 +409,10 @@ module _ (b : ℕ) where
       (λ y. none _))))))
 
 -- an item's refusal is told at the end mark or at a row of the stream
-item-place : (ts : Trees) {n p : ℕ} → r.item 0 ts ≡ refuse n p → (p ≡ END) ⊎ (p < size ts)
-item-place ts {n} {p} e = go refl (subst (Placed (size ts)) e (item-placed (size ts) 0 ts (omega arith)))
+item-place : (ts : Trees) {w : Cause} {n p : ℕ} → r.item 0 ts ≡ stopped w n p → (p ≡ END) ⊎ (p < size ts)
+item-place ts {w} {n} {p} e = go refl (subst (Placed (size ts)) e (item-placed (size ts) 0 ts (omega arith)))
   where
-    go : {t : Took Declaration} → t ≡ refuse n p → Placed (size ts) t → (p ≡ END) ⊎ (p < size ts)
+    go : {t : Took Declaration} → t ≡ stopped w n p → Placed (size ts) t → (p ≡ END) ⊎ (p < size ts)
     go q takes = let z : _≡_ {A = ℕ} 0 1 = cc in absurd (omega arith)
     go q at-end = let place : END ≡ p = cc in inl (sym place)
     go q (at-row {p = o} h) = let place : o ≡ p = cc in inr (omega (arith, place))
@@ -426,9 +434,10 @@ module _ (s : List ℕ) where
   pub short-read : OneRefusal readNumber s 8 END
   short-read = record { one = refl; stands = inl refl }
 
-  pub item-read : (rows n p : ℕ) → list.check s ≡ list.Answer.passed rows → r.item 0 (at s 10 .here) ≡ refuse n p →
+  pub item-read : (rows : ℕ) {w : Cause} (n p : ℕ) → list.check s ≡ list.Answer.passed rows →
+      r.item 0 (at s 10 .here) ≡ stopped w n p →
       OneRefusal readNumber s n p
-  item-read rows n p e q =
+  item-read rows {w} n p e q =
       let k = bounds s e in
       let own = refusal-number (subst (Conserved (at s 10 .here)) q (c.item-conserving 0 (at s 10 .here))) in
       let row : p < size (at s 10 .here) → RowOf s p =
@@ -450,19 +459,19 @@ module _ (s : List ℕ) where
   -- of every answer that tells a refusal as it is
   pub refusals : {A : Type 0} (denied : ℕ → ℕ → A) (short : ℕ → Bool) (made : Took Declaration → A)
       → ((n p m o : ℕ) → denied m o ≡ denied n p → (m ≡ n) × (o ≡ p)) →
-      ((n p : ℕ) (t : Took Declaration) → made t ≡ denied n p → t ≡ refuse n p)
+      ((n p : ℕ) (t : Took Declaration) → made t ≡ denied n p → (w : Cause) × (t ≡ stopped w n p))
       → (n p : ℕ) → framed denied short made s (list.check s) ≡ denied n p → OneRefusal readNumber s n p
   refusals {A} denied short made told plain n p =
       framed-cases (λ (a : A). a ≡ denied n p → OneRefusal readNumber s n p) denied short made s
       (λ m o e q. check-read n p (e ∙ (λ j. list.Answer.refused (told n p m o q .0 j) (told n p m o q .1 j))))
       (λ rows e h q. subst (λ (m : ℕ). OneRefusal readNumber s m p) (told n p 8 END q .0)
       (subst (OneRefusal readNumber s 8) (told n p 8 END q .1) short-read))
-      (λ rows e h t i q. item-read rows n p e (i ∙ plain n p t q))
+      (λ rows e h t i q. item-read rows n p e (i ∙ plain n p t q .1))
 
   pub answer-read : (room n p : ℕ) → answer s room ≡ refused-at n p → OneRefusal readNumber s n p
   unfolding answer
   answer-read room = refusals refused-at (λ rows. ltb room rows) itemAnswer (λ n p m o q. ((cc), (cc))) plain
     where
-      plain : (n p : ℕ) (t : Took Declaration) → itemAnswer t ≡ refused-at n p → t ≡ refuse n p
+      plain : (n p : ℕ) (t : Took Declaration) → itemAnswer t ≡ refused-at n p → (w : Cause) × (t ≡ stopped w n p)
       plain n p (took d rs us) q = let z : _≡_ {A = ℕ} 0 1 = cc in absurd (omega arith)
-      plain n p (refuse m o) q = cc
+      plain n p (stopped w m o) q = (w, (cc))

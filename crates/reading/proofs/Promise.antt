@@ -13,7 +13,7 @@ use Rattle.token_list.proofs.Passed.{passed-list}
 use Rattle.reading.specs.Role as role
 use Rattle.reading.specs.Grammar.{Obeys, everything}
 use Rattle.reading.specs.Declaration.{Declaration}
-use Rattle.reading.specs.Took.{Took, took, refuse}
+use Rattle.reading.specs.Took.{Took, took, Cause, stopped}
 use Rattle.reading.specs.Reading.{item}
 use Rattle.reading.specs.Answer.{Answer, declared, refused, itemAnswer, answer, buffer, accepts}
 use Rattle.reading.proofs.Frame.{framed-cases}
@@ -46,7 +46,7 @@ obeys-length {ts} rs h =
       length-replicate (size (a .rest)) role.left-over,
     )
 
-never : {d : Declaration} {rs : List ℕ} {us : Trees} {n p : ℕ} → took d rs us ≡ refuse n p → ⊥
+never : {d : Declaration} {rs : List ℕ} {us : Trees} {w : Cause} {n p : ℕ} → took d rs us ≡ stopped w n p → ⊥
 never e = let z : _≡_ {A = ℕ} 0 1 = cc in omega arith
 
 -- ## Lists
@@ -85,7 +85,7 @@ module _ (s : List ℕ) where
     by-item : (k : ℕ) → list.check s ≡ list.Answer.passed k → k ≤ n → (t : Took Declaration) → item 0 (stream s) ≡ t
         → SingleAssignment s n (accepts (itemAnswer t)) (buffer n (itemAnswer t))
     by-item k e l (took d rs us) i = accepting k d (rs ++ replicate (size us) role.left-over) e l (obeys-sound i)
-    by-item k e l (refuse m p) i =
+    by-item k e l (stopped w m p) i =
         refusing m p (λ j f g roles o. let a = obeys-complete o in never (sym (a .reading) ∙ i))
 
     -- the whole answer and the whole buffer, as they are defined

@@ -12,7 +12,7 @@ use Rattle.token_list.specs.Row.{Row}
 use Rattle.token_list.specs.Stream.{Trees, end, leaf, group, size}
 use Rattle.token_list.proofs.Bounds.{texts}
 use Rattle.reading.specs.Role as role
-use Rattle.reading.specs.Took.{Took, took, refuse, Reader, onward, after, _>>=_, pure}
+use Rattle.reading.specs.Took.{Took, took, Cause, stopped, Reader, onward, after, _>>=_, pure}
 use Rattle.reading.specs.Reading as r
 use Rattle.reading.specs.Reading.{Maybe, done, one, rounds, every, more}
 
@@ -44,7 +44,7 @@ ownNumber n = leb 11 n && leb n 27
 -- the roles of the rows that were taken, and the rows that are left
 pub data Conserved {A : Type 0} (ts : Trees) : Took A → Type 0 where
   taken : {a : A} (rs : List ℕ) (us : Trees) → Parted (length rs) us ts → Conserved ts (took a rs us)
-  refused : {n p : ℕ} → ownNumber n ≡ true → Conserved ts (refuse n p)
+  refused : {w : Cause} {n p : ℕ} → ownNumber n ≡ true → Conserved ts (stopped w n p)
 
 abbrev pub Conserving : {A : Type 0} → Reader A → Type 0
 Conserving m = (row : ℕ) (ts : Trees) → Conserved ts (m row ts)
@@ -53,7 +53,8 @@ pub conserved : {A : Type 0} {ts : Trees} {a : A} {rs : List ℕ} {us : Trees} �
     Parted (length rs) us ts
 conserved (taken rs us e) = e
 
-pub refusal-number : {A : Type 0} {ts : Trees} {n p : ℕ} → Conserved {A = A} ts (refuse n p) → ownNumber n ≡ true
+pub refusal-number : {A : Type 0} {ts : Trees} {w : Cause} {n p : ℕ} → Conserved {A = A} ts (stopped w n p) →
+    ownNumber n ≡ true
 refusal-number (refused n) = n
 
 -- ## Sequences and choices
@@ -107,7 +108,7 @@ one-row n q us = taken (n ∷ []) us (past-leaf q us)
 
 pub data Shorter {A : Type 0} (b : ℕ) (ts : Trees) : Took A → Type 0 where
   shorter : {a : A} (rs : List ℕ) (us : Trees) → Parted (length rs) us ts → size us < b → Shorter b ts (took a rs us)
-  refused : {n p : ℕ} → ownNumber n ≡ true → Shorter b ts (refuse n p)
+  refused : {w : Cause} {n p : ℕ} → ownNumber n ≡ true → Shorter b ts (stopped w n p)
 
 pub onward-shorter : {A : Type 0} {b : ℕ} {ts us : Trees} {t : Took A} (rs : List ℕ) → Parted (length rs) us ts →
     size us < b → Conserved us t
@@ -152,7 +153,7 @@ pub data Round {A : Type 0} (ts : Trees) : Took (Maybe A) → Type 0 where
   another : {a : A} (rs : List ℕ) (us : Trees) → Parted (length rs) us ts → size us < size ts →
       Round ts (took (one a) rs us)
   finished : (rs : List ℕ) (us : Trees) → Parted (length rs) us ts → Round ts (took done rs us)
-  refused : {n p : ℕ} → ownNumber n ≡ true → Round ts (refuse n p)
+  refused : {w : Cause} {n p : ℕ} → ownNumber n ≡ true → Round ts (stopped w n p)
 
 abbrev pub Rounding : {A : Type 0} → Reader (Maybe A) → Type 0
 Rounding m = (row : ℕ) (ts : Trees) → Round ts (m row ts)
@@ -227,7 +228,7 @@ looser l (refused n) = refused n
 
 pub data Ended {A : Type 0} : Took A → Type 0 where
   ended : {a : A} (rs : List ℕ) → Ended (took a rs end)
-  refused : {n p : ℕ} → Ended (refuse n p)
+  refused : {w : Cause} {n p : ℕ} → Ended (stopped w n p)
 
 pub ended-at : {A : Type 0} {a : A} {rs : List ℕ} {us : Trees} → Ended (took a rs us) → us ≡ end
 ended-at (ended rs) = refl
@@ -236,7 +237,7 @@ ended-at (ended rs) = refl
 pub data Last {A : Type 0} : Took (Maybe A) → Type 0 where
   last : (rs : List ℕ) → Last (took done rs end)
   another : {a : A} (rs : List ℕ) (us : Trees) → Last (took (one a) rs us)
-  refused : {n p : ℕ} → Last (refuse n p)
+  refused : {w : Cause} {n p : ℕ} → Last (stopped w n p)
 
 abbrev pub Lasting : {A : Type 0} → Reader (Maybe A) → Type 0
 Lasting m = (row : ℕ) (ts : Trees) → Last (m row ts)
@@ -249,7 +250,7 @@ onward-last rs refused = refused
 pub after-last : {A B : Type 0} (row : ℕ) (t : Took A) (f : A → Reader (Maybe B)) → ((a : A) → Lasting (f a)) →
     Last (after row t f)
 after-last row (took a rs us) f k = onward-last rs (k a _ us)
-after-last row (refuse n p) f k = refused
+after-last row (stopped w n p) f k = refused
 
 pub bind-last : {A B : Type 0} (m : Reader A) {f : A → Reader (Maybe B)} → ((a : A) → Lasting (f a)) → Lasting (m >>= f)
 bind-last m {f = f} k row ts = after-last row (m row ts) f k

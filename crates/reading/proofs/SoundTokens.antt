@@ -10,18 +10,18 @@ use Rattle.token_list.specs.Row.{Row, first}
 use Rattle.token_list.specs.Stream.{Trees, end, leaf, group}
 use Rattle.token_list.proofs.Texts.{and-both, and-last, and-fails}
 use Rattle.reading.specs.Role as role
-use Rattle.reading.specs.Token.{isIdent, isPunct, isWord, copied, lone, PUB, STRUCT, ENUM, Stops}
+use Rattle.reading.specs.Token.{isIdent, isPunct, isWord, copied, lone, PUB, STRUCT, ENUM, Stops, stopping}
 use Rattle.reading.specs.Grammar as g
 use Rattle.reading.specs.Grammar.{everything}
 use Rattle.reading.specs.Declaration.{Kind, struct, enum}
-use Rattle.reading.specs.Took.{Took, took, refuse, Reader, onward, after, _>>=_, pure}
+use Rattle.reading.specs.Took.{Took, took, Cause, stopped, refuse, Reader, onward, after, _>>=_, pure}
 use Rattle.reading.specs.Reading as r
-use Rattle.reading.specs.Reading.{Word, missing, found, Ending, belongs, ends, unopened}
+use Rattle.reading.specs.Reading.{Word, missing, found, RunEnd, belongs, ends, unopened}
 
 -- what holds of the value, the roles and the rest, where a reader takes
 pub data Meets {A : Type 0} (N : A → List ℕ → Trees → Type 0) : Took A → Type 0 where
   met : {a : A} (rs : List ℕ) (us : Trees) → N a rs us → Meets N (took a rs us)
-  refused : {n p : ℕ} → Meets N (refuse n p)
+  refused : {w : Cause} {n p : ℕ} → Meets N (stopped w n p)
 
 pub met-by : {A : Type 0} {N : A → List ℕ → Trees → Type 0} {a : A} {rs : List ℕ} {us : Trees} →
     Meets N (took a rs us) → N a rs us
@@ -49,6 +49,13 @@ pub after-met : {A B : Type 0} {N : A → List ℕ → Trees → Type 0} {M : B 
 after-met row (met {a = a} rs us h) k = onward-still rs (k a rs us h (row + length rs))
 after-met row refused k = refused
 
+-- the value made into another
+pub pure-met : {A B : Type 0} {P : List ℕ → Trees → Type 0} {t : Took A} (row : ℕ) (f : A → B) →
+    Meets (λ x rs us. P rs us) t
+    → Meets (λ x rs us. P rs us) (after row t (λ a. pure (f a)))
+pure-met row f (met rs us h) = met (rs ++ []) us (rw append-nil h)
+pure-met row f refused = refused
+
 -- ## Runs
 
 module _ (st : Stops) (n depth : ℕ) (q : Row) (us : Trees) where
@@ -59,13 +66,13 @@ module _ (st : Stops) (n depth : ℕ) (q : Row) (us : Trees) where
   ordinary-by a b c d e f = λ i. not (a i && b i || a i && c i || a i && d i && (e i && f i))
 
   -- a token that is neither `<` nor `>`
-  run-rest : (minus co z cm : Bool) (row : ℕ) (go : ℕ → Bool → Took Ending)
+  run-rest : (minus co z cm : Bool) (row : ℕ) (go : ℕ → Bool → Took RunEnd)
       → ((e : ℕ) (m : Bool) → Meets (λ x rs vs. g.Run everything st n e m us vs rs) (go e m))
       → eqb (q .kind) 112 ≡ true → eqb (first (q .text)) 60 ≡ false → eqb (first (q .text)) 62 ≡ false →
       eqb (first (q .text)) 44 ≡ co
       → eqb depth 0 ≡ z → st .comma ≡ cm
       → Meets (λ x rs vs. g.Run everything st n depth minus (leaf q us) vs rs)
-      (r.judged (cond (co && (z && cm)) (ends r.atComma) (belongs depth (eqb (first (q .text)) 45)))
+      (r.judged depth (cond (co && (z && cm)) (ends r.atComma) (belongs depth (eqb (first (q .text)) 45)))
       (λ e m. onward (n ∷ []) (go e m)) (leaf q us) row)
   run-rest minus co z cm row go ih a b c d e f = by co z cm d e f
     where
@@ -80,17 +87,17 @@ module _ (st : Stops) (n depth : ℕ) (q : Row) (us : Trees) where
 
       by : (co z cm : Bool) → eqb (first (q .text)) 44 ≡ co → eqb depth 0 ≡ z → st .comma ≡ cm
           → Meets (λ x rs vs. g.Run everything st n depth minus (leaf q us) vs rs)
-          (r.judged (cond (co && (z && cm)) (ends r.atComma) (belongs depth (eqb (first (q .text)) 45)))
+          (r.judged depth (cond (co && (z && cm)) (ends r.atComma) (belongs depth (eqb (first (q .text)) 45)))
           (λ e m. onward (n ∷ []) (go e m)) (leaf q us) row)
       by true true true d e f = met [] (leaf q us) (g.Run.comma (and-both _ _ a d) e f)
       by true true false d e f = belonging d e f refl
       by true false cm d e f = belonging d e f refl
       by false z cm d e f = belonging d e f refl
 
-  run-leaf : (minus : Bool) (row : ℕ) (go : ℕ → Bool → Took Ending)
+  run-leaf : (minus : Bool) (row : ℕ) (go : ℕ → Bool → Took RunEnd)
       → ((e : ℕ) (m : Bool) → Meets (λ x rs vs. g.Run everything st n e m us vs rs) (go e m))
       → Meets (λ x rs vs. g.Run everything st n depth minus (leaf q us) vs rs)
-      (r.judged (r.judge st depth minus q) (λ e m. onward (n ∷ []) (go e m)) (leaf q us) row)
+      (r.judged depth (r.judge st depth minus q) (λ e m. onward (n ∷ []) (go e m)) (leaf q us) row)
   run-leaf minus row go ih =
       by (eqb (q .kind) 112) minus (eqb (first (q .text)) 60) (eqb (first (q .text)) 62) (eqb (first (q .text)) 44)
       (eqb depth 0) (st .comma) (st .angle) refl refl refl refl refl refl refl
@@ -99,7 +106,7 @@ module _ (st : Stops) (n depth : ℕ) (q : Row) (us : Trees) where
           eqb (first (q .text)) 62 ≡ gt
           → eqb (first (q .text)) 44 ≡ co → eqb depth 0 ≡ z → st .comma ≡ cm → st .angle ≡ ang
           → Meets (λ x rs vs. g.Run everything st n depth minus (leaf q us) vs rs)
-          (r.judged (cond k (cond (minus && gt) (belongs depth false)
+          (r.judged depth (cond k (cond (minus && gt) (belongs depth false)
           (cond lt (belongs (depth + 1) false) (cond gt
           (cond z (cond ang (ends r.atAngle) unopened) (belongs (depth - 1) false))
           (cond (co && (z && cm)) (ends r.atComma) (belongs depth (eqb (first (q .text)) 45))))))
@@ -121,20 +128,6 @@ module _ (st : Stops) (n depth : ℕ) (q : Row) (us : Trees) where
           onward-met (n ∷ []) (ih (depth - 1) false) (λ x rs vs t. g.Run.back (and-both _ _ a c) e t)
       by true false false false co z cm ang a b c d e f h = run-rest false co z cm row go ih a b c d e f
 
-module _ (st : Stops) (n depth : ℕ) (us : Trees) where
-  run-group : (minus : Bool) (d : ℕ) (ts : Trees) (row : ℕ) (go : ℕ → Bool → Took Ending)
-      → ((e : ℕ) (m : Bool) → Meets (λ x rs vs. g.Run everything st n e m us vs rs) (go e m))
-      → Meets (λ x rs vs. g.Run everything st n depth minus (group d ts us) vs rs)
-      (r.judged (r.judgeGroup st depth d) (λ e m. onward (copied n ts) (go e m)) (group d ts us) row)
-  run-group minus d ts row go ih = by (g.stopping st depth d) refl
-    where
-      by : (b : Bool) → g.stopping st depth d ≡ b → Meets
-          (λ x rs vs. g.Run everything st n depth minus (group d ts us) vs rs)
-          (r.judged (cond b (ends r.atGroup) (belongs depth false)) (λ e m. onward (copied n ts) (go e m))
-          (group d ts us) row)
-      by true e = met [] (group d ts us) (g.Run.stop e)
-      by false e = onward-met (copied n ts) (ih depth false) (λ x rs vs t. g.Run.inside e t)
-
 pub runFrom-sound : (st : Stops) (n depth : ℕ) (minus : Bool) (row : ℕ) (ts : Trees)
     → Meets (λ x rs us. g.Run everything st n depth minus ts us rs) (r.runFrom st n depth minus row ts)
 runFrom-sound st n depth minus row end = met [] end (g.Run.ended refl)
@@ -142,10 +135,11 @@ runFrom-sound st n depth minus row (leaf q us) =
     run-leaf st n depth q us minus row (λ e m. r.runFrom st n e m (row + 1) us)
     (λ e m. runFrom-sound st n e m (row + 1) us)
 runFrom-sound st n depth minus row (group d ts us) =
-    run-group st n depth us minus d ts row (λ e m. r.runFrom st n e m (row + r.whole ts) us)
-    (λ e m. runFrom-sound st n e m (row + r.whole ts) us)
+    choice (stopping st depth d) (λ e. met [] (group d ts us) (g.Run.stop e))
+    (λ e. onward-met (copied n ts) (runFrom-sound st n depth false (row + r.whole ts) us)
+    (λ x rs vs t. g.Run.inside e t))
 
-kept-met : {P : List ℕ → Trees → Type 0} {t : Took Ending} (ts : Trees) → Meets (λ x rs us. P rs us) t →
+kept-met : {P : List ℕ → Trees → Type 0} {t : Took RunEnd} (ts : Trees) → Meets (λ x rs us. P rs us) t →
     Meets (λ x rs us. P rs us) (r.kept ts t)
 kept-met ts (met rs us h) = met rs us h
 kept-met ts refused = refused
@@ -171,7 +165,8 @@ mutual
   marked-sound row q (group d ts us) e =
       choice (eqb d 91)
       (λ f. onward-met (role.attribute-mark ∷ copied role.attribute-group ts)
-      (attributes-sound (row + 1 + r.whole ts) us) (λ x rs vs h. g.Attributes.attribute e f h))
+      (pure-met {P = λ rs vs. g.Attributes everything us vs rs} (row + 1 + r.whole ts) (λ xs. ts ∷ xs)
+      (attributes-sound (row + 1 + r.whole ts) us)) (λ x rs vs h. g.Attributes.attribute e f h))
       (λ f. refused)
   marked-sound row q (leaf p us) e =
       choice (isPunct 35 p) (λ f. onward-met (role.idle-mark ∷ []) (marked-sound (row + 1) p us f)

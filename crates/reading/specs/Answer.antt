@@ -11,7 +11,7 @@ use Rattle.token_list.specs.Check as list
 use Rattle.token_list.specs.Stream.{Trees, size, at}
 use Rattle.reading.specs.Role as role
 use Rattle.reading.specs.Declaration.{Declaration}
-use Rattle.reading.specs.Took.{Took, took, refuse}
+use Rattle.reading.specs.Took.{Took, took, stopped}
 use Rattle.reading.specs.Reading.{item}
 
 -- The order of every answer about a declaration: the list check's refusal; 8 where a role buffer or scratch is too
@@ -30,7 +30,7 @@ pub data Answer : Type 0 where
 -- the rows after the item are left over
 abbrev pub itemAnswer : Took Declaration → Answer
 itemAnswer (took d rs us) = declared d (rs ++ replicate (size us) role.left-over)
-itemAnswer (refuse n p) = refused n p
+itemAnswer (stopped w n p) = refused n p
 
 -- for a list s and a role buffer of n bytes, which needs a byte a row
 unfoldable pub answer : List ℕ → ℕ → Answer

@@ -14,7 +14,7 @@ use Rattle.token_list.specs.Text.{rawName}
 use Rattle.token_list.specs.Row.{Row}
 use Rattle.token_list.specs.Stream.{Trees, end, leaf, group, size}
 use Rattle.reading.specs.Role as role
-use Rattle.reading.specs.Token.{isIdent, isLiteral, isPunct, isWord, copied, lone, starts, opens, isGroup, isEnd, scoped, negatable, PUB, STRUCT, ENUM, CONST, WHERE, Stops, parameterStops, fieldStops, clauseStops, noStops}
+use Rattle.reading.specs.Token.{isIdent, isLiteral, isPunct, isWord, copied, lone, starts, opens, isGroup, isEnd, scoped, negatable, PUB, STRUCT, ENUM, CONST, WHERE, Stops, stopping, parameterStops, fieldStops, clauseStops, noStops}
 use Rattle.reading.specs.Keyword.{identifier}
 use Rattle.reading.specs.SimplePath.{scopeForm}
 
@@ -47,10 +47,6 @@ filled (r ∷ rs) = true
 -- rule 6: a token that is neither `<` nor `>` nor a stop
 abbrev pub ordinary : Stops → ℕ → Row → Bool
 ordinary st depth q = not (isPunct LESS q || isPunct GREATER q || isPunct COMMA q && (eqb depth 0 && st .comma))
-
--- rule 5: a brace or parenthesis group that is a stop
-abbrev pub stopping : Stops → ℕ → ℕ → Bool
-stopping st depth d = eqb depth 0 && (st .group && (eqb d BRACE || eqb d PARENTHESIS))
 
 -- lifetimes first: a parameter at ts, and what follows it at us
 abbrev pub lifetimesFirst : Trees → Trees → Bool

@@ -1,6 +1,6 @@
 -- Where the parts of a declaration stand: each is told by the readers of what stands before it (document 01, "Role
 -- grammar").
-use mathlib.Core.Bool.{Bool, cond, _||_}
+use mathlib.Core.Bool.{Bool, false, cond, _||_}
 use mathlib.Core.List.{List}
 use Prim.Native.Nat.{ℕ, zero, suc, _+_}
 use Rattle.token_list.specs.Byte.{QUOTE}
@@ -8,10 +8,10 @@ use Rattle.token_list.specs.Layout.{FIRST-ROW}
 use Rattle.token_list.specs.Row.{Row}
 use Rattle.token_list.specs.Stream.{Trees, end, leaf, group, at}
 use Rattle.reading.specs.Role as role
-use Rattle.reading.specs.Token.{starts, isPunct, isWord, CONST}
+use Rattle.reading.specs.Token.{starts, isPunct, isWord, whole, CONST, Stops}
 use Rattle.reading.specs.Declaration.{Value, absent, literal, negative}
-use Rattle.reading.specs.Took.{Reader, Point, beyond, _>>=_}
-use Rattle.reading.specs.Reading.{attributes, visibility, word, named!, kindOf, dataType, generics, clause, variantFields, variant}
+use Rattle.reading.specs.Took.{Took, took, stopped, Reader, pure, Point, beyond, _>>=_}
+use Rattle.reading.specs.Reading.{RunEnd, atEnd, ended, runFrom, attributes, visibility, word, named!, kindOf, dataType, generics, clause, variantFields, variant}
 
 -- the ident of a word: in the word's own row, or inside what wraps it
 abbrev pub identRow : ℕ → Trees → ℕ
@@ -22,9 +22,14 @@ identRow row (group d ts us) = row + 1
 abbrev pub wordRow : Point → ℕ
 wordRow x = identRow (x .row) (x .stream)
 
--- past attributes and visibility: a field's name, or the item's word
-abbrev pub startAt : Point → Point
-startAt x = beyond visibility (beyond attributes x)
+-- past the token that stands first
+abbrev pub tokenEnd : ℕ → Trees → Point
+tokenEnd row end = record { row = row; stream = end }
+tokenEnd row (leaf r us) = record { row = row + 1; stream = us }
+tokenEnd row (group d ts us) = record { row = row + whole ts; stream = us }
+
+abbrev pub pastToken : Point → Point
+pastToken x = tokenEnd (x .row) (x .stream)
 
 -- the first row of a list
 abbrev pub start : List ℕ → Point
@@ -39,36 +44,72 @@ insideOf row (group d ts us) = record { row = row + 1; stream = ts }
 abbrev pub inside : Point → Point
 inside x = insideOf (x .row) (x .stream)
 
+-- ## A run: how it ends
+
+abbrev pub endOf : Took RunEnd → RunEnd
+endOf (took e rs us) = e
+endOf (stopped w n p) = ended atEnd 0
+
+abbrev pub runEnd : Stops → ℕ → Point → RunEnd
+runEnd st r x = endOf (runFrom st r 0 false (x .row) (x .stream))
+
+-- ## What begins with attributes and visibility: past the first, and past both, a field's name or the item's word
+
+abbrev pub visibilityAt : Point → Point
+visibilityAt x = beyond attributes x
+
+abbrev pub startAt : Point → Point
+startAt x = beyond visibility (visibilityAt x)
+
 -- ## The item
 
-abbrev pub itemNameRow : Point → ℕ
-itemNameRow x = wordRow (beyond (word role.item-word >>= kindOf) (startAt x))
+abbrev pub itemNameAt : Point → Point
+itemNameAt x = beyond (word role.item-word >>= kindOf) (startAt x)
 
 abbrev pub genericsAt : Point → Point
 genericsAt x = beyond dataType (startAt x)
 
-abbrev pub bodyAt : Point → Point
-bodyAt x = beyond clause (beyond generics (genericsAt x))
+abbrev pub clauseAt : Point → Point
+clauseAt x = beyond generics (genericsAt x)
 
--- ## A parameter: its name stands past its `'` or `const`
+abbrev pub bodyAt : Point → Point
+bodyAt x = beyond clause (clauseAt x)
+
+-- ## A parameter: its name stands past its `'` or `const`, and its `:` or `=` past its name
 
 abbrev pub marksName : Row → Bool
 marksName r = isPunct QUOTE r || isWord CONST r
 
-abbrev pub parameterNameRow : Point → ℕ
-parameterNameRow x = cond (starts marksName (x .stream)) (x .row + 1) (x .row)
+abbrev pub parameterNameAt : Point → Point
+parameterNameAt x = cond (starts marksName (x .stream)) (pastToken x) x
+
+abbrev pub markAt : Point → Point
+markAt x = pastToken (parameterNameAt x)
+
+-- ## A named field: its type stands past its name and `:`
+
+abbrev pub typeAt : Point → Point
+typeAt x = pastToken (pastToken (startAt x))
 
 -- ## A variant
 
-abbrev pub variantNameRow : Point → ℕ
-variantNameRow x = wordRow (beyond attributes x)
+abbrev pub variantNameAt : Point → Point
+variantNameAt x = beyond attributes x
 
 -- its attributes and name; then its group, and then the `=` of its value
-abbrev pub variantName : Reader (List ℕ)
-variantName = attributes >>= λ a. (word role.variant-name >>= named!)
+pub record VariantHead : Type 0 where
+  pub attributes : List Trees
+  pub name : List ℕ
+
+abbrev pub variantHead : Reader VariantHead
+variantHead = do
+  a ← attributes
+  w ← word role.variant-name
+  n ← named! w
+  pure (record { attributes = a; name = n })
 
 abbrev pub groupAt : Point → Point
-groupAt x = beyond variantName x
+groupAt x = beyond variantHead x
 
 abbrev pub equalsAt : Point → Point
 equalsAt x = beyond variantFields (groupAt x)

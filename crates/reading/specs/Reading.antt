@@ -3,7 +3,7 @@
 use mathlib.Core.Bool.{Bool, true, false, cond, not, _&&_, _||_}
 use mathlib.Core.List.{List, [], _∷_, _++_}
 use Prim.Native.Nat.{ℕ, zero, suc, _+_, _-_, _*_}
-use lib.Dec.{leb, eqb}
+use lib.Dec.{leb, ltb, eqb}
 use lib.ListN.{length, replicate}
 use Rattle.token_list.specs.Byte.{HASH, QUOTE, COMMA, MINUS, COLON, SEMICOLON, LESS, EQUALS, GREATER}
 use Rattle.token_list.specs.Byte.{PARENTHESIS, BRACKET, BRACE}
@@ -13,9 +13,9 @@ use Rattle.token_list.specs.Row.{Row, first}
 use Rattle.token_list.specs.Check.{END}
 use Rattle.token_list.specs.Stream.{Trees, end, leaf, group, size}
 use Rattle.reading.specs.Role as role
-pub use Rattle.reading.specs.Token.{isIdent, isLiteral, isPunct, isWord, whole, copied, lone, PUB, STRUCT, ENUM, CONST, WHERE, scopeWord, scoped, worthFrom, worth, negatable, Stops, parameterStops, fieldStops, clauseStops}
-use Rattle.reading.specs.Declaration.{Kind, struct, enum, Parameter, lifetime, constant, type, Generics, without, angled, Field, Fields, unit, named, tuple, Value, absent, literal, negative, Variant, Body, fields, variants, Declaration}
-use Rattle.reading.specs.Took.{Took, took, refuse, Reader, onward, after, _>>=_, pure, placeOf, wrong}
+pub use Rattle.reading.specs.Token.{isIdent, isLiteral, isPunct, isWord, whole, copied, lone, PUB, STRUCT, ENUM, CONST, WHERE, scopeWord, scoped, worthFrom, worth, negatable, Stops, stopping, parameterStops, fieldStops, clauseStops}
+use Rattle.reading.specs.Declaration.{Visibility, default, public, restricted, Kind, struct, enum, Parameter, lifetime, constant, type, Generics, without, angled, Constraints, unconstrained, constrained, UnnamedField, Field, Fields, unit, named, tuple, Value, absent, literal, negative, Variant, Body, fields, variants, Declaration}
+use Rattle.reading.specs.Took.{Took, took, stopped, refuse, ranOut, Reader, onward, after, _>>=_, pure, placeOf, wrong}
 
 -- ## Words and punctuation (parse/utils.rs)
 
@@ -46,6 +46,11 @@ punctIf b r row (group d ts us) = took false [] (group d ts us)
 pub data Ending : Type 0 where
   atComma atAngle atGroup atEnd : Ending
 
+-- how a run ended: at what, and whether an angle was open there
+pub record RunEnd : Type 0 where
+  pub ending : Ending
+  pub unclosed : Bool
+
 -- what a token is to a run: it belongs, with the depth and whether a `-` was last from then on; it ends the run; or it
 -- is a `>` with nothing open
 pub data Verdict : Type 0 where
@@ -64,25 +69,23 @@ judgePunct st depth minus b =
 abbrev pub judge : Stops → ℕ → Bool → Row → Verdict
 judge st depth minus r = cond (eqb (r .kind) PUNCT) (judgePunct st depth minus (first (r .text))) (belongs depth false)
 
--- rules 5 and 6, for { and (
-abbrev pub judgeGroup : Stops → ℕ → ℕ → Verdict
-judgeGroup st depth d =
-    cond (eqb depth 0 && (st .group && (eqb d BRACE || eqb d PARENTHESIS))) (ends atGroup) (belongs depth false)
+-- a run that ends at this depth
+abbrev pub ended : Ending → ℕ → RunEnd
+ended e depth = record { ending = e; unclosed = ltb 0 depth }
 
-abbrev pub judged : Verdict → (ℕ → Bool → Took Ending) → Trees → ℕ → Took Ending
-judged (belongs depth minus) go ts row = go depth minus
-judged (ends e) go ts row = took e [] ts
-judged unopened go ts row = refuse 15 row
+abbrev pub judged : ℕ → Verdict → (ℕ → Bool → Took RunEnd) → Trees → ℕ → Took RunEnd
+judged depth (belongs e minus) go ts row = go e minus
+judged depth (ends e) go ts row = took (ended e depth) [] ts
+judged depth unopened go ts row = refuse 15 row
 
 -- read_tokens_until_punct: the rows of the run get the role r
-abbrev pub runFrom : Stops → ℕ → ℕ → Bool → Reader Ending
-runFrom st r depth minus row end = took atEnd [] end
+abbrev pub runFrom : Stops → ℕ → ℕ → Bool → Reader RunEnd
+runFrom st r depth minus row end = took (ended atEnd depth) [] end
 runFrom st r depth minus row (leaf q us) =
-    judged (judge st depth minus q) (λ e m. onward (r ∷ []) (runFrom st r e m (row + 1) us)) (leaf q us) row
+    judged depth (judge st depth minus q) (λ e m. onward (r ∷ []) (runFrom st r e m (row + 1) us)) (leaf q us) row
 runFrom st r depth minus row (group d ts us) =
-    judged (judgeGroup st depth d)
-    (λ e m. onward (copied r ts) (runFrom st r e m (row + whole ts) us))
-    (group d ts us) row
+    cond (stopping st depth d) (took (ended atGroup depth) [] (group d ts us))
+    (onward (copied r ts) (runFrom st r depth false (row + whole ts) us))
 
 -- the first tokens of a stream, n rows in all
 abbrev pub front : Trees → ℕ → Trees
@@ -92,9 +95,9 @@ front (leaf r us) (suc n) = leaf r (front us n)
 front (group d ts us) zero = end
 front (group d ts us) (suc n) = group d ts (front us (n - (1 + size ts)))
 
-abbrev pub kept : Trees → Took Ending → Took Trees
+abbrev pub kept : Trees → Took RunEnd → Took Trees
 kept ts (took e rs us) = took (front ts (length rs)) rs us
-kept ts (refuse n p) = refuse n p
+kept ts (stopped w n p) = stopped w n p
 
 -- a run, with what it holds
 abbrev pub run : Stops → ℕ → Reader Trees
@@ -107,17 +110,18 @@ runIf false st r = pure end
 -- ## Attributes (parse/attributes.rs; OuterAttribute)
 
 abbrev mutual
-  pub attributes : Reader (Unit {0})
-  attributes row end = took tt [] end
-  attributes row (group d ts us) = took tt [] (group d ts us)
-  attributes row (leaf r us) = cond (isPunct HASH r) (marked row us) (took tt [] (leaf r us))
+  pub attributes : Reader (List Trees)
+  attributes row end = took [] [] end
+  attributes row (group d ts us) = took [] [] (group d ts us)
+  attributes row (leaf r us) = cond (isPunct HASH r) (marked row us) (took [] [] (leaf r us))
 
   -- after a `#` in the row given
-  pub marked : ℕ → Trees → Took (Unit {0})
-  marked row end = refuse 13 END
+  pub marked : ℕ → Trees → Took (List Trees)
+  marked row end = ranOut 13 END
   marked row (group d ts us) =
       cond (eqb d BRACKET)
-      (onward (role.attribute-mark ∷ copied role.attribute-group ts) (attributes (row + 1 + whole ts) us))
+      (onward (role.attribute-mark ∷ copied role.attribute-group ts)
+      (after (row + 1 + whole ts) (attributes (row + 1 + whole ts) us) (λ xs. pure (ts ∷ xs))))
       (refuse 12 (row + 1))
   marked row (leaf r us) =
       cond (isPunct HASH r) (onward (role.idle-mark ∷ []) (marked (row + 1) us)) (refuse 13 (row + 1))
@@ -125,25 +129,27 @@ abbrev mutual
 -- ## Visibility (parse/visibility.rs; Visibility)
 
 -- the group after a plain `pub`, and after a wrapped one
-abbrev pub scopeAfter : Reader (Unit {0})
-scopeAfter row end = took tt [] end
-scopeAfter row (leaf r us) = took tt [] (leaf r us)
+abbrev pub scopeAfter : Reader Visibility
+scopeAfter row end = took public [] end
+scopeAfter row (leaf r us) = took public [] (leaf r us)
 scopeAfter row (group d ts us) =
-    cond (eqb d PARENTHESIS && scoped ts) (took tt (copied role.scope ts) us) (took tt [] (group d ts us))
+    cond (eqb d PARENTHESIS && scoped ts)
+    (took (restricted d ts) (copied role.scope ts) us)
+    (took public [] (group d ts us))
 
-abbrev pub anyScope : Reader (Unit {0})
-anyScope row end = took tt [] end
-anyScope row (leaf r us) = took tt [] (leaf r us)
-anyScope row (group d ts us) = took tt (copied role.scope ts) us
+abbrev pub anyScope : Reader Visibility
+anyScope row end = took public [] end
+anyScope row (leaf r us) = took public [] (leaf r us)
+anyScope row (group d ts us) = took (restricted d ts) (copied role.scope ts) us
 
-abbrev pub visibility : Reader (Unit {0})
-visibility row end = took tt [] end
+abbrev pub visibility : Reader Visibility
+visibility row end = took default [] end
 visibility row (leaf r us) =
-    cond (isWord PUB r) (onward (role.visibility ∷ []) (scopeAfter (row + 1) us)) (took tt [] (leaf r us))
+    cond (isWord PUB r) (onward (role.visibility ∷ []) (scopeAfter (row + 1) us)) (took default [] (leaf r us))
 visibility row (group d ts us) =
     cond (lone (isWord PUB) ts)
     (onward (copied role.visibility ts) (anyScope (row + whole ts) us))
-    (took tt [] (group d ts us))
+    (took default [] (group d ts us))
 
 -- ## The item's word and name (parse/data_type.rs)
 
@@ -172,7 +178,7 @@ dataType = do
 
 -- an ident as a parameter's name, or a refusal: n at what stands there, or at p where nothing does
 abbrev pub parameterName : ℕ → ℕ → Reader (List ℕ)
-parameterName n p row end = refuse n p
+parameterName n p row end = ranOut n p
 parameterName n p row (leaf r us) = cond (isIdent r) (took (r .text) (role.parameter-name ∷ []) us) (refuse n row)
 parameterName n p row (group d ts us) = refuse n row
 
@@ -219,7 +225,7 @@ from r row us m = onward (r ∷ []) (m (row + 1) us)
 
 -- after the `<` in the row `angle`
 abbrev pub parameter : ℕ → Reader (Maybe Parameter)
-parameter angle row end = refuse 14 angle
+parameter angle row end = ranOut 14 angle
 parameter angle row (group d ts us) = refuse 14 row
 parameter angle row (leaf r us) =
     cond (isPunct QUOTE r) (from role.parameter-name row us (lifetimeAfter row >>= comma))
@@ -254,18 +260,21 @@ generics row (leaf r us) =
 
 -- ## The where clause (GenericConstraints; WhereClause)
 
-abbrev pub clause : Reader Trees
-clause row end = took end [] end
-clause row (group d ts us) = took end [] (group d ts us)
+abbrev pub clauseAfter : Reader Constraints
+clauseAfter = run clauseStops role.where-run >>= λ r. pure (constrained r)
+
+abbrev pub clause : Reader Constraints
+clause row end = took unconstrained [] end
+clause row (group d ts us) = took unconstrained [] (group d ts us)
 clause row (leaf r us) =
-    cond (isWord WHERE r) (from role.where-word row us (run clauseStops role.where-run)) (took end [] (leaf r us))
+    cond (isWord WHERE r) (from role.where-word row us clauseAfter) (took unconstrained [] (leaf r us))
 
 -- ## Bodies (parse/body.rs; StructFields, TupleFields, EnumItems)
 
--- the inside of a group, between its delimiters
+-- the inside of a group, between its delimiters; where it gave out, the stream around it did not
 abbrev pub closing : {A : Type 0} → Trees → Took A → Took A
 closing us (took a rs rest) = took a (role.delimiter ∷ rs ++ role.delimiter ∷ []) us
-closing us (refuse n p) = refuse n p
+closing us (stopped w n p) = refuse n p
 
 abbrev pub enclosed : {A : Type 0} → Reader A → ℕ → Trees → Trees → Took A
 enclosed m row ts us = closing us (m (row + 1) ts)
@@ -275,33 +284,34 @@ must n true = pure tt
 must n false = wrong n
 
 -- `:`, the type's run and the `,` that may follow
-abbrev pub fieldAfter : List ℕ → Reader (Maybe Field)
-fieldAfter n = do
+abbrev pub fieldAfter : List Trees → Visibility → List ℕ → Reader (Maybe Field)
+fieldAfter a v n = do
   t ← punctIf COLON role.separator
   u ← must 23 t
   f ← run fieldStops role.type
-  comma (record { name = n; type = f })
+  comma (record { name = n; field = record { attributes = a; visibility = v; type = f } })
 
 -- attributes and visibility may stand alone at the end
-abbrev pub fieldStart : Reader (Maybe Field)
-fieldStart row end = took done [] end
-fieldStart row (group d ts us) = refuse 22 row
-fieldStart row (leaf r us) = cond (isIdent r) (from role.field-name row us (fieldAfter (r .text))) (refuse 22 row)
+abbrev pub fieldStart : List Trees → Visibility → Reader (Maybe Field)
+fieldStart a v row end = took done [] end
+fieldStart a v row (group d ts us) = refuse 22 row
+fieldStart a v row (leaf r us) =
+    cond (isIdent r) (from role.field-name row us (fieldAfter a v (r .text))) (refuse 22 row)
 
 abbrev pub namedField : Reader (Maybe Field)
 namedField = do
   a ← attributes
   v ← visibility
-  fieldStart
+  fieldStart a v
 
-abbrev pub tupleType : Reader (Maybe Trees)
+abbrev pub tupleType : Reader (Maybe UnnamedField)
 tupleType = do
   a ← attributes
   v ← visibility
   t ← run fieldStops role.type
-  comma t
+  comma (record { attributes = a; visibility = v; type = t })
 
-abbrev pub tupleField : Reader (Maybe Trees)
+abbrev pub tupleField : Reader (Maybe UnnamedField)
 tupleField row end = took done [] end
 tupleField row (leaf r us) = tupleType row (leaf r us)
 tupleField row (group d ts us) = tupleType row (group d ts us)
@@ -310,7 +320,7 @@ abbrev pub namedFields : Reader Fields
 namedFields = every namedField >>= λ fs. pure (named fs)
 
 abbrev pub tupleFields : Reader Fields
-tupleFields = every tupleField >>= λ ts. pure (tuple ts)
+tupleFields = every tupleField >>= λ fs. pure (tuple fs)
 
 -- EnumItemTuple or EnumItemStruct
 abbrev pub variantFields : Reader Fields
@@ -322,7 +332,7 @@ variantFields row (group d ts us) =
 
 -- after `-`
 abbrev pub negativeValue : Reader Value
-negativeValue row end = refuse 21 END
+negativeValue row end = ranOut 21 END
 negativeValue row (group d ts us) = refuse 21 row
 negativeValue row (leaf r us) =
     cond (isLiteral r)
@@ -331,7 +341,7 @@ negativeValue row (leaf r us) =
 
 -- EnumItemDiscriminant, after `=`
 abbrev pub discriminant : Reader Value
-discriminant row end = refuse 21 END
+discriminant row end = ranOut 21 END
 discriminant row (group d ts us) = refuse 21 row
 discriminant row (leaf r us) =
     cond (isLiteral r) (took (literal (r .text)) (role.value ∷ []) us)
@@ -352,7 +362,7 @@ variantHere = do
   n ← named! w
   f ← variantFields
   v ← valueIf
-  comma (record { name = n; fields = f; value = v })
+  comma (record { attributes = a; name = n; fields = f; value = v })
 
 abbrev pub variant : Reader (Maybe Variant)
 variant row end = took done [] end
@@ -366,14 +376,14 @@ abbrev pub structFields : Reader Fields → Reader Body
 structFields m = m >>= λ f. pure (fields f)
 
 abbrev pub structBody : Reader Body
-structBody row end = refuse 16 END
+structBody row end = ranOut 16 END
 structBody row (leaf r us) = cond (isPunct SEMICOLON r) (took (fields unit) (role.delimiter ∷ []) us) (refuse 16 row)
 structBody row (group d ts us) =
     cond (eqb d BRACE) (enclosed (structFields namedFields) row ts us)
     (cond (eqb d PARENTHESIS) (enclosed (structFields tupleFields) row ts us) (refuse 17 row))
 
 abbrev pub enumBody : Reader Body
-enumBody row end = refuse 18 END
+enumBody row end = ranOut 18 END
 enumBody row (leaf r us) = cond (isPunct SEMICOLON r) (took (variants []) (role.delimiter ∷ []) us) (refuse 18 row)
 enumBody row (group d ts us) = enclosed enumVariants row ts us
 
@@ -391,4 +401,13 @@ item = do
   g ← generics
   c ← clause
   b ← bodyOf (h .kind)
-  pure (record { kind = h .kind; name = h .name; generics = g; clause = c; body = b })
+  pure
+      (record {
+        attributes = a;
+        visibility = v;
+        kind = h .kind;
+        name = h .name;
+        generics = g;
+        clause = c;
+        body = b;
+      })

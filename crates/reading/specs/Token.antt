@@ -4,7 +4,7 @@ use mathlib.Core.List.{List, [], _∷_}
 use Prim.Native.Nat.{ℕ, _+_, _-_, _*_}
 use lib.Dec.{leb, eqb}
 use lib.ListN.{replicate}
-use Rattle.token_list.specs.Byte.{bytes, ZERO}
+use Rattle.token_list.specs.Byte.{bytes, ZERO, PARENTHESIS, BRACE}
 use Rattle.token_list.specs.Layout.{IDENT, LITERAL, PUNCT}
 use Rattle.token_list.specs.Text.{same, all, digit}
 use Rattle.token_list.specs.Row.{Row, first}
@@ -129,3 +129,7 @@ clauseStops = record { comma = false; angle = false; group = true }
 
 abbrev pub noStops : Stops
 noStops = record { comma = false; angle = false; group = false }
+
+-- rule 5: a brace or parenthesis group that is a stop
+abbrev pub stopping : Stops → ℕ → ℕ → Bool
+stopping st depth d = eqb depth 0 && (st .group && (eqb d BRACE || eqb d PARENTHESIS))
