@@ -1,0 +1,2 @@
+-- Laws on what a StreamBuilder adds, which proofs cite.
+pub mod Builds

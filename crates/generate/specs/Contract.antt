@@ -1,0 +1,37 @@
+-- What ties a StreamBuilder's counts and the output to the rows that were added.
+use mathlib.Core.Path.{_≡_}
+use mathlib.Core.List.{List, []}
+use Prim.Native.Nat.{ℕ, _+_, _≤_}
+use lib.ListN.{length}
+use lib.Seq.{slice}
+use Rattle.token_list.specs.Row.{Row, written}
+use Rattle.token_list.specs.Check.{NAMES}
+use Rattle.token_list.specs.declared.check.Cursor.{Cursor}
+use Rattle.output.specs.Contract.{further, Put}
+use Rattle.writing.specs.Rows.{listOf}
+use Rattle.generate.specs.declared.stream_builder.StreamBuilder.{StreamBuilder}
+
+abbrev pub row : ℕ → List ℕ → Row
+row k t = record { kind = k; text = t }
+
+-- an output was `before` and is `after`: the list of the rows rs stands from its start on, as far as there is room
+pub record Built (before after : List ℕ) (r : StreamBuilder) (rs : List Row) : Type 0 where
+  pub rows : r .rows ≡ further 0 (length rs)
+  pub put : Put before after 0 (r .bytes) (listOf rs)
+
+-- the rows rs stand behind those of the builder b
+pub record Appended (before after : List ℕ) (b r : StreamBuilder) (rs : List Row) : Type 0 where
+  pub rows : r .rows ≡ further (b .rows) (length rs)
+  pub put : Put before after (b .bytes) (r .bytes) (written rs)
+
+-- a part of the list s
+pub record Part (s : List ℕ) (from to : Cursor) : Type 0 where
+  pub forth : from .at ≤ to .at
+  pub rows : from .row ≤ to .row
+  pub within : to .at ≤ length s
+
+-- whichever rows a part of the list s is the lines of, they are appended
+abbrev pub Extended : (s : List ℕ) (from to : Cursor) (before after : List ℕ) (b r : StreamBuilder) → Type 0
+Extended s from to before after b r =
+    (rs : List Row) → slice (from .at) (to .at) s ≡ written rs → from .row + length rs ≡ to .row
+    → Appended before after b r rs

@@ -1,0 +1,2 @@
+// virtue's src/generate, as far as the writers of generics need it.
+pub mod stream_builder;
