@@ -1,2 +1,6 @@
 -- Laws on what the writers write, which proofs above cite.
 pub mod Examples
+pub mod Joined
+pub mod Balanced
+pub mod Runs
+pub mod Read

@@ -4,5 +4,6 @@ pub mod Rows
 pub mod Generics
 pub mod Names
 pub mod Answer
+pub mod Depth
 pub mod Examples
 pub mod ReadBack
