@@ -4,3 +4,5 @@ pub mod Joined
 pub mod Balanced
 pub mod Runs
 pub mod Read
+pub mod Written
+pub mod Reread

@@ -18,7 +18,7 @@ use Rattle.reading.specs.Reading.{Maybe, done, one, RunEnd, rounds, every, more
 use Rattle.reading.proofs.SoundTokens.{Meets, met, refused, choice, onward-still, onward-met, after-met, runFrom-sound, attributes-sound, visibility-sound, dataType-sound}
 use Rattle.reading.proofs.GrammarSound.{punctIf-sound}
 use Rattle.writing.proofs.Joined.{joined, front-joined}
-use Rattle.writing.proofs.Runs.{Alone, Held, held}
+use Rattle.writing.proofs.Runs.{Alone, Held, held, alone-length}
 
 -- ## Where a parameter stands
 
@@ -76,7 +76,7 @@ run-read row ts = go (r.runFrom parameterStops role.bound 0 false row ts) (runFr
         last true e = cut e
         last false e =
             let i = held h e in
-            let b = ap (λ (t : Trees). r.front t (length rs)) (i .cut) ∙ front-joined (i .tokens) us (length rs) (i .counted) in
+            let b = ap (λ (t : Trees). r.front t (length rs)) (i .cut) ∙ front-joined (i .tokens) us (length rs) (alone-length (i .alone)) in
             subst (λ (t : Trees). RunAt ts t us) (sym b) (run (i .cut) (i .alone))
 
 marked-read : (m row : ℕ) (ts : Trees) → Meets (λ b rs us. MarkedAt m ts b us) (r.marked-run m row ts)

@@ -32,11 +32,10 @@ Alone depth minus b rs = Run nothing parameterStops role.bound depth minus b end
 pub record Held (depth : ℕ) (minus : Bool) (ts us : Trees) (rs : List ℕ) : Type 0 where
   pub tokens : Trees
   pub cut : ts ≡ joined tokens us
-  pub counted : length rs ≡ size tokens
   pub alone : Alone depth minus tokens rs
 
 held-none : {depth : ℕ} {minus : Bool} {us : Trees} → eqb depth 0 ≡ true → Held depth minus us us []
-held-none z = record { tokens = end; cut = refl; counted = refl; alone = ended z }
+held-none z = record { tokens = end; cut = refl; alone = ended z }
 
 -- one token more
 held-leaf : {depth e : ℕ} {minus m : Bool} {ts us : Trees} {rs : List ℕ} (q : Row) → Held e m ts us rs
@@ -45,7 +44,6 @@ held-leaf : {depth e : ℕ} {minus m : Bool} {ts us : Trees} {rs : List ℕ} (q 
 held-leaf q h k = record {
   tokens = leaf q (h .tokens);
   cut = ap (leaf q) (h .cut);
-  counted = omega (arith, h .counted);
   alone = k (h .tokens) (h .alone);
 }
 
@@ -58,12 +56,11 @@ held (angle e z a) n = held-none z
 held (comma e z a) n = held-none z
 held (stop {depth = depth} e) n = held-none (and-parts (eqb depth 0) _ e .0)
 held (token {q = q} e h) n = held-leaf q (held h n) (λ b. token e)
-held (inside {d = d} {ts = ts} {rs = rs} e h) n =
+held (inside {d = d} {ts = ts} e h) n =
     let i = held h n in
     record {
       tokens = group d ts (i .tokens);
       cut = ap (group d ts) (i .cut);
-      counted = omega (arith, i .counted, length-append (copied role.bound ts) rs, copied-length role.bound ts);
       alone = inside e (i .alone);
     }
 held (ended u) n = absurd (false≢true (sym n))
@@ -135,8 +132,21 @@ before-arrow {depth} l (ended z) = (
 
 -- ## The value of a run
 
+pub alone-length : {depth : ℕ} {minus : Bool} {b : Trees} {rs : List ℕ} → Alone depth minus b rs → length rs ≡ size b
+alone-length (arrow e h) = omega (arith, alone-length h)
+alone-length (deeper e h) = omega (arith, alone-length h)
+alone-length (back e z h) = omega (arith, alone-length h)
+alone-length (token e h) = omega (arith, alone-length h)
+alone-length (inside {ts = ts} {rs = rs} e h) =
+    omega (arith, alone-length h, length-append (copied role.bound ts) rs, copied-length role.bound ts)
+alone-length (ended z) = refl
+
+pub run-taken : {ts us : Trees} {rs : List ℕ} → Run everything parameterStops role.bound 0 false ts us rs → (row : ℕ)
+    → r.run parameterStops role.bound row ts ≡ took (r.front ts (length rs)) rs us
+run-taken {ts} h row = ap (r.kept ts) (runFrom-complete parameterStops role.bound h row .equal)
+
 pub run-value : {ts us : Trees} {rs : List ℕ} (b : Trees) → Run everything parameterStops role.bound 0 false ts us rs
     → ts ≡ joined b us → length rs ≡ size b → (row : ℕ) → r.run parameterStops role.bound row ts ≡ took b rs us
-run-value {ts} {us} {rs} b h e n row =
-    ap (r.kept ts) (runFrom-complete parameterStops role.bound h row .equal)
+run-value {us = us} {rs = rs} b h e n row =
+    run-taken h row
     ∙ ap (λ (t : Trees). took t rs us) (ap (λ (x : Trees). r.front x (length rs)) e ∙ front-joined b us (length rs) n)
