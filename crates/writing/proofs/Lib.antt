@@ -6,3 +6,4 @@ pub mod Runs
 pub mod Read
 pub mod Written
 pub mod Reread
+pub mod ReadBack

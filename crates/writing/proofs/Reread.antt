@@ -44,7 +44,7 @@ abbrev pub anyConst : List Parameter → Bool
 anyConst [] = false
 anyConst (p ∷ ps) = typeConst p || anyConst ps
 
-or-parts : (a b : Bool) → (a || b) ≡ false → (a ≡ false) × (b ≡ false)
+pub or-parts : (a b : Bool) → (a || b) ≡ false → (a ≡ false) × (b ≡ false)
 or-parts true b e = absurd (false≢true (sym e))
 or-parts false b e = (refl, e)
 
