@@ -7,3 +7,4 @@ pub mod Read
 pub mod Written
 pub mod Reread
 pub mod ReadBack
+pub mod Declared
