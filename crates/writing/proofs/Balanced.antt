@@ -1,18 +1,19 @@
 -- Rows that nest are the rows of their streams; streams of right tokens are rows that nest.
 use mathlib.Core.Path.{_≡_, refl, ap, _∙_, sym, subst}
 use mathlib.Core.Bool.{Bool, true, false, cond, not, _&&_, _||_, false≢true}
-use mathlib.Core.List.{List, [], _∷_, _++_, append-assoc}
+use mathlib.Core.List.{List, [], _∷_, _++_, append-assoc, append-nil}
 use Prim.Native.Nat.{ℕ, zero, suc, _+_, _-_, _≤_, _<_, max}
 use native.Mathlib.Omega.{arith}
 use borrow.Author.Tests.{eq-eqb, eqb-true, eqb-false, ltb-true, lt-ltb}
 use lib.Dec.{eqb, leb, ltb}
 use lib.ListN.{length}
-use Rattle.token_list.specs.Layout.{OPEN, CLOSE, MAX-DEPTH, MAX-TEXT}
+use Rattle.token_list.specs.Layout.{OPEN, CLOSE, FIRST-ROW, MAX-DEPTH}
 use Rattle.token_list.specs.Text as text
 use Rattle.token_list.specs.Text.{single, closer}
 use Rattle.token_list.specs.Row.{Row, Form, wrong, opens, closed, formOf, first}
-use Rattle.token_list.specs.Check.{isRow, right, closedBy, enclosing, nested}
-use Rattle.token_list.specs.Stream.{Trees, end, leaf, group, Streams, head, others, before, streams}
+use Rattle.token_list.specs.Check.{check, passed, isRow, right, closedBy, enclosing, nested}
+use Rattle.token_list.specs.Stream.{Trees, end, leaf, group, Streams, head, others, before, streams, rowsAt, at}
+use Rattle.token_list.proofs.Passed.{passed-list}
 use Rattle.token_list.proofs.Texts.{chosen, passed-over, and-both, and-parts}
 use Rattle.token_list.proofs.Streams.{before-close, before-open, before-leaf}
 use Rattle.writing.specs.Rows.{opening, closing, runRows}
@@ -229,3 +230,16 @@ nests (group d ts us) ds rs e l h =
     let rows = append-assoc (runRows ts) (closing d ∷ runRows us) rs in
     and-both _ _ (opening-right d (p .0)) (and-both _ _ (lt-ltb (length ds) MAX-DEPTH (omega arith))
     (subst (λ (qs : List Row). nested (d ∷ ds) qs ≡ true) (sym rows) inside))
+
+-- ## A list that passes the check
+
+pub record ListStream (s : List ℕ) : Type 0 where
+  pub rows : rowsAt s FIRST-ROW ≡ runRows (at s FIRST-ROW .here)
+  pub right : sound (at s FIRST-ROW .here) ≡ true
+  pub deep : depth (at s FIRST-ROW .here) ≤ MAX-DEPTH
+
+pub list-stream : (s : List ℕ) {n : ℕ} → check s ≡ passed n → ListStream s
+unfolding at
+list-stream s {n} c =
+    let u = unwound (rowsAt s FIRST-ROW) [] (omega arith) (passed-list s n c .nested) in
+    record { rows = u .rows ∙ append-nil _; right = u .right; deep = omega (arith, u .deep) }

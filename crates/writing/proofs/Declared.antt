@@ -9,25 +9,28 @@ use borrow.Author.Tests.{eqb-true}
 use lib.Dec.{eqb}
 use lib.ListN.{length, length-append}
 use Rattle.token_list.specs.Byte.{QUOTE, COLON, SPACE, LF, LESS}
-use Rattle.token_list.specs.Layout.{IDENT, PUNCT}
+use Rattle.token_list.specs.Layout.{IDENT, PUNCT, FIRST-ROW}
 use Rattle.token_list.specs.Text as text
 use Rattle.token_list.specs.Text.{same}
 use Rattle.token_list.specs.Row.{Row, first, written}
-use Rattle.token_list.specs.Check.{right}
-use Rattle.token_list.specs.Stream.{Trees, end, leaf, group, size}
+use Rattle.token_list.specs.Check.{right, check, passed}
+use Rattle.token_list.specs.Stream.{Trees, end, leaf, group, size, at}
 use Rattle.token_list.proofs.Texts.{and-parts, and-last}
 use Rattle.reading.specs.Token.{isIdent, isPunct, isWord, isEnd, CONST}
-use Rattle.reading.specs.Declaration.{Parameter, lifetime, constant, type, Generics, angled}
+use Rattle.reading.specs.Declaration.{Parameter, lifetime, constant, type, Generics, angled, Declaration}
+use Rattle.reading.specs.Took.{took}
+use Rattle.reading.specs.Reading.{item}
+use Rattle.reading.proofs.SoundTokens.{Meets, met-by}
 use Rattle.writing.specs.Rows.{ident, punct, opening, closing, lifetimeRows, runRows}
 use Rattle.writing.specs.Generics.{constraints, bounds, parameterRows, parted}
 use Rattle.writing.specs.Depth.{depth}
 use Rattle.writing.specs.ReadBack.{runOf}
 use Rattle.writing.proofs.Joined.{joined, size-joined, rows-joined, token, written-append}
-use Rattle.writing.proofs.Balanced.{sound, sound-joined}
+use Rattle.writing.proofs.Balanced.{sound, sound-joined, list-stream}
 use Rattle.writing.proofs.Runs.{Alone}
 use Rattle.reading.specs.Grammar as g
 use Rattle.reading.proofs.CompleteTokens.{same-path}
-use Rattle.writing.proofs.Read.{RunAt, cut, run, MarkedAt, ParameterAt, CommaAt, ParametersAt, GenericsAt, Later, Within}
+use Rattle.writing.proofs.Read.{RunAt, cut, run, MarkedAt, ParameterAt, CommaAt, ParametersAt, GenericsAt, Later, Within, item-read}
 use Rattle.writing.proofs.Reread.{Whole, typeConst}
 
 -- ## Bytes and depths
@@ -47,8 +50,12 @@ weight-joined ts us = ap (λ (rs : List Row). length (written rs)) (rows-joined 
 
 weight-group : (d : ℕ) (ts us : Trees) → weight us ≤ weight (group d ts us)
 weight-group d ts us =
-    omega (arith, row-bytes (opening d) (runRows ts ++ closing d ∷ runRows us), rows-bytes (runRows ts) (closing d ∷ runRows us),
-    row-bytes (closing d) (runRows us))
+    omega (
+      arith,
+      row-bytes (opening d) (runRows ts ++ closing d ∷ runRows us),
+      rows-bytes (runRows ts) (closing d ∷ runRows us),
+      row-bytes (closing d) (runRows us),
+    )
 
 depth-joined : (ts us : Trees) → depth (joined ts us) ≡ max (depth ts) (depth us)
 depth-joined end us = omega arith
@@ -210,8 +217,14 @@ parameter-takes (ParameterAt.constant {q = q} {p = p} {us = us} {t = t} e f m) n
       rest = k .run .rest;
       deep = k .run .less;
       rows = omega (arith, k .run .rows);
-      bytes = omega (arith, word, k .const, row-bytes q (runRows (leaf p us)), row-bytes p (runRows us),
-          row-bytes (ident (p .text)) (constraints t));
+      bytes = omega (
+        arith,
+        word,
+        k .const,
+        row-bytes q (runRows (leaf p us)),
+        row-bytes p (runRows us),
+        row-bytes (ident (p .text)) (constraints t),
+      );
     }
 parameter-takes (ParameterAt.bounded {q = q} {c = c} {us = us} {b = b} e f i r) n h =
     let j = right-leaf q (leaf c us) h in
@@ -332,3 +345,12 @@ generic {ts} {ps} w h = go (w .stand) (later-part (w .past) h)
           rows = omega (arith, i .rows, p .rows);
           bytes = omega (arith, i .bytes, p .bytes, mark-bytes 59 q us e);
         }
+
+-- ## The law, of a list that was read
+
+pub declared-of : (s : List ℕ) {n : ℕ} {d : Declaration} {rs : List ℕ} {us : Trees} (ps : List Parameter) → check s ≡ passed n
+    → item 0 (at s FIRST-ROW .here) ≡ took d rs us → d .generics ≡ angled ps → Generic (at s FIRST-ROW .here) ps
+declared-of s ps c e g =
+    let ts = at s FIRST-ROW .here in
+    let w = met-by (subst (Meets (λ d rs us. Within ts (d .generics))) e (item-read 0 ts)) in
+    generic (subst (λ (x : Generics). Within ts x) g w) (list-stream s c .right)

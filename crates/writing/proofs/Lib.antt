@@ -6,5 +6,5 @@ pub mod Runs
 pub mod Read
 pub mod Written
 pub mod Reread
-pub mod ReadBack
 pub mod Declared
+pub mod ReadBack

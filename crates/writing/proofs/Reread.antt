@@ -77,9 +77,9 @@ module _ (us vs : Trees) (cs : List ℕ) (comma : (p : Parameter) (row : ℕ) �
   named-here ts f {b = b} {bs = bs} e = (
     _,
     ap (λ (t : Took Trees). onward (role.parameter-name ∷ []) (after (row + 1) (onward (role.parameter-name ∷ [])
-    (after (row + 1 + 1) t (λ b. pure (f b)))) r.comma)) e
-    ∙ ap (λ (t : Took (Maybe Parameter)). onward (role.parameter-name ∷ []) (onward (role.parameter-name ∷ bs ++ []) t))
-    (comma (f b) _),
+        (after (row + 1 + 1) t (λ b. pure (f b)))) r.comma)) e
+        ∙ ap (λ (t : Took (Maybe Parameter)). onward (role.parameter-name ∷ []) (onward (role.parameter-name ∷ bs ++ []) t))
+        (comma (f b) _),
   )
 
   -- after a type's name
@@ -88,8 +88,8 @@ module _ (us vs : Trees) (cs : List ℕ) (comma : (p : Parameter) (row : ℕ) �
   typed-here ts n {p = p} {rs = rs} c e = (
     role.parameter-name ∷ (rs ++ cs),
     passed-over (same n CONST) _ _ c
-    ∙ ap (λ (t : Took Parameter). onward (role.parameter-name ∷ []) (after (row + 1) t r.comma)) e
-    ∙ ap (λ (t : Took (Maybe Parameter)). onward (role.parameter-name ∷ []) (onward rs t)) (comma p _),
+        ∙ ap (λ (t : Took Parameter). onward (role.parameter-name ∷ []) (after (row + 1) t r.comma)) e
+        ∙ ap (λ (t : Took (Maybe Parameter)). onward (role.parameter-name ∷ []) (onward rs t)) (comma p _),
   )
 
   -- with `:` and a run that is read as x
@@ -199,7 +199,7 @@ module _ (angle : ℕ) where
     n,
     p,
     every-step (r.parameter angle) (parameter-round angle) row ts
-    ∙ ap (λ (t : Took (Maybe Parameter)). after row t (more (every (r.parameter angle)))) e,
+        ∙ ap (λ (t : Took (Maybe Parameter)). after row t (more (every (r.parameter angle)))) e,
   )
 
   -- a parameter is read, and then a refusal comes
