@@ -8,3 +8,4 @@ pub mod Written
 pub mod Reread
 pub mod Declared
 pub mod ReadBack
+pub mod Lengths

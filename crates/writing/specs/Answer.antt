@@ -74,9 +74,12 @@ output x (refused n p) = x
 abbrev pub MOST : ℕ
 MOST = MAX-BYTES + 8 * MAX-ROWS
 
--- with added names: each has its row's three bytes, a `,` and, as a lifetime, a `'`
+-- added names: each has its bytes, its row's other three, a `,` and, as a lifetime, a `'`
+abbrev pub addedBytes : List ℕ → List ℕ → ℕ
+addedBytes ls ts = (length ls + 11 * length (namesOf ls)) + (length ts + 7 * length (namesOf ts))
+
 abbrev pub mostWith : List ℕ → List ℕ → ℕ
-mostWith ls ts = MOST + (length ls + 11 * length (namesOf ls)) + (length ts + 7 * length (namesOf ts))
+mostWith ls ts = MOST + addedBytes ls ts
 
 -- a writer that never needs more than `most` bytes, of a list s and an output of n bytes
 pub record Fits (w : Writer) (most : ℕ) (s : List ℕ) (n : ℕ) : Type 0 where
