@@ -11,6 +11,7 @@ use Rattle.token_list.specs.declared.check.Cursor.{Cursor}
 use Rattle.output.specs.Contract.{further, Put}
 use Rattle.output.proofs.Texts.{joined}
 use Rattle.writing.specs.Rows.{listOf}
+use Rattle.writing.proofs.Joined.{written-append}
 use Rattle.generate.specs.Contract.{row, Appended, Extended, Built}
 use Rattle.generate.specs.declared.stream_builder.StreamBuilder.{StreamBuilder}
 
@@ -43,13 +44,6 @@ extended {k} {l} {a} {b} from to s h p rs text count =
     }
 
 -- ## Rows one after the other
-
--- the lines of rows one after the other
-pub written-append : (rs qs : List Row) → written (rs ++ qs) ≡ written rs ++ written qs
-written-append [] qs = refl
-written-append (r ∷ rs) qs =
-    ap (λ (t : List ℕ). r .kind ∷ SPACE ∷ r .text ++ LF ∷ t) (written-append rs qs)
-    ∙ ap (λ (t : List ℕ). r .kind ∷ SPACE ∷ t) (sym (append-assoc (r .text) (LF ∷ written rs) (written qs)))
 
 -- a row, by its four parts
 pub row-put : {k l m n o t : List ℕ} {a b c d e kind rows counted : ℕ} → Put k l a b (kind ∷ []) → Put l m b c (SPACE ∷ [])

@@ -13,7 +13,7 @@ use Rattle.token_list.specs.Text.{single, closer}
 use Rattle.token_list.specs.Row.{Row, Form, wrong, opens, closed, formOf, first}
 use Rattle.token_list.specs.Check.{check, passed, isRow, right, closedBy, enclosing, nested}
 use Rattle.token_list.specs.Stream.{Trees, end, leaf, group, Streams, head, others, before, streams, rowsAt, at}
-use Rattle.token_list.proofs.Passed.{passed-list}
+use Rattle.token_list.proofs.Passed.{open-form, close-form, passed-list}
 use Rattle.token_list.proofs.Texts.{chosen, passed-over, and-both, and-parts}
 use Rattle.token_list.proofs.Streams.{before-close, before-open, before-leaf}
 use Rattle.writing.specs.Rows.{opening, closing, runRows}
@@ -53,14 +53,6 @@ single-text : (p : ℕ → Bool) (t : List ℕ) → single p t ≡ true → (t �
 single-text p [] e = absurd (false≢true e)
 single-text p (b ∷ []) e = (refl, e)
 single-text p (b ∷ c ∷ t) e = absurd (false≢true e)
-
-open-form : (k : ℕ) (t : List ℕ) → eqb k OPEN ≡ true → formOf k t ≡ cond (single text.opening t) (opens (first t)) wrong
-unfolding formOf
-open-form k t e = rw (eqb-true k OPEN e)
-
-close-form : (k : ℕ) (t : List ℕ) → eqb k CLOSE ≡ true → formOf k t ≡ cond (single text.closing t) (closed (first t)) wrong
-unfolding formOf
-close-form k t e = rw (eqb-true k CLOSE e)
 
 row-of : (p : ℕ → Bool) (f : ℕ → Form) (t : List ℕ) → isRow (cond (single p t) (f (first t)) wrong) ≡ true
     → single p t ≡ true

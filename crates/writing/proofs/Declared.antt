@@ -57,7 +57,7 @@ weight-group d ts us =
       row-bytes (closing d) (runRows us),
     )
 
-depth-joined : (ts us : Trees) → depth (joined ts us) ≡ max (depth ts) (depth us)
+pub depth-joined : (ts us : Trees) → depth (joined ts us) ≡ max (depth ts) (depth us)
 depth-joined end us = omega arith
 depth-joined (leaf r ts) us = depth-joined ts us
 depth-joined (group d ts vs) us = omega (arith, depth-joined vs us)

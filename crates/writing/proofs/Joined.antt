@@ -80,7 +80,7 @@ front-joined (group d ts vs) us (suc n) e = ap (group d ts) (front-joined vs us 
 abbrev pub token : Row → Bool
 token r = not (eqb (r .kind) OPEN) && not (eqb (r .kind) CLOSE)
 
-not-true : (b : Bool) → not b ≡ true → b ≡ false
+pub not-true : (b : Bool) → not b ≡ true → b ≡ false
 not-true true e = sym e
 not-true false e = refl
 

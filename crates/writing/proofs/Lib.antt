@@ -9,3 +9,5 @@ pub mod Reread
 pub mod Declared
 pub mod ReadBack
 pub mod Lengths
+pub mod Passes
+pub mod Lists

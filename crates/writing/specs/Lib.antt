@@ -5,5 +5,6 @@ pub mod Generics
 pub mod Names
 pub mod Answer
 pub mod Depth
+pub mod IsList
 pub mod Examples
 pub mod ReadBack
