@@ -177,6 +177,11 @@ unwound [] [] l e = record { rows = refl; right = refl; deep = omega arith; arou
 unwound [] (d ∷ ds) l e = absurd (false≢true e)
 unwound (r ∷ rs) ds l e = unwound-row rs (unwound rs) ds r l e
 
+-- the first stream's rows stand first
+pub rows-here : (rs : List Row) (ds : List ℕ) → length ds ≤ MAX-DEPTH → nested ds rs ≡ true
+    → (qs : List Row) × (rs ≡ runRows (streams rs .here) ++ qs)
+rows-here rs ds l e = (closers ds (streams rs .outer), unwound rs ds l e .rows)
+
 -- ## Streams of right tokens, by their rows
 
 closer-closes : (d : ℕ) → text.opening d ≡ true → text.closing (closer d) ≡ true

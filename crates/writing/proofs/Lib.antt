@@ -11,3 +11,4 @@ pub mod ReadBack
 pub mod Lengths
 pub mod Passes
 pub mod Lists
+pub mod Copied

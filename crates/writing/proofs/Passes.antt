@@ -23,7 +23,7 @@ use Rattle.writing.proofs.Joined.{not-true}
 no-lf : (p : ℕ → Bool) (b : ℕ) → p LF ≡ false → p b ≡ true → eqb b LF ≡ false
 no-lf p b f e = ne-eqb b LF (λ q. false≢true (sym f ∙ sym (ap p q) ∙ e))
 
-abbrev clear : List ℕ → Bool
+abbrev pub clear : List ℕ → Bool
 clear [] = true
 clear (b ∷ bs) = not (eqb b LF) && clear bs
 
@@ -64,7 +64,7 @@ clear-literal [] e = refl
 clear-literal (b ∷ t) e = clear-all printable (b ∷ t) refl (and-parts (literalStart b) (all printable (b ∷ t)) e .1)
 
 -- kind and text of a row
-clear-row : (k : ℕ) (t : List ℕ) → isRow (formOf k t) ≡ true → clear (k ∷ SPACE ∷ t) ≡ true
+pub clear-row : (k : ℕ) (t : List ℕ) → isRow (formOf k t) ≡ true → clear (k ∷ SPACE ∷ t) ≡ true
 unfolding formOf
 clear-row k t = go (eqb k IDENT) (eqb k LITERAL) (eqb k PUNCT) (eqb k OPEN) (eqb k CLOSE) refl refl refl refl refl
   where
@@ -87,7 +87,7 @@ clear-row k t = go (eqb k IDENT) (eqb k LITERAL) (eqb k PUNCT) (eqb k OPEN) (eqb
     go false false false false true a b d e f h = of CLOSE f refl (clear-single closing t refl (row _ (closed (first t)) h))
     go false false false false false a b d e f h = absurd (false≢true h)
 
-lines-clear : (l rest : List ℕ) → clear l ≡ true → lines (l ++ LF ∷ rest) ≡ line l (lines rest)
+pub lines-clear : (l rest : List ℕ) → clear l ≡ true → lines (l ++ LF ∷ rest) ≡ line l (lines rest)
 lines-clear [] rest e = refl
 lines-clear (b ∷ l) rest e =
     let q = and-parts (not (eqb b LF)) (clear l) e in
