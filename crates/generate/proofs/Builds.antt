@@ -1,9 +1,9 @@
 -- Rows added one after the other.
-use mathlib.Core.Path.{_≡_, refl, ap, _∙_, sym, subst}
+use mathlib.Core.Path.{_≡_, ap, _∙_, sym, subst}
 use mathlib.Core.List.{List, [], _∷_, _++_, append-assoc}
-use Prim.Native.Nat.{ℕ, zero, suc, _+_, _-_}
+use Prim.Native.Nat.{ℕ, _+_, _-_}
 use native.Mathlib.Omega.{arith}
-use lib.ListN.{length, take, drop, length-append}
+use lib.ListN.{take, drop, length-append}
 use lib.Seq.{slice}
 use Rattle.token_list.specs.Byte.{SPACE, LF}
 use Rattle.token_list.specs.Row.{Row, written}
@@ -12,21 +12,11 @@ use Rattle.output.specs.Contract.{further, Put}
 use Rattle.output.proofs.Texts.{joined}
 use Rattle.writing.specs.Rows.{listOf}
 use Rattle.writing.proofs.Joined.{written-append}
+use Rattle.writing.proofs.Copied.{part-of}
 use Rattle.generate.specs.Contract.{row, Appended, Extended, Built}
 use Rattle.generate.specs.declared.stream_builder.StreamBuilder.{StreamBuilder}
 
 -- ## Parts of a list
-
-take-none : (n : ℕ) → _≡_ {A = List ℕ} (take n []) []
-take-none zero = refl
-take-none (suc n) = refl
-
-part-of : (f t : ℕ) (s : List ℕ) → take (t - f) (drop f s) ≡ slice f t s
-part-of zero t s = let n : t - 0 ≡ t = omega arith in ap (λ (n : ℕ). take n s) n
-part-of (suc f) zero s = let n : 0 - suc f ≡ 0 = omega arith in ap (λ (n : ℕ). take n (drop (suc f) s)) n
-part-of (suc f) (suc t) [] = take-none (suc t - suc f)
-part-of (suc f) (suc t) (b ∷ s) =
-    let n : suc t - suc f ≡ t - f = omega arith in ap (λ (n : ℕ). take n (drop f s)) n ∙ part-of f t s
 
 -- rows made of a part of a list
 pub of-part : {k l : List ℕ} {a b : StreamBuilder} (rows : List ℕ → List Row) (f t : ℕ) (s : List ℕ)
@@ -46,7 +36,8 @@ extended {k} {l} {a} {b} from to s h p rs text count =
 -- ## Rows one after the other
 
 -- a row, by its four parts
-pub row-put : {k l m n o t : List ℕ} {a b c d e kind rows counted : ℕ} → Put k l a b (kind ∷ []) → Put l m b c (SPACE ∷ [])
+pub row-put : {k l m n o t : List ℕ} {a b c d e kind rows counted : ℕ} → Put k l a b (kind ∷ [])
+    → Put l m b c (SPACE ∷ [])
     → Put m n c d t → Put n o d e (LF ∷ []) → counted ≡ further rows 1
     → Appended k o (record { rows = rows; bytes = a }) (record { rows = counted; bytes = e }) (row kind t ∷ [])
 row-put p q r s h = record { rows = h; put = joined p (joined q (joined r s)) }
@@ -56,7 +47,8 @@ pub then : {k l m : List ℕ} {a b c : StreamBuilder} {rs qs : List Row} → App
 then {k} {m = m} {a = a} {c = c} {rs = rs} {qs = qs} p q =
     record {
       rows = omega (arith, p .rows, q .rows, length-append rs qs);
-      put = subst (λ (t : List ℕ). Put k m (a .bytes) (c .bytes) t) (sym (written-append rs qs)) (joined (p .put) (q .put));
+      put = subst (λ (t : List ℕ). Put k m (a .bytes) (c .bytes) t) (sym (written-append rs qs))
+          (joined (p .put) (q .put));
     }
 
 -- a list that was begun, with rows added to it

@@ -2,10 +2,10 @@
 use mathlib.Core.Path.{_≡_, refl, ap, _∙_, sym, subst}
 use mathlib.Core.Bool.{Bool, true, false, cond, not, _&&_, _||_, false≢true}
 use mathlib.Core.List.{List, [], _∷_, _++_, append-assoc, append-nil}
-use Prim.Native.Nat.{ℕ, zero, suc, _+_, _-_, _≤_, _<_, max}
+use Prim.Native.Nat.{ℕ, _+_, _≤_, _<_}
 use native.Mathlib.Omega.{arith}
 use borrow.Author.Tests.{eq-eqb, eqb-true, eqb-false, ltb-true, lt-ltb}
-use lib.Dec.{eqb, leb, ltb}
+use lib.Dec.{eqb, ltb}
 use lib.ListN.{length}
 use Rattle.token_list.specs.Layout.{OPEN, CLOSE, FIRST-ROW, MAX-DEPTH}
 use Rattle.token_list.specs.Text as text
@@ -152,14 +152,19 @@ module _ (rs : List Row) (ih : (ds : List ℕ) → length ds ≤ MAX-DEPTH → n
         form : right r ≡ true
         form = and-parts (right r) _ e .0
 
-        kind : (o c : Bool) → eqb (r .kind) OPEN ≡ o → eqb (r .kind) CLOSE ≡ c → Unwound ds (r ∷ rs) (before r (streams rs))
+        kind : (o c : Bool) → eqb (r .kind) OPEN ≡ o → eqb (r .kind) CLOSE ≡ c
+            → Unwound ds (r ∷ rs) (before r (streams rs))
         kind true c a b =
             let d = first (r .text) in
             let p = and-parts (ltb (length ds) MAX-DEPTH) _ (sym (chosen _ _ _ a) ∙ and-parts (right r) _ e .1) in
             let free = ltb-true (length ds) MAX-DEPTH (p .0) in
             let u = ih (d ∷ ds) (omega (arith, free)) (p .1) in
             let q = opening-row r form a in
-            let st : Streams = record { here = group d (streams rs .here) (head (streams rs .outer)); outer = others (streams rs .outer) } in
+            let st : Streams = record {
+              here = group d (streams rs .here) (head (streams rs .outer));
+              outer = others
+                  (streams rs .outer);
+            } in
             subst (λ (x : Streams). Unwound ds (r ∷ rs) x) (sym (before-open r (streams rs) (eqb-true _ _ a)))
             (subst (λ (x : Row). Unwound ds (x ∷ rs) st) (sym (q .0))
             (unwound-open rs ds d (streams rs .here) (streams rs .outer) free (q .1) (u .around) u))
@@ -207,7 +212,8 @@ opening-right d e = right-mark OPEN d (ap (λ (b : Bool). isRow (cond b (opens d
 
 closing-right : (d : ℕ) → text.opening d ≡ true → right (closing d) ≡ true
 unfolding formOf
-closing-right d e = right-mark CLOSE (closer d) (ap (λ (b : Bool). isRow (cond b (closed (closer d)) wrong)) (closer-closes d e))
+closing-right d e = right-mark CLOSE (closer d)
+    (ap (λ (b : Bool). isRow (cond b (closed (closer d)) wrong)) (closer-closes d e))
 
 pub nests : (ts : Trees) (ds : List ℕ) (rs : List Row) → sound ts ≡ true → length ds + depth ts ≤ MAX-DEPTH
     → nested ds rs ≡ true → nested ds (runRows ts ++ rs) ≡ true

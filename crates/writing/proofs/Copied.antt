@@ -1,18 +1,18 @@
 -- A run of a list, copied as one part of it.
-use mathlib.Core.Path.{_≡_, refl, ap, _∙_, sym, subst}
-use mathlib.Core.Bool.{Bool, true, false, cond, _&&_}
+use mathlib.Core.Path.{_≡_, refl, ap, _∙_, sym}
+use mathlib.Core.Bool.{Bool, true, false}
 use mathlib.Core.List.{List, [], _∷_, _++_, append-assoc}
-use Prim.Native.Nat.{ℕ, zero, suc, _+_, _-_, _≤_, _<_}
+use Prim.Native.Nat.{ℕ, zero, suc, _+_, _-_, _≤_}
 use native.Mathlib.Omega.{arith}
 use borrow.Author.Tests.{ltb-true}
 use lib.Dec.{eqb, ltb}
 use lib.ListN.{length, take, drop, length-append, length-drop}
-use lib.Seq.{slice, drop-nil, drop-drop, drop-at, take-at}
+use lib.Seq.{slice, drop-drop, drop-at, take-at}
 use Rattle.token_list.specs.Byte.{SPACE}
 use Rattle.token_list.specs.Layout.{OPEN, CLOSE, FIRST-ROW, MAX-DEPTH}
 use Rattle.token_list.specs.Row.{Row, Lines, tail, line, lines, rows, written, bytesBefore, formOf, first}
 use Rattle.token_list.specs.Check.{check, passed, isRow, right, allRight, closedBy, enclosing, nested}
-use Rattle.token_list.specs.Stream.{Trees, Streams, streams, size, rowsAt, at, rowStart}
+use Rattle.token_list.specs.Stream.{Trees, streams, size, rowsAt, at, rowStart}
 use Rattle.token_list.specs.Contract.{InList}
 use Rattle.token_list.specs.declared.check.Cursor.{Cursor}
 use Rattle.token_list.proofs.Texts.{chosen, passed-over, and-parts}
@@ -59,7 +59,8 @@ lines-drop zero rs = refl
 lines-drop (suc n) [] = refl
 lines-drop (suc n) (r ∷ rs) = lines-drop n rs
 
-rows-from : (s : List ℕ) {n : ℕ} → check s ≡ passed n → (row : ℕ) → rowsAt s (rowStart s row) ≡ drop row (rowsAt s FIRST-ROW)
+rows-from : (s : List ℕ) {n : ℕ} → check s ≡ passed n → (row : ℕ)
+    → rowsAt s (rowStart s row) ≡ drop row (rowsAt s FIRST-ROW)
 unfolding rowStart
 rows-from s {n} c row =
     let rs = rowsAt s FIRST-ROW in
@@ -87,7 +88,8 @@ nests-next r rs n = kind (eqb (r .kind) OPEN) (eqb (r .kind) CLOSE) refl refl
   where
     kind : (o c : Bool) → eqb (r .kind) OPEN ≡ o → eqb (r .kind) CLOSE ≡ c → Nests rs
     kind true c a b =
-        let p = and-parts (ltb (length (n .groups)) MAX-DEPTH) _ (sym (chosen _ _ _ a) ∙ and-parts (right r) _ (n .nests) .1) in
+        let p = and-parts (ltb (length (n .groups)) MAX-DEPTH) _
+        (sym (chosen _ _ _ a) ∙ and-parts (right r) _ (n .nests) .1) in
         record {
           groups = first (r .text) ∷ n .groups;
           few = omega (arith, ltb-true (length (n .groups)) MAX-DEPTH (p .0));

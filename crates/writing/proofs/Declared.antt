@@ -1,36 +1,34 @@
 -- What holds of the parameters of a declaration that was read from a stream of right tokens: their runs and names, how
 -- deep they stand, and the bytes that they take.
 use mathlib.Core.Path.{_≡_, refl, ap, _∙_, sym, subst}
-use mathlib.Core.Bool.{Bool, true, false, cond, _&&_, _||_, false≢true}
-use mathlib.Core.List.{List, [], _∷_, _++_, append-assoc}
+use mathlib.Core.Bool.{true, false, _&&_}
+use mathlib.Core.List.{List, [], _∷_, _++_}
 use Prim.Native.Nat.{ℕ, suc, _+_, _*_, _≤_, _<_, max}
 use native.Mathlib.Omega.{arith}
 use borrow.Author.Tests.{eqb-true}
 use lib.Dec.{eqb}
 use lib.ListN.{length, length-append}
-use Rattle.token_list.specs.Byte.{QUOTE, COLON, SPACE, LF, LESS}
+use Rattle.token_list.specs.Byte.{LF}
 use Rattle.token_list.specs.Layout.{IDENT, PUNCT, FIRST-ROW}
 use Rattle.token_list.specs.Text as text
-use Rattle.token_list.specs.Text.{same}
 use Rattle.token_list.specs.Row.{Row, first, written}
 use Rattle.token_list.specs.Check.{right, check, passed}
 use Rattle.token_list.specs.Stream.{Trees, end, leaf, group, size, at}
 use Rattle.token_list.proofs.Texts.{and-parts, and-last}
-use Rattle.reading.specs.Token.{isIdent, isPunct, isWord, isEnd, CONST}
+use Rattle.reading.specs.Token.{isIdent, isPunct, isEnd, CONST}
 use Rattle.reading.specs.Declaration.{Parameter, lifetime, constant, type, Generics, angled, Declaration}
 use Rattle.reading.specs.Took.{took}
 use Rattle.reading.specs.Reading.{item}
 use Rattle.reading.proofs.SoundTokens.{Meets, met-by}
-use Rattle.writing.specs.Rows.{ident, punct, opening, closing, lifetimeRows, runRows}
-use Rattle.writing.specs.Generics.{constraints, bounds, parameterRows, parted}
+use Rattle.writing.specs.Rows.{ident, opening, closing, runRows}
+use Rattle.writing.specs.Generics.{constraints, bounds, parameterRows}
 use Rattle.writing.specs.Depth.{depth}
 use Rattle.writing.specs.ReadBack.{runOf}
 use Rattle.writing.proofs.Joined.{joined, size-joined, rows-joined, token, written-append}
 use Rattle.writing.proofs.Balanced.{sound, sound-joined, list-stream}
-use Rattle.writing.proofs.Runs.{Alone}
 use Rattle.reading.specs.Grammar as g
 use Rattle.reading.proofs.CompleteTokens.{same-path}
-use Rattle.writing.proofs.Read.{RunAt, cut, run, MarkedAt, ParameterAt, CommaAt, ParametersAt, GenericsAt, Later, Within, item-read}
+use Rattle.writing.proofs.Read.{RunAt, MarkedAt, ParameterAt, CommaAt, ParametersAt, GenericsAt, Later, Within, item-read}
 use Rattle.writing.proofs.Reread.{Whole, typeConst}
 
 -- ## Bytes and depths
@@ -46,7 +44,8 @@ pub rows-bytes : (rs qs : List Row) → length (written (rs ++ qs)) ≡ length (
 rows-bytes rs qs = ap length (written-append rs qs) ∙ length-append (written rs) (written qs)
 
 weight-joined : (ts us : Trees) → weight (joined ts us) ≡ weight ts + weight us
-weight-joined ts us = ap (λ (rs : List Row). length (written rs)) (rows-joined ts us) ∙ rows-bytes (runRows ts) (runRows us)
+weight-joined ts us = ap (λ (rs : List Row). length (written rs)) (rows-joined ts us)
+    ∙ rows-bytes (runRows ts) (runRows us)
 
 weight-group : (d : ℕ) (ts us : Trees) → weight us ≤ weight (group d ts us)
 weight-group d ts us =
@@ -125,18 +124,17 @@ record Run (ts b us : Trees) : Type 0 where
   bytes : weight b + weight us ≤ weight ts
 
 run-of : {ts b us : Trees} → RunAt ts b us → isEnd us ≡ false → sound ts ≡ true → Run ts b us
-run-of (cut e) n h = absurd (false≢true (sym n ∙ e))
-run-of {ts} {b} {us} (run {rs = rs} e a) n h =
-    let p = sound-joined b us (sym (ap sound e) ∙ h) in
-    let d = ap depth e ∙ depth-joined b us in
+run-of {ts} {b} {us} r n h =
+    let p = sound-joined b us (sym (ap sound (r .cut)) ∙ h) in
+    let d = ap depth (r .cut) ∙ depth-joined b us in
     record {
-      whole = record { roles = rs; alone = a };
+      whole = record { roles = r .roles; alone = r .alone n };
       right = p .0;
       rest = p .1;
       deep = omega (arith, d);
       less = omega (arith, d);
-      rows = omega (arith, ap size e, size-joined b us);
-      bytes = omega (arith, ap weight e, weight-joined b us);
+      rows = omega (arith, ap size (r .cut), size-joined b us);
+      bytes = omega (arith, ap weight (r .cut), weight-joined b us);
     }
 
 no-run : (us : Trees) → sound us ≡ true → Run us end us
@@ -183,7 +181,8 @@ marked-of : (m : ℕ) {ts b us : Trees} → MarkedAt (suc m) ts b us → isEnd u
 marked-of m {ts = ts} MarkedAt.none n h = record { run = no-run ts h; bounds = omega arith; const = omega arith }
 marked-of m (MarkedAt.some {c = c} {us = us} e r) n h = past-mark m c e (run-of r n (right-leaf c us h .1))
 
-parameter-takes : {ts us : Trees} {p : Parameter} → ParameterAt ts p us → isEnd us ≡ false → sound ts ≡ true → Takes ts p us
+parameter-takes : {ts us : Trees} {p : Parameter} → ParameterAt ts p us → isEnd us ≡ false → sound ts ≡ true
+    → Takes ts p us
 parameter-takes (ParameterAt.lifetime {q = q} {p = p} {us = us} {b = b} e f m) n h =
     let i = right-leaf q (leaf p us) h in
     let j = right-leaf p us (i .1) in
@@ -199,7 +198,14 @@ parameter-takes (ParameterAt.lifetime {q = q} {p = p} {us = us} {b = b} e f m) n
       rest = k .run .rest;
       deep = k .run .less;
       rows = omega (arith, k .run .rows);
-      bytes = omega (arith, k .bounds, mark-bytes 38 q (leaf p us) e, row-bytes p (runRows us), row-bytes (ident (p .text)) (bounds b));
+      bytes = omega (
+        arith,
+        k .bounds,
+        mark-bytes 38 q (leaf p us) e,
+        row-bytes p (runRows us),
+        row-bytes (ident (p .text))
+            (bounds b),
+      );
     }
 parameter-takes (ParameterAt.constant {q = q} {p = p} {us = us} {t = t} e f m) n h =
     let i = right-leaf q (leaf p us) h in
@@ -348,7 +354,8 @@ generic {ts} {ps} w h = go (w .stand) (later-part (w .past) h)
 
 -- ## The law, of a list that was read
 
-pub declared-of : (s : List ℕ) {n : ℕ} {d : Declaration} {rs : List ℕ} {us : Trees} (ps : List Parameter) → check s ≡ passed n
+pub declared-of : (s : List ℕ) {n : ℕ} {d : Declaration} {rs : List ℕ} {us : Trees} (ps : List Parameter)
+    → check s ≡ passed n
     → item 0 (at s FIRST-ROW .here) ≡ took d rs us → d .generics ≡ angled ps → Generic (at s FIRST-ROW .here) ps
 declared-of s ps c e g =
     let ts = at s FIRST-ROW .here in

@@ -98,7 +98,8 @@ tokens (group d ts us) = tokens ts && tokens us
 abbrev pub prepended : Trees → Streams → Streams
 prepended ts st = record { here = joined ts (st .here); outer = st .outer }
 
-pub streams-rows : (ts : Trees) (rs : List Row) → tokens ts ≡ true → streams (runRows ts ++ rs) ≡ prepended ts (streams rs)
+pub streams-rows : (ts : Trees) (rs : List Row) → tokens ts ≡ true
+    → streams (runRows ts ++ rs) ≡ prepended ts (streams rs)
 streams-rows end rs e = refl
 streams-rows (leaf r us) rs e =
     let p = and-parts (token r) (tokens us) e in
@@ -109,9 +110,11 @@ streams-rows (group d ts us) rs e =
     let p = and-parts (tokens ts) (tokens us) e in
     let rest : List Row = runRows us ++ rs in
     let inner : List Row = closing d ∷ rest in
-    let closed = ap (before (closing d)) (streams-rows us rs (p .1)) ∙ before-close (closing d) (prepended us (streams rs)) refl in
+    let closed = ap (before (closing d)) (streams-rows us rs (p .1))
+    ∙ before-close (closing d) (prepended us (streams rs)) refl in
     let whole : streams (runRows ts ++ inner) ≡ _ = streams-rows ts inner (p .0) ∙ ap (prepended ts) closed in
     ap (λ (qs : List Row). streams (opening d ∷ qs)) (append-assoc (runRows ts) (closing d ∷ runRows us) rs)
     ∙ ap (before (opening d)) whole
     ∙ before-open (opening d) _ refl
-    ∙ ap (λ (t : Trees). record { here = group d t (joined us (streams rs .here)); outer = streams rs .outer }) (joined-end ts)
+    ∙ ap (λ (t : Trees). record { here = group d t (joined us (streams rs .here)); outer = streams rs .outer })
+    (joined-end ts)

@@ -1,17 +1,17 @@
 -- How long an output each writer can need.
-use mathlib.Core.Path.{_≡_, refl, ap, _∙_, sym, subst}
-use mathlib.Core.Bool.{Bool, true, false, cond, _&&_}
+use mathlib.Core.Path.{_≡_, refl, ap}
+use mathlib.Core.Bool.{Bool, true, false, cond}
 use mathlib.Core.List.{List, [], _∷_, _++_, map}
-use Prim.Native.Nat.{ℕ, suc, _+_, _*_, _≤_, _<_}
+use Prim.Native.Nat.{ℕ, suc, _+_, _*_, _≤_}
 use native.Mathlib.Omega.{arith}
 use borrow.Author.Tests.{le-ltb}
-use lib.Dec.{eqb, ltb}
-use lib.ListN.{length, take, drop, length-append, length-take, length-drop}
-use Rattle.token_list.specs.Byte.{COMMA, GREATER, LF}
-use Rattle.token_list.specs.Layout.{FIRST-ROW, MAX-BYTES, MAX-ROWS}
-use Rattle.token_list.specs.Row.{Row, written, Lines, tail, line, lines, front, byte}
+use lib.Dec.{eqb}
+use lib.ListN.{length, length-take, length-drop}
+use Rattle.token_list.specs.Byte.{GREATER, LF}
+use Rattle.token_list.specs.Layout.{FIRST-ROW}
+use Rattle.token_list.specs.Row.{Row, written, Lines, tail, line, lines, byte}
 use Rattle.token_list.specs.Check as list
-use Rattle.token_list.specs.Stream.{Trees, end, leaf, group, size, at}
+use Rattle.token_list.specs.Stream.{Trees, size, at}
 use Rattle.token_list.proofs.Texts.{passed-over}
 use Rattle.token_list.proofs.Passed.{passed-list}
 use Rattle.token_list.proofs.Bounds.{bounds}
@@ -19,13 +19,13 @@ use Rattle.reading.specs.Declaration.{Parameter, lifetime, constant, type, Gene
 use Rattle.reading.specs.Took.{Took, took, stopped}
 use Rattle.reading.specs.Reading.{item}
 use Rattle.reading.proofs.Frame.{framed-cases}
-use Rattle.writing.specs.Rows.{ident, punct, runRows, listOf}
+use Rattle.writing.specs.Rows.{ident, punct, listOf}
 use Rattle.writing.specs.Generics as generics
 use Rattle.writing.specs.Generics.{parameterRows, parted, angledRows, genericsRows, named, names, addedLifetime, addedType, additional}
 use Rattle.writing.specs.Names.{lineNames, namesOf}
 use Rattle.writing.specs.Answer.{Answer, wrote, refused, Writer, implGenerics, typeGenerics, withAdditional, text, itemAnswer, whole, fitted, answer, MOST, addedBytes, mostWith, Fits}
 use Rattle.writing.proofs.Balanced.{list-stream}
-use Rattle.writing.proofs.Declared.{weight, row-bytes, rows-bytes, cost, total, declared-of}
+use Rattle.writing.proofs.Declared.{row-bytes, rows-bytes, cost, total, declared-of}
 
 -- ## Bytes of parameters
 
@@ -42,7 +42,8 @@ total-append [] qs = omega arith
 total-append (p ∷ ps) qs = omega (arith, total-append ps qs)
 
 -- the declared parameters of a list
-declared-total : (s : List ℕ) {n : ℕ} {d : Declaration} {rs : List ℕ} {us : Trees} (ps : List Parameter) → list.check s ≡ list.passed n
+declared-total : (s : List ℕ) {n : ℕ} {d : Declaration} {rs : List ℕ} {us : Trees} (ps : List Parameter)
+    → list.check s ≡ list.passed n
     → item 0 (at s FIRST-ROW .here) ≡ took d rs us → d .generics ≡ angled ps → 18 + total ps ≤ MOST
 declared-total s {n} ps c e g =
     let d = declared-of s ps c e g in
@@ -74,7 +75,8 @@ unfolding textBytes
 names-bytes [] = omega arith
 names-bytes (b ∷ bs) = go (eqb b LF) (lines bs) (names-bytes bs)
   where
-    go : (lf : Bool) (ls : Lines) → textBytes (lineNames ls) ≤ length bs → textBytes (lineNames (byte lf b ls)) ≤ suc (length bs)
+    go : (lf : Bool) (ls : Lines) → textBytes (lineNames ls) ≤ length bs
+        → textBytes (lineNames (byte lf b ls)) ≤ suc (length bs)
     go true ls h = omega arith
     go false (tail []) h = omega arith
     go false (tail (x ∷ xs)) h = omega arith
@@ -105,7 +107,8 @@ never : {A : Type 0} {n p : ℕ} {t : List ℕ} → refused n p ≡ wrote t → 
 never e = let z : _≡_ {A = ℕ} 0 1 = cc in absurd (omega arith)
 
 -- a writer that adds at most `more` to what the declared parameters take
-module _ (w : Writer) (more : ℕ) (adds : (ps : List Parameter) → total (w .parameters ps) ≤ total ps + more) (s : List ℕ) where
+module _ (w : Writer) (more : ℕ) (adds : (ps : List Parameter) → total (w .parameters ps) ≤ total ps + more)
+    (s : List ℕ) where
   abbrev Short : Answer → Type 0
   Short a = (t : List ℕ) → a ≡ wrote t → length t ≤ MOST + more
 

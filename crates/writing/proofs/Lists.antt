@@ -2,12 +2,10 @@
 use mathlib.Core.Path.{_≡_, refl, ap, _∙_, sym, subst}
 use mathlib.Core.Bool.{Bool, true, false, cond, _&&_, _||_}
 use mathlib.Core.List.{List, [], _∷_, _++_, map, append-nil, append-assoc}
-use Prim.Native.Nat.{ℕ, _+_, _≤_, max}
+use Prim.Native.Nat.{ℕ, _+_, _≤_}
 use native.Mathlib.Omega.{arith}
-use lib.Dec.{leb}
-use lib.ListN.{length}
 use Rattle.token_list.specs.Byte.{QUOTE, COMMA, COLON, LESS, GREATER}
-use Rattle.token_list.specs.Layout.{FIRST-ROW, MAX-DEPTH, MAX-TEXT}
+use Rattle.token_list.specs.Layout.{FIRST-ROW}
 use Rattle.token_list.specs.Text as text
 use Rattle.token_list.specs.Text.{plainName, rawName, punctuation}
 use Rattle.token_list.specs.Row.{Row, plain, wrong, formOf}
@@ -19,16 +17,16 @@ use Rattle.reading.specs.Declaration.{Parameter, lifetime, constant, type, Gene
 use Rattle.reading.specs.Took.{took}
 use Rattle.reading.specs.Reading.{item}
 use Rattle.writing.specs.Rows.{ident, punct, runRows}
-use Rattle.writing.specs.Generics.{bounds, parameterRows, parted, angledRows, genericsRows, named, names, addedLifetime, addedType, additional}
+use Rattle.writing.specs.Generics.{bounds, parameterRows, parted, angledRows, genericsRows, named, names, addedLifetime, addedType}
 use Rattle.writing.specs.Names.{namesOf, rightName, rightNames}
-use Rattle.writing.specs.Answer.{Writer, implGenerics, typeGenerics, withAdditional}
+use Rattle.writing.specs.Answer.{implGenerics, typeGenerics, withAdditional}
 use Rattle.writing.specs.Depth.{depth}
 use Rattle.writing.specs.IsList.{IsList}
 use Rattle.writing.specs.ReadBack.{runOf}
 use Rattle.writing.proofs.Joined.{joined, rows-joined, token}
 use Rattle.writing.proofs.Balanced.{sound, sound-tokens, nests, list-stream}
 use Rattle.writing.proofs.Written.{boundsThen, parameterThen, partedThen, angledThen, allTokens, streams-angled}
-use Rattle.writing.proofs.Declared.{nameOf, Declared, AllDeclared, depth-joined, declared-of}
+use Rattle.writing.proofs.Declared.{nameOf, AllDeclared, depth-joined, declared-of}
 use Rattle.writing.proofs.Passes.{nested-passes}
 
 -- ## The rows of the streams that are written
@@ -43,7 +41,8 @@ parameter-rows (lifetime n b) us = ap (λ (rs : List Row). punct QUOTE ∷ ident
 parameter-rows (constant n t) us = ap (λ (rs : List Row). ident CONST ∷ ident n ∷ punct COLON ∷ rs) (rows-joined t us)
 parameter-rows (type n b d) us = ap (λ (rs : List Row). ident n ∷ rs) (bounds-rows b us)
 
-parted-rows : (first : Bool) (ps : List Parameter) (us : Trees) → runRows (partedThen first ps us) ≡ parted first ps ++ runRows us
+parted-rows : (first : Bool) (ps : List Parameter) (us : Trees)
+    → runRows (partedThen first ps us) ≡ parted first ps ++ runRows us
 parted-rows first [] us = refl
 parted-rows true (p ∷ ps) us =
     parameter-rows p (partedThen false ps us)
@@ -92,7 +91,8 @@ sound-join (group d ts vs) us e h =
 
 module _ {m : ℕ} where
   good-run : (b us : Trees) → sound b ≡ true → depth b ≤ m → Good m us → Good m (joined b us)
-  good-run b us e l g = record { right = sound-join b us e (g .right); deep = omega (arith, depth-joined b us, g .deep) }
+  good-run b us e l g = record
+      { right = sound-join b us e (g .right); deep = omega (arith, depth-joined b us, g .deep) }
 
   good-bounds : (b us : Trees) → sound b ≡ true → depth b ≤ m → Good m us → Good m (boundsThen b us)
   good-bounds end us e l g = g
@@ -101,12 +101,14 @@ module _ {m : ℕ} where
 
   good-parameter : (p : Parameter) (us : Trees) → Fine m p → Good m us → Good m (parameterThen p us)
   unfolding formOf
-  good-parameter (lifetime n b) us f g = good-mark QUOTE refl (good-name n (f .name) (good-bounds b us (f .run) (f .deep) g))
+  good-parameter (lifetime n b) us f g = good-mark QUOTE refl
+      (good-name n (f .name) (good-bounds b us (f .run) (f .deep) g))
   good-parameter (constant n t) us f g =
       good-name CONST refl (good-name n (f .name) (good-mark COLON refl (good-run t us (f .run) (f .deep) g)))
   good-parameter (type n b d) us f g = good-name n (f .name) (good-bounds b us (f .run) (f .deep) g)
 
-  good-parted : (first : Bool) {ps : List Parameter} (us : Trees) → AllFine m ps → Good m us → Good m (partedThen first ps us)
+  good-parted : (first : Bool) {ps : List Parameter} (us : Trees) → AllFine m ps → Good m us
+      → Good m (partedThen first ps us)
   good-parted first us none g = g
   good-parted true us (also {p = p} {ps = ps} f fs) g =
       good-parameter p (partedThen false ps us) f (good-parted false us fs g)
@@ -119,24 +121,32 @@ module _ {m : ℕ} where
 
 -- ## The rows between angles
 
-angled-list : (s : List ℕ) {n : ℕ} {ps : List Parameter} → check s ≡ passed n → AllFine (depth (at s FIRST-ROW .here)) ps
+angled-list : (s : List ℕ) {n : ℕ} {ps : List Parameter} → check s ≡ passed n
+    → AllFine (depth (at s FIRST-ROW .here)) ps
     → IsList s (angledRows ps)
 angled-list s {ps = ps} c f =
     let last : Trees = leaf (punct GREATER) end in
-    let g = good-mark LESS refl (good-parted true last f (good-mark GREATER refl (record { right = refl; deep = omega arith }))) in
+    let g = good-mark LESS refl (good-parted true last f
+    (good-mark GREATER refl (record { right = refl; deep = omega arith }))) in
     let rows : runRows (angledThen ps end) ≡ angledRows ps =
     ap (λ (rs : List Row). punct LESS ∷ rs) (parted-rows true ps last) in
     let stream = sym (ap (λ (rs : List Row). streams rs .here) (append-nil (angledRows ps)))
     ∙ ap (λ (st : Streams). st .here) (streams-angled ps [] (fine-tokens f)) in
     let nest = nests (angledThen ps end) [] [] (g .right) (omega (arith, g .deep, list-stream s c .deep)) refl in
     let good = subst (λ (rs : List Row). nested [] rs ≡ true) (append-nil _ ∙ rows) nest in
-    record { nested = good; deep = omega (arith, ap depth stream, g .deep); passes = nested-passes (angledRows ps) good }
+    record {
+      nested = good;
+      deep = omega (arith, ap depth stream, g .deep);
+      passes = nested-passes
+          (angledRows ps) good;
+    }
 
 -- ## The three writers
 
 declared-fine : {ts : Trees} {ps : List Parameter} → AllDeclared ts ps → AllFine (depth ts) ps
 declared-fine AllDeclared.none = none
-declared-fine (AllDeclared.also d ds) = also (record { name = d .name; run = d .run; deep = d .deep }) (declared-fine ds)
+declared-fine (AllDeclared.also d ds) =
+    also (record { name = d .name; run = d .run; deep = d .deep }) (declared-fine ds)
 
 right-name : (t : List ℕ) → rightName t ≡ true → right (ident t) ≡ true
 unfolding formOf
@@ -159,13 +169,15 @@ module _ {m : ℕ} where
   lifetimes-fine [] e f = f
   lifetimes-fine (l ∷ ls) e f =
       let p = and-parts (rightName l) (rightNames ls) e in
-      also {p = addedLifetime l} (record { name = right-name l (p .0); run = refl; deep = omega arith }) (lifetimes-fine ls (p .1) f)
+      also {p = addedLifetime l} (record { name = right-name l (p .0); run = refl; deep = omega arith })
+      (lifetimes-fine ls (p .1) f)
 
   types-fine : (ts : List (List ℕ)) → rightNames ts ≡ true → AllFine m (map addedType ts)
   types-fine [] e = none
   types-fine (t ∷ ts) e =
       let p = and-parts (rightName t) (rightNames ts) e in
-      also {p = addedType t} (record { name = right-name t (p .0); run = refl; deep = omega arith }) (types-fine ts (p .1))
+      also {p = addedType t} (record { name = right-name t (p .0); run = refl; deep = omega arith })
+      (types-fine ts (p .1))
 
   append-fine : {ps qs : List Parameter} → AllFine m ps → AllFine m qs → AllFine m (ps ++ qs)
   append-fine none g = g

@@ -1,17 +1,17 @@
 -- Rows that nest pass the list check, within the limits of bytes and rows.
-use mathlib.Core.Path.{_≡_, refl, ap, _∙_, sym, subst}
+use mathlib.Core.Path.{_≡_, refl, ap, _∙_, sym}
 use mathlib.Core.Bool.{Bool, true, false, cond, not, _&&_, _||_, false≢true}
 use mathlib.Core.List.{List, [], _∷_, _++_}
 use Prim.Native.Nat.{ℕ, suc, _+_, _≤_, _<_}
 use native.Mathlib.Omega.{arith}
-use borrow.Author.Tests.{eqb-true, eqb-false, ne-eqb, ltb-true, lt-leb, le-ltb}
-use lib.Dec.{eqb, leb, ltb}
+use borrow.Author.Tests.{eqb-true, ne-eqb, ltb-true, lt-leb, le-ltb}
+use lib.Dec.{eqb, ltb}
 use lib.ListN.{length}
-use Rattle.token_list.specs.Byte.{SPACE, LF, HASH, UNDERSCORE}
-use Rattle.token_list.specs.Layout.{IDENT, LITERAL, PUNCT, OPEN, CLOSE, MAX-BYTES, MAX-ROWS, MAX-TEXT, MAX-DEPTH}
+use Rattle.token_list.specs.Byte.{SPACE, LF, HASH}
+use Rattle.token_list.specs.Layout.{IDENT, LITERAL, PUNCT, OPEN, CLOSE, MAX-BYTES, MAX-ROWS, MAX-DEPTH}
 use Rattle.token_list.specs.Text.{all, name, plainName, nameStart, namePart, rawName, literal, literalStart, printable, single, punctuation, opening, closing, closer}
-use Rattle.token_list.specs.Row.{Row, Lines, tail, line, lines, byte, written, Form, plain, opens, closed, wrong, form, formOf, first}
-use Rattle.token_list.specs.Check.{Answer, passed, refused, Open, step, walk, check, isRow, right, closedBy, enclosing, nested}
+use Rattle.token_list.specs.Row.{Row, line, lines, byte, written, Form, plain, opens, closed, wrong, formOf, first}
+use Rattle.token_list.specs.Check.{Answer, passed, Open, step, walk, check, isRow, right, closedBy, enclosing, nested}
 use Rattle.token_list.proofs.Texts.{chosen, passed-over, and-both, and-parts}
 use Rattle.token_list.proofs.Passed.{open-form, close-form, plain-form}
 use Rattle.writing.specs.Rows.{listOf}
@@ -50,7 +50,8 @@ clear-raw (r ∷ h ∷ t) e =
     let q = and-parts (eqb r 114 && eqb h HASH) _ e in
     let m = and-parts (eqb r 114) (eqb h HASH) (q .0) in
     and-both _ _ (ap not (no-lf (λ b. eqb b 114) r refl (m .0)))
-    (and-both _ _ (ap not (no-lf (λ b. eqb b HASH) h refl (m .1))) (clear-plain t (and-parts (plainName t) _ (q .1) .0)))
+    (and-both _ _ (ap not (no-lf (λ b. eqb b HASH) h refl (m .1)))
+    (clear-plain t (and-parts (plainName t) _ (q .1) .0)))
 
 clear-name : (t : List ℕ) → name t ≡ true → clear t ≡ true
 clear-name t e = go (plainName t) refl e
@@ -84,7 +85,8 @@ clear-row k t = go (eqb k IDENT) (eqb k LITERAL) (eqb k PUNCT) (eqb k OPEN) (eqb
     go false true p o c a b d e f h = of LITERAL b refl (clear-literal t (row _ _ h))
     go false false true o c a b d e f h = of PUNCT d refl (clear-single punctuation t refl (row _ _ h))
     go false false false true c a b d e f h = of OPEN e refl (clear-single opening t refl (row _ (opens (first t)) h))
-    go false false false false true a b d e f h = of CLOSE f refl (clear-single closing t refl (row _ (closed (first t)) h))
+    go false false false false true a b d e f h = of CLOSE f refl
+        (clear-single closing t refl (row _ (closed (first t)) h))
     go false false false false false a b d e f h = absurd (false≢true h)
 
 pub lines-clear : (l rest : List ℕ) → clear l ≡ true → lines (l ++ LF ∷ rest) ≡ line l (lines rest)
@@ -122,12 +124,14 @@ module _ (k : ℕ) (t : List ℕ) (row : isRow (formOf k t) ≡ true) where
   plain-row o c = let p = plain-form k t o c in row-by (p .0) plain (p .1) row
 
 module _ (rs : List Row) (n : ℕ)
-    (ih : (k : ℕ) (gs : List Open) → nested (delimitersOf gs) rs ≡ true → k + length rs ≡ n → walk k gs (lines (written rs)) ≡ passed n)
+    (ih : (k : ℕ) (gs : List Open) → nested (delimitersOf gs) rs ≡ true → k + length rs ≡ n
+    → walk k gs (lines (written rs)) ≡ passed n)
     (k : ℕ) (count : k + 1 + length rs ≡ n) where
   abbrev go : List Open → Answer
   go hs = walk (k + 1) hs (lines (written rs))
 
-  close-step : (gs : List Open) (d : ℕ) → (closedBy (delimitersOf gs) d && nested (enclosing (delimitersOf gs)) rs) ≡ true
+  close-step : (gs : List Open) (d : ℕ)
+      → (closedBy (delimitersOf gs) d && nested (enclosing (delimitersOf gs)) rs) ≡ true
       → step k gs (closed d) go ≡ passed n
   close-step [] d e = absurd (false≢true e)
   close-step (g ∷ gs) d e =
@@ -149,7 +153,8 @@ module _ (rs : List Row) (n : ℕ)
       kind true c a b =
           let p = and-parts (ltb (length (delimitersOf gs)) MAX-DEPTH) _
           (sym (chosen _ _ _ a) ∙ and-parts (right r) _ e .1) in
-          let free : length gs < MAX-DEPTH = omega (arith, ltb-true (length (delimitersOf gs)) MAX-DEPTH (p .0), delimiters-length gs) in
+          let free : length gs < MAX-DEPTH = omega
+          (arith, ltb-true (length (delimitersOf gs)) MAX-DEPTH (p .0), delimiters-length gs) in
           let opened : Open = record { delimiter = first (r .text); row = k } in
           formed (open-row (r .kind) (r .text) row a)
           (passed-over _ _ _ (lt-leb MAX-DEPTH (length gs) free) ∙ ih (k + 1) (opened ∷ gs) (p .1) count)
@@ -169,7 +174,8 @@ module _ (rs : List Row) (n : ℕ)
       ∙ ap (λ (f : Form). step k gs f go) (chosen _ _ _ (p .1))
       ∙ row-step gs r e
 
-walk-nested : (rs : List Row) (n k : ℕ) (gs : List Open) → n ≤ MAX-ROWS → nested (delimitersOf gs) rs ≡ true → k + length rs ≡ n
+walk-nested : (rs : List Row) (n k : ℕ) (gs : List Open) → n ≤ MAX-ROWS → nested (delimitersOf gs) rs ≡ true
+    → k + length rs ≡ n
     → walk k gs (lines (written rs)) ≡ passed n
 walk-nested [] n k [] l e c = ap passed (omega arith)
 walk-nested [] n k (g ∷ gs) l e c = absurd (false≢true e)

@@ -1,7 +1,8 @@
--- The parameters of a declaration that was read: where each stands in the stream, and that its runs are runs by themselves.
+-- The parameters of a declaration that was read: where each stands in the stream, and that its runs are runs by
+-- themselves.
 use mathlib.Core.Path.{_≡_, refl, ap, _∙_, sym, subst}
 use mathlib.Core.Bool.{Bool, true, false, false≢true}
-use mathlib.Core.List.{List, [], _∷_, _++_}
+use mathlib.Core.List.{List, [], _∷_}
 use Prim.Native.Nat.{ℕ, zero, suc, _+_}
 use lib.ListN.{length}
 use Rattle.token_list.specs.Byte.{QUOTE, COMMA, COLON, LESS, EQUALS, GREATER}
@@ -11,21 +12,22 @@ use Rattle.reading.specs.Role as role
 use Rattle.reading.specs.Token.{isIdent, isPunct, isWord, isEnd, CONST, parameterStops}
 use Rattle.reading.specs.Grammar as g
 use Rattle.reading.specs.Grammar.{everything}
-use Rattle.reading.specs.Declaration.{Parameter, Generics, without, angled, Declaration}
+use Rattle.reading.specs.Declaration.{Parameter, Generics, without, angled}
 use Rattle.reading.specs.Took.{Took, took, stopped, Reader, after, _>>=_, pure}
 use Rattle.reading.specs.Reading as r
-use Rattle.reading.specs.Reading.{Maybe, done, one, RunEnd, rounds, every, more}
-use Rattle.reading.proofs.SoundTokens.{Meets, met, refused, choice, onward-still, onward-met, after-met, runFrom-sound, attributes-sound, visibility-sound, dataType-sound}
+use Rattle.reading.specs.Reading.{Maybe, done, one, RunEnd, rounds, more}
+use Rattle.reading.proofs.SoundTokens.{Meets, met, refused, choice, onward-still, after-met, runFrom-sound, attributes-sound, visibility-sound, dataType-sound}
 use Rattle.reading.proofs.GrammarSound.{punctIf-sound}
 use Rattle.writing.proofs.Joined.{joined, front-joined}
-use Rattle.writing.proofs.Runs.{Alone, Held, held, alone-length}
+use Rattle.writing.proofs.Runs.{Alone, held}
 
 -- ## Where a parameter stands
 
 -- a run b at ts, and us after it; at the end of its stream it may have open angles
-pub data RunAt (ts b us : Trees) : Type 0 where
-  cut : isEnd us ≡ true → RunAt ts b us
-  run : {rs : List ℕ} → ts ≡ joined b us → Alone 0 false b rs → RunAt ts b us
+pub record RunAt (ts b us : Trees) : Type 0 where
+  pub cut : ts ≡ joined b us
+  pub roles : List ℕ
+  pub alone : isEnd us ≡ false → Alone 0 false b roles
 
 -- an optional mark and its run
 pub data MarkedAt (m : ℕ) : Trees → Trees → Trees → Type 0 where
@@ -64,20 +66,18 @@ weaken : {A : Type 0} {N M : A → List ℕ → Trees → Type 0} {t : Took A} �
 weaken (met rs us h) k = met rs us (k _ rs us h)
 weaken refused k = refused
 
-run-read : (row : ℕ) (ts : Trees) → Meets (λ b rs us. RunAt ts b us) (r.run parameterStops role.bound row ts)
-run-read row ts = go (r.runFrom parameterStops role.bound 0 false row ts) (runFrom-sound parameterStops role.bound 0 false row ts)
+pub run-read : (row : ℕ) (ts : Trees) → Meets (λ b rs us. RunAt ts b us) (r.run parameterStops role.bound row ts)
+run-read row ts =
+    go (r.runFrom parameterStops role.bound 0 false row ts) (runFrom-sound parameterStops role.bound 0 false row ts)
   where
     go : (t : Took RunEnd) → Meets (λ x rs us. g.Run everything parameterStops role.bound 0 false ts us rs) t
         → Meets (λ b rs us. RunAt ts b us) (r.kept ts t)
     go t refused = refused
-    go t (met rs us h) = met rs us (last (isEnd us) refl)
-      where
-        last : (e : Bool) → isEnd us ≡ e → RunAt ts (r.front ts (length rs)) us
-        last true e = cut e
-        last false e =
-            let i = held h e in
-            let b = ap (λ (t : Trees). r.front t (length rs)) (i .cut) ∙ front-joined (i .tokens) us (length rs) (alone-length (i .alone)) in
-            subst (λ (t : Trees). RunAt ts t us) (sym b) (run (i .cut) (i .alone))
+    go t (met rs us h) =
+        let i = held h in
+        let b = ap (λ (t : Trees). r.front t (length rs)) (i .cut)
+        ∙ front-joined (i .tokens) us (length rs) (i .counted) in
+        met rs us (subst (λ (t : Trees). RunAt ts t us) (sym b) (record { cut = i .cut; roles = rs; alone = i .alone }))
 
 marked-read : (m row : ℕ) (ts : Trees) → Meets (λ b rs us. MarkedAt m ts b us) (r.marked-run m row ts)
 marked-read m row ts = after-met row (punctIf-sound m row ts) go
@@ -115,7 +115,8 @@ module _ (q : Row) where
   lifetime-read quote row us e = after-met row (name-read 24 quote row us) go
     where
       go : {us : Trees} (n rs : List ℕ) (vs : Trees) → NameAt us n vs → (row : ℕ)
-          → Meets (λ p qs ws. ParameterAt (leaf q us) p ws) ((r.marked-run COLON >>= λ b. pure (Parameter.lifetime n b)) row vs)
+          → Meets (λ p qs ws. ParameterAt (leaf q us) p ws)
+          ((r.marked-run COLON >>= λ b. pure (Parameter.lifetime n b)) row vs)
       go n rs vs (name f) row =
           after-met row (marked-read COLON row vs) (λ b qs ws h row. met [] ws (lifetime e f h))
 
@@ -124,7 +125,8 @@ module _ (q : Row) where
   constant-read row us e = after-met row (name-read 27 65535 row us) go
     where
       go : {us : Trees} (n rs : List ℕ) (vs : Trees) → NameAt us n vs → (row : ℕ)
-          → Meets (λ p qs ws. ParameterAt (leaf q us) p ws) ((r.marked-run COLON >>= λ b. pure (Parameter.constant n b)) row vs)
+          → Meets (λ p qs ws. ParameterAt (leaf q us) p ws)
+          ((r.marked-run COLON >>= λ b. pure (Parameter.constant n b)) row vs)
       go n rs vs (name f) row =
           after-met row (marked-read COLON row vs) (λ b qs ws h row. met [] ws (constant e f h))
 
@@ -144,7 +146,8 @@ module _ (q : Row) where
       → Meets (λ p rs vs. ParameterAt (leaf q us) p vs) (m (row + 1) us)
       → Meets (λ p rs vs. CommaedAt (leaf q us) p vs) (r.from role.parameter-name row us (m >>= r.comma))
   first-read {us} m row h =
-      onward-still (role.parameter-name ∷ []) (after-met (row + 1) h (λ p rs vs i row. comma-read (leaf q us) p vs i row))
+      onward-still (role.parameter-name ∷ [])
+      (after-met (row + 1) h (λ p rs vs i row. comma-read (leaf q us) p vs i row))
 
 parameter-read : (angle row : ℕ) (ts : Trees) → Meets (λ m rs us. CommaedAt ts m us) (r.parameter angle row ts)
 parameter-read angle row end = refused
@@ -153,7 +156,8 @@ parameter-read angle row (leaf q us) =
     choice (isPunct QUOTE q) (λ e. first-read q (r.lifetimeAfter row) row (lifetime-read q row (row + 1) us e))
     (λ a. choice (isPunct GREATER q) (λ e. met (role.angle ∷ []) us (last refl e))
     (λ b. choice (isWord CONST q) (λ e. first-read q r.constantAfter row (constant-read q (row + 1) us e))
-    (λ c. choice (isIdent q) (λ e. first-read q (r.typeAfter (q .text)) row (type-read q (row + 1) us c e)) (λ d. refused))))
+    (λ c. choice (isIdent q) (λ e. first-read q (r.typeAfter (q .text)) row (type-read q (row + 1) us c e))
+    (λ d. refused))))
 
 -- ## All parameters
 
@@ -169,7 +173,8 @@ comma-ended : {us vs : Trees} → CommaAt us vs → isEnd us ≡ true → isEnd 
 comma-ended absent e = e
 comma-ended (present c) e = absurd (false≢true e)
 
-rounds-read : (angle n row : ℕ) (ts : Trees) → Meets (λ ps rs us. ParametersAt ts ps us) (rounds n (r.parameter angle) row ts)
+rounds-read : (angle n row : ℕ) (ts : Trees)
+    → Meets (λ ps rs us. ParametersAt ts ps us) (rounds n (r.parameter angle) row ts)
 rounds-read angle zero row ts = refused
 rounds-read angle (suc n) row ts = after-met row (parameter-read angle row ts) (go (rounds-read angle n))
   where

@@ -1,21 +1,20 @@
 -- What the writers write reads back, but for the exceptions.
 use mathlib.Core.Path.{_≡_, refl, ap, _∙_, sym, subst}
-use mathlib.Core.Bool.{Bool, true, false, cond, _&&_, _||_, or-false, false≢true}
+use mathlib.Core.Bool.{Bool, true, false, _||_, or-false}
 use mathlib.Core.List.{List, [], _∷_, _++_, map, append-nil, map-append}
 use Prim.Native.Nat.{ℕ, _+_}
 use Rattle.token_list.specs.Byte.{SEMICOLON, LESS}
 use Rattle.token_list.specs.Text.{same}
-use Rattle.token_list.specs.Row.{Row}
 use Rattle.token_list.specs.Check.{check, passed}
 use Rattle.token_list.specs.Layout.{FIRST-ROW}
-use Rattle.token_list.specs.Stream.{Trees, end, leaf, group, at}
+use Rattle.token_list.specs.Stream.{Trees, end, leaf, at}
 use Rattle.token_list.proofs.Texts.{and-both, and-parts, or-last}
 use Rattle.reading.specs.Role as role
-use Rattle.reading.specs.Token.{isIdent, STRUCT, CONST}
+use Rattle.reading.specs.Token.{STRUCT, CONST}
 use Rattle.reading.specs.Grammar as g
 use Rattle.reading.specs.Grammar.{everything, Obeys}
-use Rattle.reading.specs.Declaration.{default, struct, Parameter, lifetime, constant, type, Generics, angled, fields, Body, Constraints, Declaration}
-use Rattle.reading.specs.Took.{Took, took, Reader, stopped, onward, after, _>>=_, pure}
+use Rattle.reading.specs.Declaration.{default, struct, Parameter, lifetime, constant, type, Generics, angled, Declaration}
+use Rattle.reading.specs.Took.{Took, took, Reader, onward, after, _>>=_, pure}
 use Rattle.reading.specs.Reading as r
 use Rattle.reading.specs.Reading.{every}
 use Rattle.reading.proofs.GrammarSound.{obeys-sound}
@@ -25,12 +24,12 @@ use Rattle.writing.specs.Rows.{ident, punct}
 use Rattle.writing.specs.Generics.{angledRows, named, names, addedLifetime, addedType, additional}
 use Rattle.writing.specs.ReadBack.{behindStruct, unitStruct, withCommas, Reads, Refused, ReadBack, runOf, endsInMinus, lastMinus, constNamed, constAdded, addedException, withoutDefault, WritersReadBack}
 use Rattle.writing.proofs.Joined.{tokens}
-use Rattle.writing.proofs.Written.{partedThen, angledThen, allTokens, behind-struct}
+use Rattle.writing.proofs.Written.{partedThen, allTokens, behind-struct}
 use Rattle.writing.proofs.Runs.{AFTER}
-use Rattle.writing.proofs.Reread.{Whole, AllWhole, typeConst, anyConst, reread, Stopped, refused, obeys}
+use Rattle.writing.proofs.Reread.{Whole, AllWhole, typeConst, anyConst, reread, refused, obeys}
 use Rattle.writing.proofs.Reread as reread
-use Rattle.writing.proofs.Balanced.{sound, sound-tokens}
-use Rattle.writing.proofs.Declared.{Declared, AllDeclared, declared-of}
+use Rattle.writing.proofs.Balanced.{sound-tokens}
+use Rattle.writing.proofs.Declared.{AllDeclared, declared-of}
 
 -- ## The item around the parameters
 
@@ -81,7 +80,8 @@ read-back ps w t = record { same = reads; other = refuses }
     reads e name =
         let n = reread.or-parts (anyConst ps) (lastMinus ps) e in
         let i = reread 2 ps w (n .0) (n .1) 3 in
-        let here : r.item 0 (around name (partedThen true ps AFTER)) ≡ took (unitStruct name (map withoutDefault ps)) _ end =
+        let here : r.item 0 (around name (partedThen true ps AFTER)) ≡ took
+        (unitStruct name (map withoutDefault ps)) _ end =
         made-of name (partedThen true ps AFTER) ∙ ap (made name) (i .1) in
         let read = ap (r.item 0) (stream name) ∙ here in
         let o = item-obeys name (obeys ps w (n .0) (n .1) .1) in
@@ -142,7 +142,8 @@ module _ {A : Type 0} (f : A → Parameter) (e : (a : A) → runOf (f a) ≡ end
   last-bare (p ∷ []) x xs = last-bare [] x xs
   last-bare (p ∷ q ∷ ps) x xs = last-bare (q ∷ ps) x xs
 
-without-default : {A : Type 0} (f : A → Parameter) → ((a : A) → withoutDefault (f a) ≡ f a) → (xs : List A) (qs : List Parameter)
+without-default : {A : Type 0} (f : A → Parameter) → ((a : A) → withoutDefault (f a) ≡ f a)
+    → (xs : List A) (qs : List Parameter)
     → map withoutDefault (map f xs ++ qs) ≡ map f xs ++ map withoutDefault qs
 without-default f e [] qs = refl
 without-default f e (x ∷ xs) qs = λ i. e x i ∷ without-default f e xs qs i
@@ -196,7 +197,8 @@ append-tokens (p ∷ ps) qs h k =
 module _ {ts : Trees} {ps : List Parameter} (d : AllDeclared ts ps) where
   impl-back : ReadBack (lastMinus ps) (angledRows ps) (map withoutDefault ps)
   impl-back =
-      subst (λ (b : Bool). ReadBack b (angledRows ps) (map withoutDefault ps)) (or-last (anyConst ps) (lastMinus ps) (no-const d))
+      subst (λ (b : Bool). ReadBack b (angledRows ps) (map withoutDefault ps))
+      (or-last (anyConst ps) (lastMinus ps) (no-const d))
       (read-back ps (whole-runs d) (token-runs d))
 
   type-back : ReadBack (constNamed ps) (angledRows (names ps)) (names ps)
@@ -219,7 +221,8 @@ module _ {ts : Trees} {ps : List Parameter} (d : AllDeclared ts ps) where
     last-added : (us : List (List ℕ)) → (constAdded us || lastMinus (ps ++ map addedType us)) ≡ addedException us ps
     last-added [] = ap lastMinus (append-nil ps)
     last-added (t ∷ ts) =
-        ap (λ (b : Bool). constAdded (t ∷ ts) || b) (last-bare addedType (λ t. refl) ps t ts) ∙ or-false (constAdded (t ∷ ts))
+        ap (λ (b : Bool). constAdded (t ∷ ts) || b) (last-bare addedType (λ t. refl) ps t ts)
+        ∙ or-false (constAdded (t ∷ ts))
 
     exception : (anyConst all || lastMinus all) ≡ addedException us ps
     exception =
@@ -233,7 +236,8 @@ module _ {ts : Trees} {ps : List Parameter} (d : AllDeclared ts ps) where
         ∙ without-default addedType (λ t. refl) us [] ∙ append-nil (map addedType us) in
         without-default addedLifetime (λ t. refl) ls (ps ++ map addedType us)
         ∙ ap (λ (qs : List Parameter). map addedLifetime ls ++ qs)
-        (map-append withoutDefault ps (map addedType us) ∙ ap (λ (qs : List Parameter). map withoutDefault ps ++ qs) types)
+        (map-append withoutDefault ps (map addedType us)
+        ∙ ap (λ (qs : List Parameter). map withoutDefault ps ++ qs) types)
 
     additional-back : ReadBack (addedException us ps) (angledRows all)
         (map addedLifetime ls ++ (map withoutDefault ps ++ map addedType us))
@@ -252,6 +256,7 @@ module _ {ts : Trees} {ps : List Parameter} (d : AllDeclared ts ps) where
 
 -- ## The law, of a list that was read
 
-pub read-again : (s : List ℕ) {n : ℕ} {d : Declaration} {rs : List ℕ} {us : Trees} (ps : List Parameter) → check s ≡ passed n
+pub read-again : (s : List ℕ) {n : ℕ} {d : Declaration} {rs : List ℕ} {us : Trees} (ps : List Parameter)
+    → check s ≡ passed n
     → r.item 0 (at s FIRST-ROW .here) ≡ took d rs us → d .generics ≡ angled ps → WritersReadBack ps
 read-again s ps c e g = writers-read-back (declared-of s ps c e g .declared)

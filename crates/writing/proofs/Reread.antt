@@ -1,6 +1,6 @@
 -- What was written, read once more: parameter by parameter.
 use mathlib.Core.Path.{_≡_, refl, ap, _∙_, sym, subst}
-use mathlib.Core.Bool.{Bool, true, false, cond, _&&_, _||_, false≢true}
+use mathlib.Core.Bool.{Bool, true, false, _||_, false≢true}
 use mathlib.Core.List.{List, [], _∷_, _++_, map}
 use Prim.Native.Nat.{ℕ, _+_}
 use lib.ListN.{length}
@@ -8,7 +8,7 @@ use Rattle.token_list.specs.Byte.{QUOTE, COMMA, COLON, SEMICOLON, EQUALS, GREAT
 use Rattle.token_list.specs.Text.{same}
 use Rattle.token_list.specs.Row.{Row}
 use Rattle.token_list.specs.Stream.{Trees, end, leaf, group, size}
-use Rattle.token_list.proofs.Texts.{chosen, passed-over, and-parts}
+use Rattle.token_list.proofs.Texts.{chosen, passed-over}
 use Rattle.reading.specs.Role as role
 use Rattle.reading.specs.Token.{isIdent, isPunct, CONST, parameterStops}
 use Rattle.reading.specs.Grammar as g
@@ -16,12 +16,12 @@ use Rattle.reading.specs.Grammar.{Difference, everything}
 use Rattle.reading.specs.Declaration.{Parameter, lifetime, constant, type}
 use Rattle.reading.specs.Took.{Took, took, Cause, stopped, onward, after, _>>=_, pure}
 use Rattle.reading.specs.Reading as r
-use Rattle.reading.specs.Reading.{Maybe, done, one, every, more}
+use Rattle.reading.specs.Reading.{Maybe, one, every, more}
 use Rattle.reading.proofs.Conserved.{every-step, parameter-round}
 use Rattle.writing.specs.Rows.{ident, punct}
 use Rattle.writing.specs.ReadBack.{runOf, endsInMinus, lastMinus, withoutDefault, withCommas}
-use Rattle.writing.proofs.Joined.{joined, tokens}
-use Rattle.writing.proofs.Runs.{Alone, last, ends-in-minus, before-comma, before-angle, AFTER, before-arrow, alone-length, run-taken, run-value}
+use Rattle.writing.proofs.Joined.{joined}
+use Rattle.writing.proofs.Runs.{Alone, ends-in-minus, before-comma, before-angle, AFTER, before-arrow, alone-length, run-taken, run-value}
 use Rattle.writing.proofs.Written.{boundsThen, parameterThen, partedThen}
 
 -- a run by itself
@@ -78,7 +78,8 @@ module _ (us vs : Trees) (cs : List ℕ) (comma : (p : Parameter) (row : ℕ) �
     _,
     ap (λ (t : Took Trees). onward (role.parameter-name ∷ []) (after (row + 1) (onward (role.parameter-name ∷ [])
         (after (row + 1 + 1) t (λ b. pure (f b)))) r.comma)) e
-        ∙ ap (λ (t : Took (Maybe Parameter)). onward (role.parameter-name ∷ []) (onward (role.parameter-name ∷ bs ++ []) t))
+        ∙ ap (λ (t : Took (Maybe Parameter)). onward (role.parameter-name ∷ [])
+        (onward (role.parameter-name ∷ bs ++ []) t))
         (comma (f b) _),
   )
 
@@ -97,12 +98,15 @@ module _ (us vs : Trees) (cs : List ℕ) (comma : (p : Parameter) (row : ℕ) �
       → ((row : ℕ) → r.run parameterStops role.bound row (joined (runOf p) ws) ≡ took x rs us)
       → Read (r.parameter angle row (colonThen p ws)) (withRun x p) vs
   run-here (lifetime n b) x ws rs c e =
-      named-here (leaf (punct COLON) (joined b ws)) (lifetime n) (ap (onward (role.separator ∷ [])) (e (row + 1 + 1 + 1)))
+      named-here (leaf (punct COLON) (joined b ws)) (lifetime n)
+      (ap (onward (role.separator ∷ [])) (e (row + 1 + 1 + 1)))
   run-here (constant n t) x ws rs c e =
-      named-here (leaf (punct COLON) (joined t ws)) (constant n) (ap (onward (role.separator ∷ [])) (e (row + 1 + 1 + 1)))
+      named-here (leaf (punct COLON) (joined t ws)) (constant n)
+      (ap (onward (role.separator ∷ [])) (e (row + 1 + 1 + 1)))
   run-here (type n b d) x ws rs c e =
       typed-here (leaf (punct COLON) (joined b ws)) n {rs = role.separator ∷ rs ++ []} c
-      (ap (λ (t : Took Trees). onward (role.separator ∷ []) (after (row + 1 + 1) t (λ b. pure (type n b end)))) (e (row + 1 + 1)))
+      (ap (λ (t : Took Trees). onward (role.separator ∷ []) (after (row + 1 + 1) t (λ b. pure (type n b end))))
+      (e (row + 1 + 1)))
 
 -- ## Before a token q that ends its run, and is no `:` and no `=`
 
@@ -110,7 +114,8 @@ pub record Stopping (q : Row) (us b : Trees) : Type 0 where
   pub colon : isPunct COLON q ≡ false
   pub equals : isPunct EQUALS q ≡ false
   pub roles : List ℕ
-  pub run : (allowed : Difference → Bool) → g.Run allowed parameterStops role.bound 0 false (joined b (leaf q us)) (leaf q us) roles
+  pub run : (allowed : Difference → Bool)
+      → g.Run allowed parameterStops role.bound 0 false (joined b (leaf q us)) (leaf q us) roles
   pub counted : length roles ≡ size b
 
 stop-comma : {b : Trees} (us : Trees) → Whole b → Stopping (punct COMMA) us b
@@ -153,7 +158,8 @@ module _ (q : Row) (us vs : Trees) (cs : List ℕ)
   parameter-here (type n end d) s c =
       typed-here (leaf q us) vs cs comma angle row (leaf q us) n {rs = []} c
       (ap (λ (t : Took Bool). after (row + 1) t (r.typeRuns n)) (passed-over (isPunct COLON q) _ _ (s .colon))
-      ∙ ap (λ (t : Took Trees). onward [] (after (row + 1 + 0) t (λ d. pure (type n end d)))) (no-mark EQUALS (s .equals) (row + 1 + 0)))
+      ∙ ap (λ (t : Took Trees). onward [] (after (row + 1 + 0) t (λ d. pure (type n end d))))
+      (no-mark EQUALS (s .equals) (row + 1 + 0)))
   parameter-here (type n (leaf p ts) d) s c = with-run (type n (leaf p ts) d) s c
   parameter-here (type n (group e ts ws) d) s c = with-run (type n (group e ts ws) d) s c
 
@@ -173,16 +179,19 @@ module _ (angle : ℕ) where
       ∙ ap (λ (t : Took (List Parameter)). onward rs (after (row + length rs) t (λ ps. pure (p ∷ ps)))) f
 
   pub reread : (ps : List Parameter) → AllWhole ps → anyConst ps ≡ false → lastMinus ps ≡ false → (row : ℕ)
-      → (rs : List ℕ) × (every (r.parameter angle) row (partedThen true ps AFTER) ≡ took (map withoutDefault ps) rs REST)
+      → (rs : List ℕ) × (every (r.parameter angle) row (partedThen true ps AFTER) ≡ took
+      (map withoutDefault ps) rs REST)
   reread [] w c l row = (_, every-step (r.parameter angle) (parameter-round angle) row AFTER)
   reread (p ∷ []) (also w ws) c l row =
-      let i = parameter-here (punct GREATER) REST AFTER [] (λ p row. refl) angle row p (stop-angle REST w l) (or-parts _ _ c .0) in
+      let i = parameter-here (punct GREATER) REST AFTER [] (λ p row. refl) angle row p (stop-angle REST w l)
+      (or-parts _ _ c .0) in
       let j = reread [] none refl refl (row + length (i .0)) in
       (_, others row (parameterThen p AFTER) (i .1) (j .1))
   reread (p ∷ o ∷ ps) (also w ws) c l row =
       let us = partedThen true (o ∷ ps) AFTER in
       let n = or-parts (typeConst p) (anyConst (o ∷ ps)) c in
-      let i = parameter-here (punct COMMA) us us (role.separator ∷ []) (λ p row. refl) angle row p (stop-comma us w) (n .0) in
+      let i = parameter-here (punct COMMA) us us (role.separator ∷ []) (λ p row. refl) angle row p (stop-comma us w)
+      (n .0) in
       let j = reread (o ∷ ps) ws (n .1) l (row + length (i .0)) in
       (_, others row (parameterThen p (leaf (punct COMMA) us)) (i .1) (j .1))
 
@@ -221,7 +230,8 @@ module _ (angle : ℕ) where
   const-refused (type n (leaf p ts) d) q us c i row =
       at-once row (leaf (ident n) (leaf (punct COLON) (joined (leaf p ts) (leaf q us)))) (chosen (same n CONST) _ _ c)
   const-refused (type n (group e ts vs) d) q us c i row =
-      at-once row (leaf (ident n) (leaf (punct COLON) (joined (group e ts vs) (leaf q us)))) (chosen (same n CONST) _ _ c)
+      at-once row (leaf (ident n) (leaf (punct COLON) (joined (group e ts vs) (leaf q us))))
+      (chosen (same n CONST) _ _ c)
 
   -- a run that ends in `-`: the `>` belongs to it, and the stream gives out
   minus-refused : (p : Parameter) → Whole (runOf p) → typeConst p ≡ false → endsInMinus (runOf p) ≡ true → (row : ℕ)
@@ -255,18 +265,21 @@ module _ (angle : ℕ) where
       by : ((anyConst (o ∷ ps) || lastMinus (o ∷ ps)) ≡ true → (row : ℕ)
           → Stopped (every (r.parameter angle) row (partedThen true (o ∷ ps) AFTER)))
           → (c : Bool) → typeConst p ≡ c
-          → Stopped (every (r.parameter angle) row (parameterThen p (leaf (punct COMMA) (partedThen true (o ∷ ps) AFTER))))
+          → Stopped
+          (every (r.parameter angle) row (parameterThen p (leaf (punct COMMA) (partedThen true (o ∷ ps) AFTER))))
       by ih true c = const-refused p (punct COMMA) (partedThen true (o ∷ ps) AFTER) c refl row
       by ih false c =
           let us = partedThen true (o ∷ ps) AFTER in
-          let i = parameter-here (punct COMMA) us us (role.separator ∷ []) (λ p row. refl) angle row p (stop-comma us w) c in
+          let i = parameter-here (punct COMMA) us us (role.separator ∷ []) (λ p row. refl) angle row p
+          (stop-comma us w) c in
           later row (parameterThen p (leaf (punct COMMA) us)) (i .1)
           (ih (sym (ap (λ (b : Bool). (b || anyConst (o ∷ ps)) || lastMinus (o ∷ ps)) c) ∙ e) (row + length (i .0)))
 
 -- ## The commas
 
 module _ (q : Row) (us : Trees) where
-  bound-obeys : (b : Trees) → Stopping q us b → (rs : List ℕ) × g.Bound withCommas (boundsThen b (leaf q us)) (leaf q us) rs
+  bound-obeys : (b : Trees) → Stopping q us b
+      → (rs : List ℕ) × g.Bound withCommas (boundsThen b (leaf q us)) (leaf q us) rs
   bound-obeys end s = ([], g.Bound.none (s .colon))
   bound-obeys (leaf p ts) s = (role.separator ∷ s .roles, g.Bound.bound refl (s .run withCommas))
   bound-obeys (group d ts vs) s = (role.separator ∷ s .roles, g.Bound.bound refl (s .run withCommas))

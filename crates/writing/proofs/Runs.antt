@@ -1,9 +1,10 @@
--- Runs of parameters: what a run holds is a run by itself, and reads the same before a `,`, or before a `>` where its last
+-- Runs of parameters: what a run holds is a run by itself, and reads the same before a `,`, or before a `>` where
+-- its last
 -- token is no `-`.
 use mathlib.Core.Path.{_≡_, refl, ap, _∙_, sym, subst}
-use mathlib.Core.Bool.{Bool, true, false, cond, _&&_, _||_, false≢true}
-use mathlib.Core.List.{List, [], _∷_, _++_, append-assoc}
-use Prim.Native.Nat.{ℕ, _+_, _-_}
+use mathlib.Core.Bool.{Bool, true, false, false≢true}
+use mathlib.Core.List.{List, [], _∷_, _++_}
+use Prim.Native.Nat.{ℕ, _+_}
 use native.Mathlib.Omega.{arith}
 use lib.Dec.{eqb}
 use lib.ListN.{length, length-append}
@@ -12,7 +13,7 @@ use Rattle.token_list.specs.Row.{Row}
 use Rattle.token_list.specs.Stream.{Trees, end, leaf, group, size}
 use Rattle.token_list.proofs.Texts.{and-parts}
 use Rattle.reading.specs.Role as role
-use Rattle.reading.specs.Token.{isPunct, isEnd, copied, Stops, parameterStops, stopping}
+use Rattle.reading.specs.Token.{isPunct, isEnd, copied, parameterStops}
 use Rattle.reading.specs.Grammar.{Difference, nothing, everything, Run, arrow, deeper, back, angle, comma, stop, token, inside, ended}
 use Rattle.reading.specs.Took.{took}
 use Rattle.reading.specs.Reading as r
@@ -28,14 +29,16 @@ use Rattle.writing.proofs.Joined.{joined, front-joined}
 abbrev pub Alone : ℕ → Bool → Trees → List ℕ → Type 0
 Alone depth minus b rs = Run nothing parameterStops role.bound depth minus b end rs
 
--- a run of ts that leaves us
+-- a run of ts that leaves us; at the end of its stream it may have open angles
 pub record Held (depth : ℕ) (minus : Bool) (ts us : Trees) (rs : List ℕ) : Type 0 where
   pub tokens : Trees
   pub cut : ts ≡ joined tokens us
-  pub alone : Alone depth minus tokens rs
+  pub counted : length rs ≡ size tokens
+  pub alone : isEnd us ≡ false → Alone depth minus tokens rs
 
-held-none : {depth : ℕ} {minus : Bool} {us : Trees} → eqb depth 0 ≡ true → Held depth minus us us []
-held-none z = record { tokens = end; cut = refl; alone = ended z }
+held-none : {depth : ℕ} {minus : Bool} {us : Trees} → (isEnd us ≡ false → eqb depth 0 ≡ true)
+    → Held depth minus us us []
+held-none z = record { tokens = end; cut = refl; counted = refl; alone = λ n. ended (z n) }
 
 -- one token more
 held-leaf : {depth e : ℕ} {minus m : Bool} {ts us : Trees} {rs : List ℕ} (q : Row) → Held e m ts us rs
@@ -44,26 +47,28 @@ held-leaf : {depth e : ℕ} {minus m : Bool} {ts us : Trees} {rs : List ℕ} (q 
 held-leaf q h k = record {
   tokens = leaf q (h .tokens);
   cut = ap (leaf q) (h .cut);
-  alone = k (h .tokens) (h .alone);
+  counted = omega (arith, h .counted);
+  alone = λ n. k (h .tokens) (h .alone n);
 }
 
-pub held : {depth : ℕ} {minus : Bool} {ts us : Trees} {rs : List ℕ} → Run everything parameterStops role.bound depth minus ts us rs
-    → isEnd us ≡ false → Held depth minus ts us rs
-held (arrow {q = q} e h) n = held-leaf q (held h n) (λ b. arrow e)
-held (deeper {q = q} e h) n = held-leaf q (held h n) (λ b. deeper e)
-held (back {q = q} e z h) n = held-leaf q (held h n) (λ b. back e z)
-held (angle e z a) n = held-none z
-held (comma e z a) n = held-none z
-held (stop {depth = depth} e) n = held-none (and-parts (eqb depth 0) _ e .0)
-held (token {q = q} e h) n = held-leaf q (held h n) (λ b. token e)
-held (inside {d = d} {ts = ts} e h) n =
-    let i = held h n in
+pub held : {depth : ℕ} {minus : Bool} {ts us : Trees} {rs : List ℕ}
+    → Run everything parameterStops role.bound depth minus ts us rs → Held depth minus ts us rs
+held (arrow {q = q} e h) = held-leaf q (held h) (λ b. arrow e)
+held (deeper {q = q} e h) = held-leaf q (held h) (λ b. deeper e)
+held (back {q = q} e z h) = held-leaf q (held h) (λ b. back e z)
+held (angle e z a) = held-none (λ n. z)
+held (comma e z a) = held-none (λ n. z)
+held (stop {depth = depth} e) = held-none (λ n. and-parts (eqb depth 0) _ e .0)
+held (token {q = q} e h) = held-leaf q (held h) (λ b. token e)
+held (inside {d = d} {ts = ts} {rs = rs} e h) =
+    let i = held h in
     record {
       tokens = group d ts (i .tokens);
       cut = ap (group d ts) (i .cut);
-      alone = inside e (i .alone);
+      counted = omega (arith, i .counted, length-append (copied role.bound ts) rs, copied-length role.bound ts);
+      alone = λ n. inside e (i .alone n);
     }
-held (ended u) n = absurd (false≢true (sym n))
+held (ended u) = held-none (λ n. absurd (false≢true (sym n)))
 
 -- ## The same run before another token
 
@@ -126,7 +131,8 @@ before-arrow l (token e h) = let i = before-arrow l h in (role.bound ∷ i .0, t
 before-arrow l (inside {ts = ts} e h) = let i = before-arrow l h in (copied role.bound ts ++ i .0, inside e (i .1))
 before-arrow {depth} l (ended z) = (
   role.bound ∷ role.bound ∷ [],
-  subst (λ (m : Bool). Run everything parameterStops role.bound depth m AFTER end (role.bound ∷ role.bound ∷ [])) (sym l)
+  subst (λ (m : Bool). Run everything parameterStops role.bound depth m AFTER end (role.bound ∷ role.bound ∷ []))
+      (sym l)
       (arrow refl (token refl (ended refl))),
 )
 

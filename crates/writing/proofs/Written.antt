@@ -1,5 +1,5 @@
 -- The streams of what is written.
-use mathlib.Core.Path.{_≡_, refl, ap, _∙_, sym}
+use mathlib.Core.Path.{_≡_, refl, ap, _∙_}
 use mathlib.Core.Bool.{Bool, true, false, _&&_}
 use mathlib.Core.List.{List, [], _∷_, _++_, append-assoc}
 use Prim.Native.Nat.{ℕ}
@@ -43,7 +43,8 @@ put f st = record { here = f (st .here); outer = st .outer }
 abbrev mark : Row → Streams → Streams
 mark r st = put (leaf r) st
 
-streams-bounds : (b : Trees) (rs : List Row) → tokens b ≡ true → streams (bounds b ++ rs) ≡ put (boundsThen b) (streams rs)
+streams-bounds : (b : Trees) (rs : List Row) → tokens b ≡ true
+    → streams (bounds b ++ rs) ≡ put (boundsThen b) (streams rs)
 unfolding before
 streams-bounds end rs e = refl
 streams-bounds (leaf r us) rs e = ap (mark (punct COLON)) (streams-rows (leaf r us) rs e)
@@ -91,4 +92,5 @@ pub behind-struct : (name : List ℕ) (ps : List Parameter) → allTokens ps ≡
     ≡ leaf (ident STRUCT) (leaf (ident name) (angledThen ps (leaf (punct SEMICOLON) end)))
 unfolding before
 behind-struct name ps e =
-    ap (λ (st : Streams). leaf (ident STRUCT) (leaf (ident name) (st .here))) (streams-angled ps (punct SEMICOLON ∷ []) e)
+    ap (λ (st : Streams). leaf (ident STRUCT) (leaf (ident name) (st .here)))
+    (streams-angled ps (punct SEMICOLON ∷ []) e)
