@@ -1,2 +1,3 @@
 -- Laws on what a StreamBuilder adds, which proofs cite.
 pub mod Builds
+pub mod Added

@@ -1,14 +1,15 @@
 -- What ties a StreamBuilder's counts and the output to the rows that were added.
 use mathlib.Core.Path.{_≡_}
-use mathlib.Core.List.{List, []}
+use mathlib.Core.List.{List, _∷_}
 use Prim.Native.Nat.{ℕ, _+_, _≤_}
-use lib.ListN.{length}
+use lib.ListN.{length, drop}
 use lib.Seq.{slice}
 use Rattle.token_list.specs.Row.{Row, written}
 use Rattle.token_list.specs.Check.{NAMES}
 use Rattle.token_list.specs.declared.check.Cursor.{Cursor}
 use Rattle.output.specs.Contract.{further, Put}
 use Rattle.writing.specs.Rows.{listOf}
+use Rattle.writing.specs.Names.{namesOf}
 use Rattle.generate.specs.declared.stream_builder.StreamBuilder.{StreamBuilder}
 
 abbrev pub row : ℕ → List ℕ → Row
@@ -35,3 +36,9 @@ abbrev pub Extended : (s : List ℕ) (from to : Cursor) (before after : List ℕ
 Extended s from to before after b r =
     (rs : List Row) → slice (from .at) (to .at) s ≡ written rs → from .row + length rs ≡ to .row
     → Appended before after b r rs
+
+-- the first name of the text t from `from` on ends at e; the next ones begin after the LF there
+pub record NameEnd (t : List ℕ) (from e : ℕ) : Type 0 where
+  pub start : from ≤ e
+  pub within : e ≤ length t
+  pub names : namesOf (drop from t) ≡ slice from e t ∷ namesOf (drop (e + 1) t)

@@ -1,2 +1,3 @@
 // virtue's src/generate, as far as the writers of generics need it.
+pub mod names;
 pub mod stream_builder;
