@@ -1,6 +1,7 @@
 -- What ties a StreamBuilder's counts and the output to the rows that were added.
 use mathlib.Core.Path.{_≡_}
 use mathlib.Core.List.{List, _∷_}
+use mathlib.Core.Bool.{Bool, true, false}
 use Prim.Native.Nat.{ℕ, _+_, _≤_}
 use lib.ListN.{length, drop}
 use lib.Seq.{slice}
@@ -10,6 +11,8 @@ use Rattle.token_list.specs.declared.check.Cursor.{Cursor}
 use Rattle.output.specs.Contract.{further, Put}
 use Rattle.writing.specs.Rows.{listOf}
 use Rattle.writing.specs.Names.{namesOf}
+use Rattle.writing.specs.Generics.{addedLifetime, addedType}
+use Rattle.reading.specs.Declaration.{Parameter}
 use Rattle.generate.specs.declared.stream_builder.StreamBuilder.{StreamBuilder}
 
 abbrev pub row : ℕ → List ℕ → Row
@@ -42,3 +45,8 @@ pub record NameEnd (t : List ℕ) (from e : ℕ) : Type 0 where
   pub start : from ≤ e
   pub within : e ≤ length t
   pub names : namesOf (drop from t) ≡ slice from e t ∷ namesOf (drop (e + 1) t)
+
+-- an added lifetime, or else an added type
+abbrev pub added : Bool → List ℕ → Parameter
+added true t = addedLifetime t
+added false t = addedType t

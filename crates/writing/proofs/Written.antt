@@ -1,5 +1,5 @@
 -- The streams of what is written.
-use mathlib.Core.Path.{_≡_, refl, ap, _∙_}
+use mathlib.Core.Path.{_≡_, refl, ap, _∙_, sym}
 use mathlib.Core.Bool.{Bool, true, false, _&&_}
 use mathlib.Core.List.{List, [], _∷_, _++_, append-assoc}
 use Prim.Native.Nat.{ℕ}
@@ -94,3 +94,29 @@ unfolding before
 behind-struct name ps e =
     ap (λ (st : Streams). leaf (ident STRUCT) (leaf (ident name) (st .here)))
     (streams-angled ps (punct SEMICOLON ∷ []) e)
+
+-- ## Parameters one after the other
+
+-- whether the next parameter is still the first
+abbrev pub stillFirst : Bool → List Parameter → Bool
+stillFirst first [] = first
+stillFirst first (p ∷ ps) = false
+
+no-longer : (ps : List Parameter) → stillFirst false ps ≡ false
+no-longer [] = refl
+no-longer (p ∷ ps) = refl
+
+behind : (p : Parameter) (ps qs : List Parameter)
+    → parted false (ps ++ qs) ≡ parted false ps ++ parted (stillFirst false ps) qs
+    → parameterRows p ++ parted false (ps ++ qs) ≡ (parameterRows p ++ parted false ps) ++ parted false qs
+behind p ps qs e =
+    ap (λ (rs : List Row). parameterRows p ++ rs)
+    (e ∙ ap (λ (b : Bool). parted false ps ++ parted b qs) (no-longer ps))
+    ∙ sym (append-assoc (parameterRows p) (parted false ps) (parted false qs))
+
+pub parted-append : (first : Bool) (ps qs : List Parameter)
+    → parted first (ps ++ qs) ≡ parted first ps ++ parted (stillFirst first ps) qs
+parted-append first [] qs = refl
+parted-append true (p ∷ ps) qs = behind p ps qs (parted-append false ps qs)
+parted-append false (p ∷ ps) qs =
+    ap (λ (rs : List Row). punct COMMA ∷ rs) (behind p ps qs (parted-append false ps qs))
