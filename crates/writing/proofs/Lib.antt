@@ -12,3 +12,4 @@ pub mod Lengths
 pub mod Passes
 pub mod Lists
 pub mod Copied
+pub mod Refusals

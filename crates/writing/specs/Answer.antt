@@ -1,17 +1,17 @@
 -- The whole answer of each writer, and the whole output (document 01, "What the reader hands back": the list check, the
 -- reading left to right, then 30, and the output's length last).
 use mathlib.Core.Path.{_≡_}
-use mathlib.Core.Bool.{Bool, true, false, cond, _&&_}
+use mathlib.Core.Bool.{Bool, true, false, cond, _&&_, _||_}
 use mathlib.Core.List.{List, []}
 use Prim.Native.Nat.{ℕ, _+_, _*_, _≤_}
-use lib.Dec.{ltb}
+use lib.Dec.{ltb, eqb}
 use lib.ListN.{length}
 use lib.Seq.{sets}
 use Rattle.token_list.specs.Layout.{MAX-BYTES, MAX-ROWS}
 use Rattle.token_list.specs.Check as list
 use Rattle.reading.specs.Declaration.{Parameter, Declaration}
 use Rattle.reading.specs.Took.{Took, took, stopped}
-use Rattle.reading.specs.Answer.{framed}
+use Rattle.reading.specs.Answer.{framed, readNumber}
 use Rattle.writing.specs.Rows.{listOf}
 use Rattle.writing.specs.Generics as generics
 use Rattle.writing.specs.Names.{namesOf, rightNames}
@@ -67,6 +67,10 @@ answer w s n = fitted n (whole w s)
 abbrev pub output : List ℕ → Answer → List ℕ
 output x (wrote t) = sets x 0 t
 output x (refused n p) = x
+
+-- the numbers of a writer's refusals
+abbrev pub writeNumber : ℕ → Bool
+writeNumber n = readNumber n || eqb n 30
 
 -- ## How long an output can be needed
 

@@ -43,9 +43,9 @@ digitName = withAdditional [] (bytes "9")
 abbrev WITHOUT : String
 WITHOUT = "kind text\ni struct\ni A\np ;\n"
 
--- `struct A < ' a , const N : [ u8 ] , T = Y > ;`
+-- `struct A < ' a , const N : [ u ] , T = Y > ;`
 abbrev MIXED : String
-MIXED = "kind text\ni struct\ni A\np <\np '\ni a\np ,\ni const\ni N\np :\no [\ni u8\nc ]\np ,\ni T\np =\ni Y\np >\np ;\n"
+MIXED = "kind text\ni struct\ni A\np <\np '\ni a\np ,\ni const\ni N\np :\no [\ni u\nc ]\np ,\ni T\np =\ni Y\np >\np ;\n"
 
 abbrev pub examples : List Example
 examples =
@@ -70,7 +70,7 @@ examples =
     ∷ record {
       writer = implGenerics;
       list = MIXED;
-      expected = gives "kind text\np <\np '\ni a\np ,\ni const\ni N\np :\no [\ni u8\nc ]\np ,\ni T\np >\n";
+      expected = gives "kind text\np <\np '\ni a\np ,\ni const\ni N\np :\no [\ni u\nc ]\np ,\ni T\np >\n";
     }
     ∷ record {
       writer = typeGenerics;
