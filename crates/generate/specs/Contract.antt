@@ -7,11 +7,12 @@ use lib.ListN.{length, drop}
 use lib.Seq.{slice}
 use Rattle.token_list.specs.Row.{Row, written}
 use Rattle.token_list.specs.Check.{NAMES}
+use Rattle.token_list.specs.Stream.{Trees}
 use Rattle.token_list.specs.declared.check.Cursor.{Cursor}
 use Rattle.output.specs.Contract.{further, Put}
-use Rattle.writing.specs.Rows.{listOf}
+use Rattle.writing.specs.Rows.{runRows, listOf}
 use Rattle.writing.specs.Names.{namesOf}
-use Rattle.writing.specs.Generics.{addedLifetime, addedType}
+use Rattle.writing.specs.Generics.{constraints, bounds, addedLifetime, addedType}
 use Rattle.reading.specs.Declaration.{Parameter}
 use Rattle.generate.specs.declared.stream_builder.StreamBuilder.{StreamBuilder}
 
@@ -50,3 +51,15 @@ pub record NameEnd (t : List ℕ) (from e : ℕ) : Type 0 where
 abbrev pub added : Bool → List ℕ → Parameter
 added true t = addedLifetime t
 added false t = addedType t
+
+-- whichever run a part of the list s is the lines of, the rows that f makes of it are appended
+abbrev pub RunWritten : (s : List ℕ) (from to : Cursor) (before after : List ℕ) (b r : StreamBuilder)
+    → (Trees → List Row) → Type 0
+RunWritten s from to before after b r f =
+    (ts : Trees) → slice (from .at) (to .at) s ≡ written (runRows ts) → from .row + length (runRows ts) ≡ to .row
+    → Appended before after b r (f ts)
+
+-- `:` and a run: always, as a const has it, or where it is not empty
+abbrev pub constrained : Bool → Trees → List Row
+constrained true ts = constraints ts
+constrained false ts = bounds ts
