@@ -112,7 +112,8 @@ pub adding-start : (f : List ℕ → Parameter) (t : List ℕ) (first : Bool) (k
 adding-start f t first k b h =
     record { rows = []; appended = record { rows = omega arith; put = nothing k (b .bytes) h }; rest = refl }
 
-pub adding-more : {f : List ℕ → Parameter} {t : List ℕ} {first leading : Bool} {k l m : List ℕ} {b c d : StreamBuilder} {i e : ℕ}
+pub adding-more : {f : List ℕ → Parameter} {t : List ℕ} {first leading : Bool} {k l m : List ℕ}
+    {b c d : StreamBuilder} {i e : ℕ}
     → Adding f t first k l b c leading i → NameEnd t i e → Appended l m c d (parted leading (f (slice i e t) ∷ []))
     → Adding f t first k m b d false (e + 1)
 adding-more {f} {t} {leading = leading} {i = i} {e = e} a n p =
@@ -127,13 +128,15 @@ adding-more {f} {t} {leading = leading} {i = i} {e = e} a n p =
           ∙ sym (append-assoc (a .rows) one (parted false others));
     }
 
-pub added-all : {f : List ℕ → Parameter} {t : List ℕ} {first leading : Bool} {k l : List ℕ} {b c : StreamBuilder} {i : ℕ}
+pub added-all : {f : List ℕ → Parameter} {t : List ℕ} {first leading : Bool} {k l : List ℕ}
+    {b c : StreamBuilder} {i : ℕ}
     → Adding f t first k l b c leading i → length t ≤ i → Appended k l b c (parted first (map f (namesOf t)))
 added-all {f} {t} {leading = leading} {k} {l} {b} {c} {i} a h =
     subst (λ (rs : List Row). Appended k l b c rs)
     (sym (a .rest ∙ ap (λ (xs : List (List ℕ)). a .rows ++ parted leading (map f xs)) (no-names t i h)
     ∙ append-nil (a .rows))) (a .appended)
 
-pub same-length : {f : List ℕ → Parameter} {t : List ℕ} {first leading : Bool} {k l : List ℕ} {b c : StreamBuilder} {i : ℕ}
+pub same-length : {f : List ℕ → Parameter} {t : List ℕ} {first leading : Bool} {k l : List ℕ}
+    {b c : StreamBuilder} {i : ℕ}
     → Adding f t first k l b c leading i → length l ≡ length k
 same-length a = kept (a .appended .put)

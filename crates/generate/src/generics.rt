@@ -23,7 +23,8 @@ pub fn put_constraints(
     always: bool,
 ) -> StreamBuilder
     requires { ⌜ Part (now s) from to ⌝ }
-    ensures { λ r. ⌜ RunWritten (now (s .entry)) from to (now (out .entry)) (now (out .exit)) b r (constrained always) ⌝ }
+    ensures { λ r. ⌜ RunWritten (now (s .entry)) from to (now (out .entry)) (now (out .exit)) b r
+        (constrained always) ⌝ }
 {
     if always {
         return put_run(b, out, s, from, to);

@@ -45,7 +45,8 @@ pub fn right_names(text: &[u8]) -> bool
 
 // A name, as a lifetime or a type without bounds.
 fn put_name(b: StreamBuilder, out: &mut [u8], name: &[u8], lifetime: bool) -> StreamBuilder
-    ensures { λ r. ⌜ Appended (now (out .entry)) (now (out .exit)) b r (parameterRows (added lifetime (now (name .entry)))) ⌝ }
+    ensures { λ r. ⌜ Appended (now (out .entry)) (now (out .exit)) b r
+        (parameterRows (added lifetime (now (name .entry)))) ⌝ }
 {
     if lifetime {
         return b.lifetime_str(out, name);

@@ -287,7 +287,8 @@ module _ (q : Row) (us : Trees) where
   parameter-obeys : (p : Parameter) → Stopping q us (runOf p) → typeConst p ≡ false
       → (rs : List ℕ) × g.Parameter withCommas (parameterThen p (leaf q us)) (leaf q us) rs
   parameter-obeys (lifetime n b) s c =
-      let i = bound-obeys b s in (role.parameter-name ∷ role.parameter-name ∷ i .0, g.Parameter.lifetime refl refl refl (i .1))
+      let i = bound-obeys b s in
+      (role.parameter-name ∷ role.parameter-name ∷ i .0, g.Parameter.lifetime refl refl refl (i .1))
   parameter-obeys (constant n t) s c = (
     role.parameter-name ∷ role.parameter-name ∷ role.separator ∷ s .roles,
     g.Parameter.constant refl refl (g.Bound.bound refl (s .run withCommas)) refl,

@@ -30,7 +30,8 @@ returns-3 : tie.Need-returns-3
 returns-3 c ts text rows =
     let run = c .before .before in
     let test = run .before .before in
-    some ts (test .before .before .before .if1 .left) (omega (arith, test .if2 .left, rows)) (run .put-run2 .ensures ts text rows)
+    let flag = test .before .before .before in
+    some ts (flag .if1 .left) (omega (arith, test .if2 .left, rows)) (run .put-run2 .ensures ts text rows)
 
 pub put-constraints-spec : {M : Type 1} → statement M
 put-constraints-spec =
