@@ -1,4 +1,4 @@
--- The rows of docs/DIFFERENCES.md, "Writers": lists, and what the Rust writes for each.
+-- Lists, and what a writer answers for each: the forms of docs/DIFFERENCES.md, "Writers", and of refusal 30.
 use mathlib.Core.Bool.{Bool, true, false, _&&_}
 use mathlib.Core.List.{List, [], _∷_}
 use Prim.Native.Nat.{ℕ}
