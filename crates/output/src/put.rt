@@ -9,7 +9,7 @@ ghost use Rattle.output.specs.Text.{decimal, placeText, refusalText};
 ghost use Rattle.output.specs.Contract.{Put, Printed};
 
 // A place past every output: places stop here.
-const FAR: usize = 0x8000_0000_0000_0000;
+pub const FAR: usize = 0x8000_0000_0000_0000;
 
 pub fn put_byte(out: &mut [u8], at: usize, b: u8) -> usize
     ensures { λ r. ⌜ Put (now (out .entry)) (now (out .exit)) at r (b ∷ []) ⌝ }

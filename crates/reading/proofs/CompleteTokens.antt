@@ -94,7 +94,7 @@ ident-no-punct b q e = and-fails (eqb (q .kind) 112) (eqb (first (q .text)) b) (
 pub punct-no-literal : (b : ℕ) (q : Row) → isPunct b q ≡ true → isLiteral q ≡ false
 punct-no-literal b q e = eqb-other (q .kind) 112 108 (punct-parts b q e .0) refl
 
-same-path : (xs ys : List ℕ) → same xs ys ≡ true → xs ≡ ys
+pub same-path : (xs ys : List ℕ) → same xs ys ≡ true → xs ≡ ys
 same-path [] [] e = refl
 same-path [] (y ∷ ys) e = absurd (false≢true e)
 same-path (x ∷ xs) [] e = absurd (false≢true e)

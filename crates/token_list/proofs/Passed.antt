@@ -42,15 +42,15 @@ joined-lines (b ∷ bs) = joined-byte (eqb b LF) b (lines bs) refl ∙ ap (λ (t
 
 -- ## The form of a row of a kind that opens, closes, or does neither
 
-open-form : (k : ℕ) (t : List ℕ) → eqb k 111 ≡ true → formOf k t ≡ cond (single opening t) (opens (first t)) wrong
+pub open-form : (k : ℕ) (t : List ℕ) → eqb k 111 ≡ true → formOf k t ≡ cond (single opening t) (opens (first t)) wrong
 unfolding formOf
 open-form k t e = rw (eqb-true k 111 e)
 
-close-form : (k : ℕ) (t : List ℕ) → eqb k 99 ≡ true → formOf k t ≡ cond (single closing t) (closed (first t)) wrong
+pub close-form : (k : ℕ) (t : List ℕ) → eqb k 99 ≡ true → formOf k t ≡ cond (single closing t) (closed (first t)) wrong
 unfolding formOf
 close-form k t e = rw (eqb-true k 99 e)
 
-plain-form : (k : ℕ) (t : List ℕ) → eqb k 111 ≡ false → eqb k 99 ≡ false → (b : Bool) ×
+pub plain-form : (k : ℕ) (t : List ℕ) → eqb k 111 ≡ false → eqb k 99 ≡ false → (b : Bool) ×
     (formOf k t ≡ cond b plain wrong)
 unfolding formOf
 plain-form k t o c = go (eqb k 105) (eqb k 108) (eqb k 112)

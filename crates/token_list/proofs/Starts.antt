@@ -14,7 +14,7 @@ use Rattle.token_list.specs.Stream.{rowStart}
 use Rattle.token_list.specs.Contract.{RowEnd}
 
 -- the lines from row r on
-abbrev linesFrom : ℕ → Lines → Lines
+abbrev pub linesFrom : ℕ → Lines → Lines
 linesFrom zero ls = ls
 linesFrom (suc r) (tail t) = tail t
 linesFrom (suc r) (line l ls) = linesFrom r ls
@@ -42,7 +42,7 @@ lines-cut (b ∷ bs) l ls e = go (lines-cut bs) (eqb b LF) (lines bs) refl e
         subst (λ (x : List ℕ). lines (drop (length x + 1) (b ∷ bs)) ≡ ls) text
         (ap (λ (j : ℕ). lines (drop j (b ∷ bs))) n ∙ ih k ks m ∙ rest)
 
-lines-from : (r : ℕ) (bs : List ℕ) → lines (drop (bytesBefore r (lines bs)) bs) ≡ linesFrom r (lines bs)
+pub lines-from : (r : ℕ) (bs : List ℕ) → lines (drop (bytesBefore r (lines bs)) bs) ≡ linesFrom r (lines bs)
 lines-from zero bs = refl
 lines-from (suc r) bs = go (lines-from r) (lines bs) refl
   where

@@ -62,7 +62,7 @@ pub fn closer(d: u8) -> u8
     d
 }
 
-fn is_plain_name(s: &[u8], start: usize, end: usize) -> bool
+pub fn is_plain_name(s: &[u8], start: usize, end: usize) -> bool
     requires { ⌜ end ≤ length (now s) ⌝ }
     ensures { λ r. ⌜ r ≡ plainName (slice start end (now (s .entry))) ⌝ }
 {

@@ -1,0 +1,4 @@
+-- Laws on what a StreamBuilder adds, which proofs cite.
+pub mod Builds
+pub mod Added
+pub mod Constrained

@@ -1,0 +1,4 @@
+// virtue's src/generate, as far as the writers of generics need it.
+pub mod generics;
+pub mod names;
+pub mod stream_builder;

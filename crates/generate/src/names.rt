@@ -1,0 +1,96 @@
+// Added names: the lines of a text.
+use crate::stream_builder::StreamBuilder;
+use token_list::layout::MAX_TEXT;
+use token_list::row::is_plain_name;
+ghost use mathlib.Core.Path.{_≡_};
+ghost use mathlib.Core.List.{[], _∷_, map};
+ghost use Prim.Native.Nat.{_<_};
+ghost use lib.ListN.{length};
+ghost use Rattle.writing.specs.Generics.{parameterRows, parted};
+ghost use Rattle.writing.specs.Names.{namesOf, rightNames};
+ghost use Rattle.generate.specs.Contract.{NameEnd, Appended, added};
+
+// Where the name at `from` ends: at an LF, or with the text.
+pub fn name_end(text: &[u8], from: usize) -> usize
+    requires { ⌜ from < length (now text) ⌝ }
+    ensures { λ r. ⌜ NameEnd (now (text .entry)) from r ⌝ }
+{
+    let mut i = from;
+    while i < text.len() {
+        if text[i] == b'\n' {
+            return i;
+        }
+        i += 1;
+    }
+    i
+}
+
+// Whether every name is an `i` text of at most 255 bytes without `r#`.
+pub fn right_names(text: &[u8]) -> bool
+    ensures { λ r. ⌜ r ≡ rightNames (namesOf (now (text .entry))) ⌝ }
+{
+    let mut i = 0;
+    while i < text.len() {
+        let end = name_end(text, i);
+        if !is_plain_name(text, i, end) {
+            return false;
+        }
+        if MAX_TEXT < end - i {
+            return false;
+        }
+        i = end + 1;
+    }
+    true
+}
+
+// A name, as a lifetime or a type without bounds.
+fn put_name(b: StreamBuilder, out: &mut [u8], name: &[u8], lifetime: bool) -> StreamBuilder
+    ensures { λ r. ⌜ Appended (now (out .entry)) (now (out .exit)) b r
+        (parameterRows (added lifetime (now (name .entry)))) ⌝ }
+{
+    if lifetime {
+        return b.lifetime_str(out, name);
+    }
+    b.ident_str(out, name)
+}
+
+// The same behind a `,`, the first parameter apart.
+fn add_name(
+    b: StreamBuilder,
+    out: &mut [u8],
+    name: &[u8],
+    lifetime: bool,
+    first: bool,
+) -> StreamBuilder
+    ensures { λ r. ⌜ Appended (now (out .entry)) (now (out .exit)) b r
+        (parted first (added lifetime (now (name .entry)) ∷ [])) ⌝ }
+{
+    if first {
+        return put_name(b, out, name, lifetime);
+    }
+    let parting = b.punct(out, b',');
+    put_name(parting, out, name, lifetime)
+}
+
+// All names of a text.
+pub fn add_names(
+    b: StreamBuilder,
+    out: &mut [u8],
+    text: &[u8],
+    lifetimes: bool,
+    first: bool,
+) -> StreamBuilder
+    ensures { λ r. ⌜ Appended (now (out .entry)) (now (out .exit)) b r
+        (parted first (map (added lifetimes) (namesOf (now (text .entry))))) ⌝ }
+{
+    let mut builder = b;
+    let mut leading = first;
+    let mut i = 0;
+    while i < text.len() {
+        let end = name_end(text, i);
+        builder = add_name(builder, out, &text[i..end], lifetimes, leading);
+        leading = false;
+        i = end + 1;
+    }
+    builder
+}

@@ -1,0 +1,92 @@
+-- The whole answer of each writer, and the whole output (document 01, "What the reader hands back": the list check, the
+-- reading left to right, then 30, and the output's length last).
+use mathlib.Core.Path.{_≡_}
+use mathlib.Core.Bool.{Bool, true, false, cond, _&&_, _||_}
+use mathlib.Core.List.{List, []}
+use Prim.Native.Nat.{ℕ, _+_, _*_, _≤_}
+use lib.Dec.{ltb, eqb}
+use lib.ListN.{length}
+use lib.Seq.{sets}
+use Rattle.token_list.specs.Layout.{MAX-BYTES, MAX-ROWS}
+use Rattle.token_list.specs.Check as list
+use Rattle.reading.specs.Declaration.{Parameter, Declaration}
+use Rattle.reading.specs.Took.{Took, took, stopped}
+use Rattle.reading.specs.Answer.{framed, readNumber}
+use Rattle.writing.specs.Rows.{listOf}
+use Rattle.writing.specs.Generics as generics
+use Rattle.writing.specs.Names.{namesOf, rightNames}
+
+pub data Answer : Type 0 where
+  -- the list
+  wrote : List ℕ → Answer
+  -- the refusal's number and place
+  refused : ℕ → ℕ → Answer
+
+-- a writer, by what it makes of the declared parameters, and whether every added name is right
+pub record Writer : Type 0 where
+  pub parameters : List Parameter → List Parameter
+  pub right : Bool
+
+abbrev pub implGenerics : Writer
+implGenerics = record { parameters = generics.declared; right = true }
+
+abbrev pub typeGenerics : Writer
+typeGenerics = record { parameters = generics.names; right = true }
+
+-- of the texts of lifetimes and types
+abbrev pub withAdditional : List ℕ → List ℕ → Writer
+withAdditional ls ts =
+    record {
+      parameters = generics.additional (namesOf ls) (namesOf ts);
+      right = rightNames (namesOf ls) && rightNames (namesOf ts);
+    }
+
+-- the list that is written for a declaration
+abbrev pub text : Writer → Declaration → List ℕ
+text w d = listOf (generics.genericsRows (w .parameters) (d .generics))
+
+-- 30 is given also where the declaration has no generics
+abbrev pub itemAnswer : Writer → Took Declaration → Answer
+itemAnswer w (took d rs us) = cond (w .right) (wrote (text w d)) (refused 30 list.END)
+itemAnswer w (stopped c n p) = refused n p
+
+-- for a list, where there is room
+unfoldable pub whole : Writer → List ℕ → Answer
+whole w s = framed refused (λ rows. false) (itemAnswer w) s (list.check s)
+
+-- in an output of n bytes
+abbrev pub fitted : ℕ → Answer → Answer
+fitted n (wrote t) = cond (ltb n (length t)) (refused 8 list.END) (wrote t)
+fitted n (refused m p) = refused m p
+
+-- for a list and an output of n bytes
+unfoldable pub answer : Writer → List ℕ → ℕ → Answer
+answer w s n = fitted n (whole w s)
+
+-- the output: the list, and past it the bytes that stood there; after a refusal all stay
+abbrev pub output : List ℕ → Answer → List ℕ
+output x (wrote t) = sets x 0 t
+output x (refused n p) = x
+
+-- the numbers of a writer's refusals
+abbrev pub writeNumber : ℕ → Bool
+writeNumber n = readNumber n || eqb n 30
+
+-- ## How long an output can be needed
+
+-- a `,` and the `:` of a const that had none: two rows of four bytes for each parameter, which has a row in the list
+abbrev pub MOST : ℕ
+MOST = MAX-BYTES + 8 * MAX-ROWS
+
+-- added names: each has its bytes, its row's other three, a `,` and, as a lifetime, a `'`
+abbrev pub addedBytes : List ℕ → List ℕ → ℕ
+addedBytes ls ts = (length ls + 11 * length (namesOf ls)) + (length ts + 7 * length (namesOf ts))
+
+abbrev pub mostWith : List ℕ → List ℕ → ℕ
+mostWith ls ts = MOST + addedBytes ls ts
+
+-- a writer that never needs more than `most` bytes, of a list s and an output of n bytes
+pub record Fits (w : Writer) (most : ℕ) (s : List ℕ) (n : ℕ) : Type 0 where
+  pub longest : (t : List ℕ) → whole w s ≡ wrote t → length t ≤ most
+  -- an output of that length has room
+  pub room : most ≤ n → answer w s n ≡ whole w s
