@@ -156,5 +156,6 @@ module _ {A : Type 0} (m : Reader (Maybe A)) (rd : Rounding m) {s : List ℕ} {f
       go : {t : Took (Maybe A)} → m (c .row) (stream s c) ≡ t → Meets s c b1 b2 sh (no n p) t →
           Meets s from b0 b2 sh2 (no n p) was
       go e (refuses qs q) =
-          subst⁻¹ (Meets s from b0 b2 sh2 (no n p)) (k .gathering .same ∙ ap (gathered (k .gathering .got) (k .gathering .taken)) (step e))
+          subst⁻¹ (Meets s from b0 b2 sh2 (no n p))
+          (k .gathering .same ∙ ap (gathered (k .gathering .got) (k .gathering .taken)) (step e))
           (refuses (k .gathering .taken ++ qs) (marked-on qs (k .gathering .moved) q))

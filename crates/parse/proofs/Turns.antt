@@ -1,19 +1,19 @@
 -- Laws on runs, a token at a time.
 use mathlib.Core.Path.{_≡_, refl, ap, _∙_, sym, subst, subst⁻¹}
-use mathlib.Core.Bool.{Bool, true, false, cond, _&&_, _||_}
+use mathlib.Core.Bool.{Bool, true, false, cond, _&&_}
 use mathlib.Core.List.{List, [], _∷_}
 use Prim.Native.Nat.{ℕ, _+_, _-_, _≤_}
 use native.Mathlib.Omega.{arith}
 use lib.Dec.{eqb}
-use lib.ListN.{length, set, length-replicate}
+use lib.ListN.{length, set}
 use Rattle.token_list.specs.Row.{Row, first}
-use Rattle.token_list.specs.Stream.{Trees, end, leaf, group, head, at}
+use Rattle.token_list.specs.Stream.{Trees, end, leaf, head, at}
 use Rattle.token_list.specs.Contract.{InList, TokenAt, LeafAt, GroupAt, rowOf}
 use Rattle.token_list.specs.declared.check.Cursor.{Cursor}
 use Rattle.token_list.specs.declared.stream.Token.{Token}
 use Rattle.token_list.proofs.Texts.{chosen, passed-over}
 use Rattle.reading.specs.Took.{Took, took, refuse, onward}
-use Rattle.reading.specs.Reading.{Stops, stopping, Ending, atEnd, atAngle, atComma, atGroup, RunEnd, ended, Verdict, belongs, ends, unopened, judge, judgePunct, judged, runFrom, front, kept, run, copied, whole}
+use Rattle.reading.specs.Reading.{Stops, stopping, Ending, atEnd, atAngle, atComma, atGroup, RunEnd, ended, Verdict, belongs, ends, unopened, judge, judgePunct, judged, runFrom, front, kept, run, copied}
 use Rattle.parse.specs.Contract.{Moved, on, no, any, Meets, stands, refuses, stream, point, CursorAt, InsideAt, pastOf, Belonged, runEndOf, RunAt}
 use Rattle.parse.specs.declared.runs.Run.{Run}
 use Rattle.reading.specs.Place.{endOf}

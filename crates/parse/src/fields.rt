@@ -29,7 +29,7 @@ ghost use Rattle.token_list.specs.Contract.{InList, GroupAt, Skipped};
 ghost use Rattle.reading.specs.Role.{delimiter};
 ghost use Rattle.reading.specs.Place.{pastToken};
 ghost use Rattle.reading.specs.Reading.{every, fieldAfter, namedField, tupleType, tupleField};
-ghost use Rattle.parse.specs.Contract.{Meets, any, stream, stepSaid, point, Prefix, fieldType, typeAtShown, typeSaid, NamedAt, fieldShown, fieldSaid, namedShown, namedSaid, unnamedShown, unnamedSaid, nextShown, nextSaid, countShown, countSaid, Inside};
+ghost use Rattle.parse.specs.Contract.{Meets, stream, point, Prefix, fieldType, typeAtShown, typeSaid, NamedAt, fieldShown, fieldSaid, namedShown, namedSaid, unnamedShown, unnamedSaid, nextShown, nextSaid, countShown, countSaid, Inside};
 
 // A type: its run, and the cursor after the `,` that may follow.
 pub struct TypeAt {
@@ -195,62 +195,20 @@ pub fn named_field_at(s: &[u8], c: Cursor, roles: &mut [u8]) -> FieldStep
     }
 }
 
-// A type's run and the `,` that may follow, without the places: a record of them goes through memory,
-// and with it empty types took one and a half times as long (docs/PERFORMANCE.md). So the three
-// functions below say again what field_type, tuple_type and tuple_field_at say.
-fn type_end(s: &[u8], c: Cursor, roles: &mut [u8]) -> Step
-    requires { ⌜ InList (now s) c ⌝ }
-    ensures { λ r. ⌜ Meets (now (s .entry)) c (now (roles .entry)) (now (roles .exit)) any (stepSaid r)
-        (fieldType (c .row) (stream (now (s .entry)) c)) ⌝ }
-{
-    match read_tokens_until_punct(
-        s,
-        c,
-        roles,
-        Stops {
-            comma: true,
-            angle: false,
-            group: false,
-        },
-        role::TYPE,
-    ) {
-        RunStep::Refused(r) => Step::Refused(r),
-        RunStep::At(to, _, _) => {
-            let p = consume_punct_if(s, to, roles, b',', role::SEPARATOR);
-            let next = p.next;
-            Step::At(next)
-        }
-    }
-}
-
-fn tuple_end(s: &[u8], c: Cursor, roles: &mut [u8]) -> NextStep
-    requires { ⌜ InList (now s) c ⌝ }
-    ensures { λ r. ⌜ Meets (now (s .entry)) c (now (roles .entry)) (now (roles .exit)) (nextShown r) (nextSaid r)
-        (tupleType (c .row) (stream (now (s .entry)) c)) ⌝ }
-{
-    match attributes::try_take(s, c, roles) {
-        Step::Refused(r) => NextStep::Refused(r),
-        Step::At(visibility) => {
-            let d = visibility::try_take(s, visibility, roles);
-            match type_end(s, d, roles) {
-                Step::Refused(r) => NextStep::Refused(r),
-                Step::At(next) => NextStep::One(next),
-            }
-        }
-    }
-}
-
 // One field without a name, or the end: for those who ask only where it ends.
 pub fn tuple_field(s: &[u8], c: Cursor, roles: &mut [u8]) -> NextStep
     requires { ⌜ InList (now s) c ⌝ }
     ensures { λ r. ⌜ Meets (now (s .entry)) c (now (roles .entry)) (now (roles .exit)) (nextShown r) (nextSaid r)
         (tupleField (c .row) (stream (now (s .entry)) c)) ⌝ }
 {
-    let l = look(s, c);
-    if l.kind == 0 {
-        return NextStep::Done(c);
+    match tuple_field_at(s, c, roles) {
+        UnnamedFieldStep::Refused(r) => NextStep::Refused(r),
+        UnnamedFieldStep::Done(d) => NextStep::Done(d),
+        UnnamedFieldStep::One(f) => {
+            let next = f.next;
+            NextStep::One(next)
+        }
     }
-    tuple_end(s, c, roles)
 }
 
 // One field without a name with the places of its parts, or the end.

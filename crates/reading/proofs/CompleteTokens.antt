@@ -3,7 +3,7 @@
 use mathlib.Core.Path.{_≡_, refl, ap, _∙_, sym, subst}
 use mathlib.Core.Bool.{Bool, true, false, cond, not, _&&_, _||_, false≢true}
 use mathlib.Core.List.{List, [], _∷_, _++_, append-nil}
-use Prim.Native.Nat.{ℕ, _+_, _-_, _<_}
+use Prim.Native.Nat.{ℕ, _+_, _-_}
 use borrow.Author.Tests.{eqb-true}
 use lib.Dec.{eqb}
 use lib.ListN.{length}
@@ -18,7 +18,7 @@ use Rattle.reading.specs.Grammar.{everything}
 use Rattle.reading.specs.Declaration.{default, public, restricted, Kind, struct, enum}
 use Rattle.reading.specs.Took.{Took, took, refuse, Reader, onward, after, _>>=_, pure}
 use Rattle.reading.specs.Reading as r
-use Rattle.reading.specs.Reading.{one, Word, missing, found, Ending, Verdict, belongs, ends, unopened}
+use Rattle.reading.specs.Reading.{Word, missing, found, Ending, Verdict, belongs, ends, unopened}
 use Rattle.reading.proofs.SoundTokens.{kindWord}
 
 -- a reader's answer: it takes, with these roles and this rest, and P holds of the value

@@ -1,20 +1,18 @@
 -- Every reader of declarations gives each row that it takes one role, and what goes round takes a row each time.
-use mathlib.Core.Path.{_≡_, refl, ap, _∙_, sym, subst}
-use mathlib.Core.Bool.{Bool, true, false, cond, _&&_, _||_, false≢true}
-use mathlib.Core.List.{List, [], _∷_, _++_}
-use Prim.Native.Nat.{ℕ, zero, suc, _+_, _-_, _≤_, _<_, max}
+use mathlib.Core.Path.{_≡_, refl}
+use mathlib.Core.Bool.{Bool, true, false, cond, _&&_, false≢true}
+use mathlib.Core.List.{List, [], _∷_}
+use Prim.Native.Nat.{ℕ, _+_}
 use native.Mathlib.Omega.{arith}
-use borrow.Author.Tests.{eqb-true}
-use lib.Dec.{eqb, leb}
-use lib.ListN.{length, replicate, length-append, length-replicate}
+use lib.Dec.{eqb}
 use Rattle.token_list.specs.Text.{same}
 use Rattle.token_list.specs.Row.{Row, first}
 use Rattle.token_list.specs.Stream.{Trees, end, leaf, group, size}
 use Rattle.reading.specs.Role as role
-use Rattle.reading.specs.Declaration.{Visibility, Kind, struct, enum, Parameter, UnnamedField, Field, Fields, Value, Variant, Body, Declaration}
-use Rattle.reading.specs.Took.{Took, took, refuse, Reader, onward, after, _>>=_, pure, wrong}
+use Rattle.reading.specs.Declaration.{Visibility, Kind, struct, enum, UnnamedField, Fields, Variant, Body}
+use Rattle.reading.specs.Took.{Took, took, Reader, onward, after, _>>=_, pure}
 use Rattle.reading.specs.Reading as r
-use Rattle.reading.specs.Reading.{Maybe, done, one, Word, missing, found, Stops, Ending, RunEnd, Verdict, belongs, ends, unopened, rounds, every, more}
+use Rattle.reading.specs.Reading.{Maybe, one, Word, missing, found, Stops, Ending, RunEnd, Verdict, belongs, ends, unopened}
 pub use Rattle.reading.proofs.Rounds.{Parted, past-none, past-leaf, past-group, past-both, ownNumber, Conserved, Conserving, conserved, refusal-number, onward-conserved, after-conserved, bind, pure-conserving, choice, reader-choice, nothing-taken, from-conserved, copied-length, copied-conserved, copied-alone, one-row, Shorter, onward-shorter, onward-still, after-shorter, least, after-still, shorter-choice, from-shorter, looser, Round, Rounding, round-conserved, shorter-round, round-choice, onward-round, after-round, Ended, ended-at, Last, Lasting, onward-last, after-last, bind-last, last-choice, closing-conserved, pure-after-ended, fuel, every-step, every-conserving, every-ended}
 use Rattle.reading.proofs.Rounds.{taken, shorter, another, finished, ended, last, refused}
 
@@ -222,7 +220,8 @@ module _ {A : Type 0} (made : Trees → A) where
   tail-leaf : (row : ℕ) (q : Row) (us : Trees) (v : Verdict) (go : ℕ → Bool → Took RunEnd) →
       r.judge r.fieldStops 0 false q ≡ v
       → ((e : ℕ) (m : Bool) → Shorter (size (leaf q us)) (leaf q us) (go e m))
-      → Shorter (size (leaf q us)) (leaf q us) (after row (r.kept (leaf q us) (r.judged 0 v go (leaf q us) row)) withComma)
+      → Shorter (size (leaf q us)) (leaf q us)
+      (after row (r.kept (leaf q us) (r.judged 0 v go (leaf q us) row)) withComma)
   tail-leaf row q us (belongs e m) go j k =
       after-shorter row withComma (kept-shorter (leaf q us) (k e m)) (λ t. comma-conserving (made t))
   tail-leaf row q us (ends e) go j k = taken-comma (r.isPunct 44 q) (judge-comma q e j)
@@ -290,7 +289,8 @@ namedField-last = bind-last r.attributes (λ a. bind-last r.visibility (fieldSta
 
 pub tupleType-last : Lasting r.tupleType
 tupleType-last =
-    bind-last r.attributes (λ a. bind-last r.visibility (λ v. bind-last (r.run r.fieldStops role.type) (λ t. comma-last _)))
+    bind-last r.attributes
+    (λ a. bind-last r.visibility (λ v. bind-last (r.run r.fieldStops role.type) (λ t. comma-last _)))
 
 pub tupleField-last : Lasting r.tupleField
 tupleField-last row end = last []

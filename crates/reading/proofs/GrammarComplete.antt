@@ -1,13 +1,13 @@
 -- What the role grammar admits, the reader of that production takes, with the same roles: generics, bodies and the
 -- item. So an assignment that obeys is the reading's own.
 use mathlib.Core.Path.{_≡_, refl, ap, _∙_, sym, subst}
-use mathlib.Core.Bool.{Bool, true, false, not, _||_, false≢true}
+use mathlib.Core.Bool.{Bool, true, false, _||_, false≢true}
 use mathlib.Core.List.{List, [], _∷_, _++_, append-nil}
-use Prim.Native.Nat.{ℕ, _+_, _-_}
+use Prim.Native.Nat.{ℕ, _+_}
 use lib.Dec.{eqb}
 use lib.ListN.{replicate}
 use Rattle.token_list.specs.Text.{same}
-use Rattle.token_list.specs.Row.{Row, first}
+use Rattle.token_list.specs.Row.{Row}
 use Rattle.token_list.specs.Stream.{Trees, end, leaf, group, size}
 use Rattle.token_list.proofs.Texts.{and-parts, chosen, passed-over}
 use Rattle.reading.specs.Role as role
@@ -15,7 +15,7 @@ use Rattle.reading.specs.Token.{isIdent, isLiteral, isPunct, isWord, sta
 use Rattle.reading.specs.Grammar as g
 use Rattle.reading.specs.Grammar.{everything}
 use Rattle.reading.specs.Declaration.{Visibility, Kind, struct, enum, Parameter, Generics, Constraints, unconstrained, constrained, Field, Fields, Value, absent, Variant, Body, Declaration, without, angled}
-use Rattle.reading.specs.Took.{Took, took, Reader, onward, after, _>>=_, pure}
+use Rattle.reading.specs.Took.{Took, took, Reader, onward, _>>=_, pure}
 use Rattle.reading.specs.Reading as r
 use Rattle.reading.specs.Reading.{Maybe, done, one, every, more}
 use Rattle.reading.proofs.Conserved as c

@@ -2,7 +2,7 @@
 use mathlib.Core.Path.{_≡_, refl, ap, _∙_, sym, subst}
 use mathlib.Core.Bool.{Bool, true, false, _||_}
 use mathlib.Core.List.{List, [], _∷_, _++_, append-nil}
-use Prim.Native.Nat.{ℕ, zero, suc, _+_, _-_}
+use Prim.Native.Nat.{ℕ, zero, suc, _+_}
 use lib.Dec.{eqb}
 use lib.ListN.{replicate}
 use Rattle.token_list.specs.Row.{Row}
@@ -12,7 +12,7 @@ use Rattle.reading.specs.Token.{isIdent, isLiteral, isPunct, isWord, sta
 use Rattle.reading.specs.Grammar as g
 use Rattle.reading.specs.Grammar.{everything}
 use Rattle.reading.specs.Declaration.{Visibility, Kind, struct, enum, Parameter, constrained, UnnamedField, Field, Fields, Value, absent, Variant, Body, Declaration}
-use Rattle.reading.specs.Took.{Took, took, Reader, onward, after, _>>=_, pure}
+use Rattle.reading.specs.Took.{Took, took, Reader, onward, _>>=_, pure}
 use Rattle.reading.specs.Reading as r
 use Rattle.reading.specs.Reading.{Maybe, done, one, Word, rounds, every, more}
 use Rattle.reading.proofs.SoundTokens.{Meets, met, refused, met-by, choice, onward-met, onward-still, after-met, pure-met, run-sound, attributes-sound, visibility-sound, name-then, kindWord, dataType-sound}

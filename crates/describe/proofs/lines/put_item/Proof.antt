@@ -27,10 +27,12 @@ same-length c = search needs
 
 returns : tie.Need-returns
 returns c =
-    let put-position = c .before .before .put-position in
+    let back8 = c .before .before .before .before .before .before .before .before in
+    let back16 = back8 .before .before .before .before .before .before .before .before in
+    let args = back16 .args in
+    let put-bytes = back8 .before .before .before .put-bytes in
     let put-kind = c .before .before .before .before .before .before .put-kind in
-    let put-bytes = c .before .before .before .before .before .before .before .before .before .before .before .put-bytes in
-    let args = c .before .before .before .before .before .before .before .before .before .before .before .before .before .before .before .before .args in
+    let put-position = c .before .before .put-position in
     let name = slice (args .d .name .start) (args .d .name .end) (args .s .now) in
     let kind = kindText (contract.kindOf (args .d .kind)) in
     λ x k.

@@ -29,11 +29,12 @@ same-length c = search needs
 
 returns : tie.Need-returns
 returns c =
-    let put-bytes = c .before .before .put-bytes in
+    let back8 = c .before .before .before .before .before .before .before .before in
+    let args = back8 .before .before .before .before .before .before .before .args in
+    let is-lifetime = back8 .before .before .before .is-lifetime in
+    let if1 = back8 .before .before .if1 in
     let put-head = c .before .before .before .before .before .before .before .put-head in
-    let if1 = c .before .before .before .before .before .before .before .before .before .before .if1 in
-    let args = c .before .before .before .before .before .before .before .before .before .before .before .before .before .before .before .args in
-    let is-lifetime = c .before .before .before .before .before .before .before .before .before .before .before .is-lifetime in
+    let put-bytes = c .before .before .put-bytes in
     let name = slice (args .p .name .start) (args .p .name .end) (args .s .now) in
     λ a k.
     let same = quoted a (sym (ap isLifetime (k .kind)) ∙ sym (is-lifetime .ensures) ∙ if1 .taken) ∙ ap (λ n. 39 ∷ n) (k .text .bytes) in
@@ -56,11 +57,12 @@ same-length-2 c = search needs
 
 returns-2 : tie.Need-returns-2
 returns-2 c =
-    let put-bytes2 = c .before .before .put-bytes2 in
+    let back8 = c .before .before .before .before .before .before .before .before in
+    let args = back8 .before .before .before .before .before .before .before .args in
+    let is-lifetime = back8 .before .before .before .is-lifetime in
+    let if1 = back8 .before .before .if1 in
     let put-head2 = c .before .before .before .before .before .before .before .put-head2 in
-    let if1 = c .before .before .before .before .before .before .before .before .before .before .if1 in
-    let args = c .before .before .before .before .before .before .before .before .before .before .before .before .before .before .before .args in
-    let is-lifetime = c .before .before .before .before .before .before .before .before .before .before .before .is-lifetime in
+    let put-bytes2 = c .before .before .put-bytes2 in
     let name = slice (args .p .name .start) (args .p .name .end) (args .s .now) in
     λ a k.
     let same = unquoted a (sym (ap isLifetime (k .kind)) ∙ sym (is-lifetime .ensures) ∙ if1 .left) ∙ k .text .bytes in

@@ -19,7 +19,8 @@ put-byte-requires c κs = search needs
 
 put-value-requires : tie.Need-put-value-requires
 put-value-requires c κs =
-    let pre = c .before .before .before .before .before .before .before .before .before .before .before .before .before .pre in
+    let back8 = c .before .before .before .before .before .before .before .before in
+    let pre = back8 .before .before .before .before .before .pre in
     (pre .0 .value, pre .1 .value)
 
 put-byte-requires-2 : tie.Need-put-byte-requires-2
@@ -30,11 +31,13 @@ same-length c = search needs
 
 returns : tie.Need-returns
 returns c =
-    let put-byte2 = c .before .before .put-byte2 in
+    let back8 = c .before .before .before .before .before .before .before .before in
+    let back16 = back8 .before .before .before .before .before .before .before .before in
+    let args = back16 .before .before .before .before .args in
+    let put-head = back8 .before .before .before .before .before .before .put-head in
+    let put-byte = back8 .before .before .put-byte in
     let put-value = c .before .before .before .before .before .before .put-value in
-    let put-byte = c .before .before .before .before .before .before .before .before .before .before .put-byte in
-    let put-head = c .before .before .before .before .before .before .before .before .before .before .before .before .before .before .put-head in
-    let args = c .before .before .before .before .before .before .before .before .before .before .before .before .before .before .before .before .before .before .before .before .args in
+    let put-byte2 = c .before .before .put-byte2 in
     let name = slice (args .v .name .start) (args .v .name .end) (args .s .now) in
     λ a k.
     let n = number (args .n) (a .value) in

@@ -37,22 +37,23 @@ put-named-requires c κs =
 
 add-count : tie.Need-add-count Inv-loop μ-loop
 add-count c =
-    let loop = c .before .before .before .before .before .before .before .before .before .before .before .loop in
-    let good = c .before .before .before .before .before .before .before .before .before .before .before .before .before .before .before .good in
+    let back8 = c .before .before .before .before .before .before .before .before in
+    let good = back8 .before .before .before .before .before .before .before .good in
+    let loop = back8 .before .before .before .loop in
     omega (arith, loop .inv .few, loop .inv .inList .within, good)
 
 loop-less : tie.Need-loop-less Inv-loop μ-loop
 loop-less c =
     let loop = c .before .before .before .before .before .before .before .before .before .before .before .loop in
-    let name = c .before .before .before .before .before .name in
     let named-field = c .before .before .before .before .before .before .before .before .before .named-field in
+    let name = c .before .before .before .before .before .name in
     lined-less named (loop .inv) (turn named (name .given .1) (named-field .ensures)) (λ v h. (h .0, h .1, h .2))
 
 loop-again : tie.Need-loop-again Inv-loop μ-loop
 loop-again c =
     let loop = c .before .before .before .before .before .before .before .before .before .before .before .loop in
-    let name = c .before .before .before .before .before .name in
     let named-field = c .before .before .before .before .before .before .before .before .before .named-field in
+    let name = c .before .before .before .before .before .name in
     let put-named = c .before .before .put-named in
     lined-more named (loop .inv) (turn named (name .given .1) (named-field .ensures)) (λ v h. (h .0, h .1, h .2))
     (λ a t. put-as (ap (λ n. line FIELD n (decimal (loop .count))) (t .bytes)) (put-named .ensures))

@@ -28,8 +28,9 @@ enum-known-p c = search needs
 
 put-parameter-requires : tie.Need-put-parameter-requires Inv-loop μ-loop
 put-parameter-requires c κs =
+    let before = c .before .before .before .before .before .before in
     let p = c .before .before .p in
-    let after-parameter = c .before .before .before .before .before .before in
+    let after-parameter = before in
     let parameter = after-parameter .parameter in
     let angle = after-parameter .before .before .before .before .before .before .args .angle in
     let m = meets-tells (turn (parameters angle) (p .given .1) (parameter .ensures)) in
@@ -37,8 +38,9 @@ put-parameter-requires c κs =
 
 loop-less : tie.Need-loop-less Inv-loop μ-loop
 loop-less c =
+    let before = c .before .before .before .before .before .before .before .before .before .before in
     let p = c .before .before .before .before .before .before .p in
-    let after-parameter = c .before .before .before .before .before .before .before .before .before .before in
+    let after-parameter = before in
     let parameter = after-parameter .parameter in
     let loop = after-parameter .before .before .loop in
     let q = parameters (after-parameter .before .before .before .before .before .before .args .angle) in
@@ -46,8 +48,9 @@ loop-less c =
 
 loop-again : tie.Need-loop-again Inv-loop μ-loop
 loop-again c =
+    let before = c .before .before .before .before .before .before .before .before .before .before in
     let p = c .before .before .before .before .before .before .p in
-    let after-parameter = c .before .before .before .before .before .before .before .before .before .before in
+    let after-parameter = before in
     let parameter = after-parameter .parameter in
     let loop = after-parameter .before .before .loop in
     let q = parameters (after-parameter .before .before .before .before .before .before .args .angle) in
@@ -73,9 +76,10 @@ same-length-2 c =
 
 returns : tie.Need-returns Inv-loop μ-loop
 returns c =
-    let q = parameters (c .before .before .before .before .before .before .before .before .before .before .args .angle) in
+    let args = c .before .before .before .before .before .before .before .before .before .before .args in
     let loop = c .before .before .before .before .before .before .loop in
     let parameter = c .before .before .before .before .parameter in
+    let q = parameters (args .angle) in
     λ xs k. lined-done q (loop .inv .1) (turn q (c .enum-told .given .1) (parameter .ensures)) (λ v h. h) xs k
 
 enum-told-2 : tie.Need-enum-told-2 Inv-loop μ-loop
@@ -94,9 +98,10 @@ same-length-4 c =
 
 returns-2 : tie.Need-returns-2 Inv-loop μ-loop
 returns-2 c =
-    let q = parameters (c .before .before .before .before .before .before .before .before .before .before .args .angle) in
+    let args = c .before .before .before .before .before .before .before .before .before .before .args in
     let loop = c .before .before .before .before .before .before .loop in
     let parameter = c .before .before .before .before .parameter in
+    let q = parameters (args .angle) in
     λ xs k. lined-refused q (loop .inv .1) (turn q (c .enum-told2 .given .1) (parameter .ensures)) xs k
 
 pub parameter-lines-spec : {M : Type 1} → statement M

@@ -13,7 +13,8 @@ generics-lines-requires c κs =
 
 body-lines-requires : tie.Need-body-lines-requires
 body-lines-requires c κs =
-    let after-generics-lines = c .before .before .before .before .before .before in
+    let before = c .before .before .before .before .before .before in
+    let after-generics-lines = before in
     let pre = after-generics-lines .before .before .before .before .before .before .before .before .before .before .before .pre in
     pre .1 .body .inList
 
@@ -25,8 +26,9 @@ same-length-2 c = search needs
 
 returns : tie.Need-returns
 returns c =
+    let before = c .before .before .before .before .before .before .before .before .before .before .before in
     let body-lines = c .before .before .before .before .body-lines in
-    let after-generics-lines = c .before .before .before .before .before .before .before .before .before .before .before in
+    let after-generics-lines = before in
     let generics-lines = after-generics-lines .generics-lines in
     let put-item = after-generics-lines .before .before .before .before .before .before .put-item in
     λ x k.

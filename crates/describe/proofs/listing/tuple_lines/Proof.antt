@@ -30,22 +30,23 @@ put-unnamed-requires c κs = search needs
 
 add-count : tie.Need-add-count Inv-loop μ-loop
 add-count c =
-    let loop = c .before .before .before .before .before .before .before .before .before .before .before .loop in
-    let good = c .before .before .before .before .before .before .before .before .before .before .before .before .before .before .before .good in
+    let back8 = c .before .before .before .before .before .before .before .before in
+    let good = back8 .before .before .before .before .before .before .before .good in
+    let loop = back8 .before .before .before .loop in
     omega (arith, loop .inv .few, loop .inv .inList .within, good)
 
 loop-less : tie.Need-loop-less Inv-loop μ-loop
 loop-less c =
     let loop = c .before .before .before .before .before .before .before .before .before .before .before .loop in
-    let next = c .before .before .before .before .before .next in
     let tuple-field = c .before .before .before .before .before .before .before .before .before .tuple-field in
+    let next = c .before .before .before .before .before .next in
     lined-less tuple (loop .inv) (turn tuple (next .given .1) (tuple-field .ensures)) (λ v h. (h .0, h .1, tt {0}))
 
 loop-again : tie.Need-loop-again Inv-loop μ-loop
 loop-again c =
     let loop = c .before .before .before .before .before .before .before .before .before .before .before .loop in
-    let next = c .before .before .before .before .before .next in
     let tuple-field = c .before .before .before .before .before .before .before .before .before .tuple-field in
+    let next = c .before .before .before .before .before .next in
     let put-unnamed = c .before .before .put-unnamed in
     lined-more tuple (loop .inv) (turn tuple (next .given .1) (tuple-field .ensures)) (λ v h. (h .0, h .1, tt {0}))
     (λ a t. put-unnamed .ensures) (tuple-field .kept .1 .1 .0) (put-unnamed .kept .0)

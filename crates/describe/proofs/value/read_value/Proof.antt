@@ -30,9 +30,10 @@ value-requires c κs =
 
 put-value-requires : tie.Need-put-value-requires
 put-value-requires c κs =
-    let args = c .before .before .before .before .before .before .before .before .before .before .before .before .before .before .before .args in
-    let pre = c .before .before .before .before .before .before .before .before .before .before .before .before .before .before .before .pre in
-    let item = c .before .before .before .before .before .before .before .before .before .before .item in
+    let back8 = c .before .before .before .before .before .before .before .before in
+    let args = back8 .before .before .before .before .before .before .before .args in
+    let pre = back8 .before .before .before .before .before .before .before .pre in
+    let item = back8 .before .before .item in
     let d = c .before .before .before .before .before .before .d in
     let value = c .before .before .before .value in
     let m = meets-tells (meeting.say (itemShown (args .s .now) first) itemSaid (d .given .1) (item .ensures)) in
@@ -57,10 +58,12 @@ same-length-3 c = search needs
 
 returns-2 : tie.Need-returns-2
 returns-2 c =
-    let args = c .before .before .before .before .before .before .before .before .before .before .before .before .before .before .before .before .before .before .args in
-    let pre = c .before .before .before .before .before .before .before .before .before .before .before .before .before .before .before .before .before .before .pre in
-    let item = c .before .before .before .before .before .before .before .before .before .before .before .before .before .item in
-    let d = c .before .before .before .before .before .before .before .before .before .d in
+    let back8 = c .before .before .before .before .before .before .before .before in
+    let back16 = back8 .before .before .before .before .before .before .before .before in
+    let args = back16 .before .before .args in
+    let pre = back16 .before .before .pre in
+    let item = back8 .before .before .before .before .before .item in
+    let d = back8 .before .d in
     let value = c .before .before .before .before .before .before .value in
     let m = meets-tells (meeting.say (itemShown (args .s .now) first) itemSaid (d .given .1) (item .ensures)) in
     let there = ap (λ (x : Point). variantAt (args .position) (inside x)) (m .4 .1 .body .here) in

@@ -72,9 +72,10 @@ same-length c = search needs
 
 returns-4 : tie.Need-returns-4
 returns-4 c =
-    let args = c .before .before .before .before .before .before .before .before .before .before .before .before .before .before .args in
-    let enum-told2 = c .before .before .before .before .before .before .before .before .before .before .enum-told2 in
-    let peek = c .before .before .before .before .before .before .before .before .peek in
+    let back8 = c .before .before .before .before .before .before .before .before in
+    let args = back8 .before .before .before .before .before .before .args in
+    let enum-told2 = back8 .before .before .enum-told2 in
+    let peek = back8 .peek in
     let t = c .before .before .before .before .before .before .t in
     let past = c .before .before .before .before .past in
     let find = c .before .before .find in

@@ -64,11 +64,11 @@ is-punct-requires-2 c κs = search needs
 
 returns-2 : tie.Need-returns-2
 returns-2 c =
-    let pre = c .before .before .before .before .before .before .before .before .before .before .before .before .before .before .before .pre in
-    let peek =
-    c .before .before .before .before .before .before .before .before .before .before .before .before .peek in
-    let t = c .before .before .before .before .before .before .before .before .before .before .t in
-    let is-punct = c .before .before .before .before .before .before .before .before .is-punct in
+    let back8 = c .before .before .before .before .before .before .before .before in
+    let pre = back8 .before .before .before .before .before .before .before .pre in
+    let peek = back8 .before .before .before .before .peek in
+    let t = back8 .before .before .t in
+    let is-punct = back8 .is-punct in
     let if1 = c .before .before .before .before .before .before .before .if1 in
     let past = c .before .before .before .before .before .before .past in
     let peek2 = c .before .before .before .before .before .peek2 in
@@ -91,11 +91,11 @@ enum-known-g c = search needs
 
 returns-3 : tie.Need-returns-3
 returns-3 c =
-    let pre = c .before .before .before .before .before .before .before .before .before .before .before .before .before .before .before .pre in
-    let peek =
-    c .before .before .before .before .before .before .before .before .before .before .before .before .peek in
-    let t = c .before .before .before .before .before .before .before .before .before .before .t in
-    let is-punct = c .before .before .before .before .before .before .before .before .is-punct in
+    let back8 = c .before .before .before .before .before .before .before .before in
+    let pre = back8 .before .before .before .before .before .before .before .pre in
+    let peek = back8 .before .before .before .before .peek in
+    let t = back8 .before .before .t in
+    let is-punct = back8 .is-punct in
     let if1 = c .before .before .before .before .before .before .before .if1 in
     let past = c .before .before .before .before .before .before .past in
     let peek2 = c .before .before .before .before .before .peek2 in (
@@ -114,12 +114,14 @@ mark-requires-2 c κs = search needs
 
 take-group-requires : tie.Need-take-group-requires
 take-group-requires c κs =
-    let pre = c .before .before .before .before .before .before .before .before .before .before .before .before .before .before .before .before .before .before .before .before .pre in
-    let peek = c .before .before .before .before .before .before .before .before .before .before .before .before .before .before .before .before .before .peek in
-    let t = c .before .before .before .before .before .before .before .before .before .before .before .before .before .before .before .t in
-    let past = c .before .before .before .before .before .before .before .before .before .before .before .past in
-    let peek2 = c .before .before .before .before .before .before .before .before .before .before .peek2 in
-    let g = c .before .before .before .before .before .before .before .before .g in (
+    let back8 = c .before .before .before .before .before .before .before .before in
+    let back16 = back8 .before .before .before .before .before .before .before .before in
+    let pre = back16 .before .before .before .before .pre in
+    let peek = back16 .before .peek in
+    let t = back8 .before .before .before .before .before .before .before .t in
+    let past = back8 .before .before .before .past in
+    let peek2 = back8 .before .before .peek2 in
+    let g = back8 .g in (
       meeting.past-in-of _ _ _ _ (past .ensures) pre ((meeting.peeked _ _ (peek .ensures) (t .given .1)) .token),
       (meeting.peeked _ _ (peek2 .ensures) (g .given .1)),
     )
@@ -139,8 +141,9 @@ returns-5 c =
 
 returns-6 : tie.Need-returns-6
 returns-6 c =
-    let pre = c .before .before .before .before .before .before .before .before .before .before .before .before .pre in
-    let peek = c .before .before .before .before .before .before .before .before .before .peek in
+    let back8 = c .before .before .before .before .before .before .before .before in
+    let pre = back8 .before .before .before .before .pre in
+    let peek = back8 .before .peek in
     let t = c .before .before .before .before .before .before .before .t in
     let is-punct = c .before .before .before .before .before .is-punct in
     let if1 = c .before .before .before .before .if1 in (
@@ -158,14 +161,16 @@ same-length c = (c .before .before .mark) .kept .0
 
 returns-7 : tie.Need-returns-7
 returns-7 c =
-    let pre = c .before .before .before .before .before .before .before .before .before .before .before .before .before .before .before .before .before .before .before .pre in
-    let peek = c .before .before .before .before .before .before .before .before .before .before .before .before .before .before .before .before .peek in
-    let t = c .before .before .before .before .before .before .before .before .before .before .before .before .before .before .t in
-    let is-punct =
-    c .before .before .before .before .before .before .before .before .before .before .before .before .is-punct in
-    let if1 = c .before .before .before .before .before .before .before .before .before .before .before .if1 in
-    let past = c .before .before .before .before .before .before .before .before .before .before .past in
-    let peek2 = c .before .before .before .before .before .before .before .before .before .peek2 in
+    let back8 = c .before .before .before .before .before .before .before .before in
+    let back16 = back8 .before .before .before .before .before .before .before .before in
+    let args = back16 .before .before .before .args in
+    let pre = back16 .before .before .before .pre in
+    let peek = back16 .peek in
+    let t = back8 .before .before .before .before .before .before .t in
+    let is-punct = back8 .before .before .before .before .is-punct in
+    let if1 = back8 .before .before .before .if1 in
+    let past = back8 .before .before .past in
+    let peek2 = back8 .before .peek2 in
     let q = c .before .before .before .before .before .before .before .q in
     let is-punct2 = c .before .before .before .before .before .is-punct2 in
     let if2 = c .before .before .before .before .if2 in
@@ -176,7 +181,7 @@ returns-7 c =
           (meeting.punct-of _ _ _ _ (l .token) ∙ sym (is-punct .ensures) ∙ not-false _ (if1 .left))
           _ (past .ensures) _ k _ _ ((c .before .before .mark) .ensures)
           (meeting.punct-of _ _ _ _ (k .token) ∙ sym (is-punct2 .ensures) ∙ not-false _ (if2 .left)),
-      subst (λ (n : ℕ). contract.TokenIn (c .before .before .before .before .before .before .before .before .before .before .before .before .before .before .before .before .before .before .before .args .s .now) n (q .given .0 .0)) (ap (λ (x : Cursor). x .row) (past .ensures))
+      subst (λ (n : ℕ). contract.TokenIn (args .s .now) n (q .given .0 .0)) (ap (λ (x : Cursor). x .row) (past .ensures))
           (places.token-in _ _ _ below (k .token)),
     )
 
@@ -187,15 +192,18 @@ same-length-2 c =
 
 returns-8 : tie.Need-returns-8
 returns-8 c =
-    let pre = c .before .before .before .before .before .before .before .before .before .before .before .before .before .before .before .before .before .before .before .before .before .before .before .pre in
-    let peek = c .before .before .before .before .before .before .before .before .before .before .before .before .before .before .before .before .before .before .before .before .peek in
-    let t = c .before .before .before .before .before .before .before .before .before .before .before .before .before .before .before .before .before .before .t in
-    let is-punct = c .before .before .before .before .before .before .before .before .before .before .before .before .before .before .before .before .is-punct in
-    let if1 = c .before .before .before .before .before .before .before .before .before .before .before .before .before .before .before .if1 in
-    let past = c .before .before .before .before .before .before .before .before .before .before .before .before .before .before .past in
-    let peek2 = c .before .before .before .before .before .before .before .before .before .before .before .before .before .peek2 in
-    let g = c .before .before .before .before .before .before .before .before .before .before .before .g in
-    let if3 = c .before .before .before .before .before .before .before .before .if3 in
+    let back8 = c .before .before .before .before .before .before .before .before in
+    let back16 = back8 .before .before .before .before .before .before .before .before in
+    let args = back16 .before .before .before .before .before .before .before .args in
+    let pre = back16 .before .before .before .before .before .before .before .pre in
+    let peek = back16 .before .before .before .before .peek in
+    let t = back16 .before .before .t in
+    let is-punct = back16 .is-punct in
+    let if1 = back8 .before .before .before .before .before .before .before .if1 in
+    let past = back8 .before .before .before .before .before .before .past in
+    let peek2 = back8 .before .before .before .before .before .peek2 in
+    let g = back8 .before .before .before .g in
+    let if3 = back8 .if3 in
     let mark2 = c .before .before .before .before .before .before .mark2 in
     let l = meeting.peeked _ _ (peek .ensures) (t .given .1) in
     let below = meeting.past-in-of _ _ _ _ (past .ensures) pre (l .token) in
@@ -204,7 +212,7 @@ returns-8 c =
           (meeting.punct-of _ _ _ _ (l .token) ∙ sym (is-punct .ensures) ∙ not-false _ (if1 .left))
           _ (past .ensures) _ below k _ _ _ _ (if3 .left) (mark2 .ensures)
           ((c .before .before .take-group) .ensures),
-      subst (λ (n : ℕ). contract.TokenIn (c .before .before .before .before .before .before .before .before .before .before .before .before .before .before .before .before .before .before .before .before .before .before .before .args .s .now) n (g .given .0 .0)) (ap (λ (x : Cursor). x .row) (past .ensures))
+      subst (λ (n : ℕ). contract.TokenIn (args .s .now) n (g .given .0 .0)) (ap (λ (x : Cursor). x .row) (past .ensures))
           (places.token-in _ _ _ below (k .token)),
     )
 

@@ -32,9 +32,9 @@ same-length c = search needs
 
 returns : tie.Need-returns
 returns c =
-    let args = c .before .before .before .before .before .before .before .before .before .before .before .before .before .before .args in
-    let consume-ident =
-    c .before .before .before .before .before .before .before .before .before .before .consume-ident in
+    let back8 = c .before .before .before .before .before .before .before .before in
+    let args = back8 .before .before .before .before .before .before .args in
+    let consume-ident = back8 .before .before .consume-ident in
     let w = c .before .before .before .before .before .before .w in
     meeting.meets-word reading.kindOf _ (meeting.say-word (w .given .1) (consume-ident .ensures))
     (λ text h.
@@ -55,9 +55,11 @@ same-length-2 c = search needs
 
 returns-2 : tie.Need-returns-2
 returns-2 c =
-    let args = c .before .before .before .before .before .before .before .before .before .before .before .before .before .before .before .before .before .args in
-    let consume-ident = c .before .before .before .before .before .before .before .before .before .before .before .before .before .consume-ident in
-    let w = c .before .before .before .before .before .before .before .before .before .w in
+    let back8 = c .before .before .before .before .before .before .before .before in
+    let back16 = back8 .before .before .before .before .before .before .before .before in
+    let args = back16 .before .args in
+    let consume-ident = back8 .before .before .before .before .before .consume-ident in
+    let w = back8 .before .w in
     let text-is = c .before .before .before .before .text-is in
     meeting.meets-word reading.kindOf _ (meeting.say-word (w .given .1) (consume-ident .ensures))
     (λ text h.
@@ -83,9 +85,11 @@ same-length-4 c = search needs
 
 returns-4 : tie.Need-returns-4
 returns-4 c =
-    let args = c .before .before .before .before .before .before .before .before .before .before .before .before .before .before .before .before .before .args in
-    let consume-ident = c .before .before .before .before .before .before .before .before .before .before .before .before .before .consume-ident in
-    let w = c .before .before .before .before .before .before .before .before .before .w in
+    let back8 = c .before .before .before .before .before .before .before .before in
+    let back16 = back8 .before .before .before .before .before .before .before .before in
+    let args = back16 .before .args in
+    let consume-ident = back8 .before .before .before .before .before .consume-ident in
+    let w = back8 .before .w in
     let text-is = c .before .before .before .before .text-is in
     meeting.meets-word reading.kindOf _ (meeting.say-word (w .given .1) (consume-ident .ensures))
     (λ text h.

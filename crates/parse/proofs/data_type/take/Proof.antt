@@ -2,13 +2,13 @@ use Rattle.parse.proofs.Meeting as meeting
 use Rattle.parse.specs.Contract as contract
 use Rattle.reading.specs.Reading as reading
 use Rattle.parse.proofs.Places as places
-use Rattle.reading.specs.Took.{Reader, after, pure, _>>=_, Point}
+use Rattle.reading.specs.Took.{Reader, after, pure, _>>=_}
 use Rattle.reading.specs.Declaration as declaration
 use Rattle.reading.specs.Role as role
 use Rattle.token_list.specs.Stream.{Trees}
 use Prim.Native.Nat.{ℕ}
 use mathlib.Core.List.{List}
-use mathlib.Core.Path.{_≡_, refl, sym, subst}
+use mathlib.Core.Path.{_≡_, sym}
 use borrow.Author.Needs.{needs}
 use Rattle.parse.proofs.data_type.take.Statement.{statement}
 use Rattle.parse.proofs.data_type.take.Tie as tie
@@ -37,8 +37,8 @@ enum-known-kind c = search needs
 
 consume-ident-requires : tie.Need-consume-ident-requires
 consume-ident-requires c κs =
-    let kind = c .before .before .kind in
     let item-word = c .before .before .before .before .before .before .item-word in
+    let kind = c .before .before .kind in
     meeting.landed (meeting.say contract.kindShown contract.kindSaid (kind .given .1) (item-word .ensures))
 
 enum-told : tie.Need-enum-told
@@ -46,8 +46,9 @@ enum-told c = search needs
 
 wrong-token-requires : tie.Need-wrong-token-requires
 wrong-token-requires c κs =
+    let back8 = c .before .before .before .before .before .before .before .before in
+    let item-word = back8 .before .before .before .item-word in
     let kind = c .before .before .before .before .before .before .before .kind in
-    let item-word = c .before .before .before .before .before .before .before .before .before .before .before .item-word in
     meeting.landed (meeting.say contract.kindShown contract.kindSaid (kind .given .1) (item-word .ensures))
 
 enum-known-w : tie.Need-enum-known-w
@@ -59,8 +60,8 @@ same-length c = search needs
 returns : tie.Need-returns
 returns c =
     let args = c .before .before .before .before .before .before .before .before .before .args in
-    let r = c .before .r in
     let item-word = c .before .before .before .before .before .item-word in
+    let r = c .before .r in
     meeting.meets-as (split (args .c .row) (contract.stream (args .s .now) (args .c)))
     (meeting.meets-no rest (meeting.say contract.kindShown contract.kindSaid (r .given .1) (item-word .ensures)))
 
@@ -69,11 +70,13 @@ same-length-2 c = search needs
 
 returns-2 : tie.Need-returns-2
 returns-2 c =
-    let kind = c .before .before .before .before .before .before .before .before .kind in
-    let item-word = c .before .before .before .before .before .before .before .before .before .before .before .before .item-word in
-    let enum-told = c .before .enum-told in
+    let back8 = c .before .before .before .before .before .before .before .before in
+    let back16 = back8 .before .before .before .before .before .before .before .before in
+    let args = back16 .args in
+    let item-word = back8 .before .before .before .before .item-word in
+    let kind = back8 .kind in
     let consume-ident = c .before .before .before .before .before .consume-ident in
-    let args = c .before .before .before .before .before .before .before .before .before .before .before .before .before .before .before .before .args in
+    let enum-told = c .before .enum-told in
     let wrong-token = c .wrong-token in
     let word = meeting.say contract.kindShown contract.kindSaid (kind .given .1) (item-word .ensures) in
     let missing = meeting.say-word (enum-told .given .1) (consume-ident .ensures) in
@@ -86,11 +89,13 @@ same-length-3 c = search needs
 
 returns-3 : tie.Need-returns-3
 returns-3 c =
-    let kind = c .before .before .before .before .before .before .before .before .before .before .kind in
-    let item-word = c .before .before .before .before .before .before .before .before .before .before .before .before .before .before .item-word in
-    let w = c .before .before .before .w in
+    let back8 = c .before .before .before .before .before .before .before .before in
+    let back16 = back8 .before .before .before .before .before .before .before .before in
+    let args = back16 .before .before .args in
+    let item-word = back8 .before .before .before .before .before .before .item-word in
+    let kind = back8 .before .before .kind in
     let consume-ident = c .before .before .before .before .before .before .before .consume-ident in
-    let args = c .before .before .before .before .before .before .before .before .before .before .before .before .before .before .before .before .before .before .args in
+    let w = c .before .before .before .w in
     let word = meeting.say contract.kindShown contract.kindSaid (kind .given .1) (item-word .ensures) in
     let found = meeting.say-word (w .given .1) (consume-ident .ensures) in
     let d = kind .given .0 .1 .0 in

@@ -3,7 +3,6 @@ use Rattle.parse.specs.Contract as contract
 use Rattle.reading.specs.Reading as reading
 use Rattle.parse.proofs.Bodies as bodies
 use Rattle.parse.proofs.Places as places
-use Rattle.parse.specs.declared.fields.TypeStep.{TypeStep}
 use Rattle.reading.specs.Took.{Reader, _>>=_, Point}
 use Rattle.reading.specs.Declaration.{Field}
 use Rattle.reading.specs.Role as role
@@ -42,8 +41,8 @@ same-length c = search needs
 returns : tie.Need-returns
 returns c =
     let args = c .before .before .before .before .before .before .before .before .before .before .args in
-    let d = c .before .before .before .before .before .before .consume-punct-if .result .next in
     let consume-punct-if = c .before .before .before .before .before .before .consume-punct-if in
+    let d = consume-punct-if .result .next in
     let if1 = c .before .if1 in
     let wrong-token = c .wrong-token in
     λ p n.
@@ -61,8 +60,9 @@ same-length-2 c = search needs
 
 returns-2 : tie.Need-returns-2
 returns-2 c =
-    let consume-punct-if = c .before .before .before .before .before .before .before .before .before .consume-punct-if in
-    let args = c .before .before .before .before .before .before .before .before .before .before .before .before .before .args in
+    let back8 = c .before .before .before .before .before .before .before .before in
+    let args = back8 .before .before .before .before .before .args in
+    let consume-punct-if = back8 .before .consume-punct-if in
     let if1 = c .before .before .before .before .if1 in
     let field-type = c .before .before .field-type in
     let d = consume-punct-if .result .next in

@@ -19,8 +19,8 @@ enum-known-to c = search needs
 consume-punct-if-requires : tie.Need-consume-punct-if-requires
 consume-punct-if-requires c κs =
     let args = c .before .before .before .before .before .before .before .before .before .before .args in
-    let to = c .before .before .to in
     let read-tokens-until-punct = c .before .before .before .before .before .before .read-tokens-until-punct in
+    let to = c .before .before .to in
     meeting.landed (meeting.say (contract.runShown (args .s .now) reading.fieldStops role.type (args .c)) contract.runSaid
     (to .given .1) (read-tokens-until-punct .ensures))
 
@@ -30,8 +30,8 @@ same-length c = search needs
 returns : tie.Need-returns
 returns c =
     let args = c .before .before .before .before .before .before .before .before .before .args in
-    let r = c .before .r in
     let read-tokens-until-punct = c .before .before .before .before .before .read-tokens-until-punct in
+    let r = c .before .r in
     meeting.meets-no bodies.commaAfter (meeting.say (contract.runShown (args .s .now) reading.fieldStops role.type (args .c)) contract.runSaid
     (r .given .1) (read-tokens-until-punct .ensures))
 
@@ -40,9 +40,10 @@ same-length-2 c = search needs
 
 returns-2 : tie.Need-returns-2
 returns-2 c =
-    let args = c .before .before .before .before .before .before .before .before .before .before .before .before .before .before .args in
+    let back8 = c .before .before .before .before .before .before .before .before in
+    let args = back8 .before .before .before .before .before .before .args in
+    let read-tokens-until-punct = back8 .before .before .read-tokens-until-punct in
     let to = c .before .before .before .before .before .before .to in
-    let read-tokens-until-punct = c .before .before .before .before .before .before .before .before .before .before .read-tokens-until-punct in
     let consume-punct-if = c .before .before .before .consume-punct-if in
     meeting.meets-then bodies.commaAfter (meeting.say (contract.runShown (args .s .now) reading.fieldStops role.type (args .c)) contract.runSaid
     (to .given .1) (read-tokens-until-punct .ensures))

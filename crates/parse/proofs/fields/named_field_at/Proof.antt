@@ -11,7 +11,7 @@ use Rattle.reading.specs.Role as role
 use lib.Seq.{slice}
 use Rattle.token_list.proofs.Texts.{chosen, passed-over}
 use borrow.Author.Tests.{eq-eqb, ne-eqb}
-use mathlib.Core.Path.{subst, refl, sym, _∙_, ap}
+use mathlib.Core.Path.{subst, refl, _∙_, ap}
 use Rattle.parse.proofs.fields.named_field_at.Statement.{statement}
 use Rattle.parse.proofs.fields.named_field_at.Tie as tie
 
@@ -26,16 +26,17 @@ enum-known-visibility c = search needs
 
 try-take-requires-2 : tie.Need-try-take-requires-2
 try-take-requires-2 c κs =
-    let visibility = c .before .before .visibility in
     let try-take = c .before .before .before .before .before .before .try-take in
+    let visibility = c .before .before .visibility in
     let attributes = meeting.say (λ x. contract.any) contract.stepSaid (visibility .given .1) (try-take .ensures) in
     meeting.landed attributes
 
 peek-requires : tie.Need-peek-requires
 peek-requires c κs =
+    let back8 = c .before .before .before .before .before .before .before .before in
+    let pre = back8 .before .before .before .before .before .pre in
+    let try-take = back8 .before .try-take in
     let visibility = c .before .before .before .before .before .visibility in
-    let try-take = c .before .before .before .before .before .before .before .before .before .try-take in
-    let pre = c .before .before .before .before .before .before .before .before .before .before .before .before .before .pre in
     let try-take2 = c .before .before .try-take2 in
     let attributes = meeting.say (λ x. contract.any) contract.stepSaid (visibility .given .1) (try-take .ensures) in
     let prefixed = bodies.meets-prefix pre attributes (try-take2 .ensures) in
@@ -55,11 +56,13 @@ same-length c = search needs
 
 returns : tie.Need-returns
 returns c =
-    let visibility = c .before .before .before .before .before .before .before .before .before .before .before .visibility in
-    let try-take = c .before .before .before .before .before .before .before .before .before .before .before .before .before .before .before .try-take in
-    let pre = c .before .before .before .before .before .before .before .before .before .before .before .before .before .before .before .before .before .before .before .pre in
-    let try-take2 = c .before .before .before .before .before .before .before .before .try-take2 in
-    let args = c .before .before .before .before .before .before .before .before .before .before .before .before .before .before .before .before .before .before .before .args in
+    let back8 = c .before .before .before .before .before .before .before .before in
+    let back16 = back8 .before .before .before .before .before .before .before .before in
+    let args = back16 .before .before .before .args in
+    let pre = back16 .before .before .before .pre in
+    let try-take = back8 .before .before .before .before .before .before .before .try-take in
+    let visibility = back8 .before .before .before .visibility in
+    let try-take2 = back8 .try-take2 in
     let peek = c .before .before .before .before .before .peek in
     let t = c .before .before .before .t in
     let if1 = c .if1 in
@@ -72,10 +75,12 @@ returns c =
 
 take-token-requires : tie.Need-take-token-requires
 take-token-requires c κs =
-    let visibility = c .before .before .before .before .before .before .before .before .before .before .before .before .visibility in
-    let try-take = c .before .before .before .before .before .before .before .before .before .before .before .before .before .before .before .before .try-take in
-    let pre = c .before .before .before .before .before .before .before .before .before .before .before .before .before .before .before .before .before .before .before .before .pre in
-    let try-take2 = c .before .before .before .before .before .before .before .before .before .try-take2 in
+    let back8 = c .before .before .before .before .before .before .before .before in
+    let back16 = back8 .before .before .before .before .before .before .before .before in
+    let pre = back16 .before .before .before .before .pre in
+    let try-take = back16 .try-take in
+    let visibility = back8 .before .before .before .before .visibility in
+    let try-take2 = back8 .before .try-take2 in
     let peek = c .before .before .before .before .before .before .peek in
     let t = c .before .before .before .before .t in
     let attributes = meeting.say (λ x. contract.any) contract.stepSaid (visibility .given .1) (try-take .ensures) in
@@ -84,13 +89,16 @@ take-token-requires c κs =
 
 field-after-requires : tie.Need-field-after-requires
 field-after-requires c κs =
-    let visibility = c .before .before .before .before .before .before .before .before .before .before .before .before .before .before .before .before .visibility in
-    let try-take = c .before .before .before .before .before .before .before .before .before .before .before .before .before .before .before .before .before .before .before .before .try-take in
-    let pre = c .before .before .before .before .before .before .before .before .before .before .before .before .before .before .before .before .before .before .before .before .before .before .before .before .pre in
-    let try-take2 = c .before .before .before .before .before .before .before .before .before .before .before .before .before .try-take2 in
+    let back8 = c .before .before .before .before .before .before .before .before in
+    let back16 = back8 .before .before .before .before .before .before .before .before in
+    let back24 = back16 .before .before .before .before .before .before .before .before in
+    let pre = back24 .pre in
+    let try-take = back16 .before .before .before .before .try-take in
+    let visibility = back16 .visibility in
+    let try-take2 = back8 .before .before .before .before .before .try-take2 in
+    let peek = back8 .before .before .peek in
+    let t = back8 .t in
     let take-token = c .before .before .before .take-token in
-    let peek = c .before .before .before .before .before .before .before .before .before .before .peek in
-    let t = c .before .before .before .before .before .before .before .before .t in
     let attributes = meeting.say (λ x. contract.any) contract.stepSaid (visibility .given .1) (try-take .ensures) in
     let prefixed = bodies.meets-prefix pre attributes (try-take2 .ensures) in
     meeting.past-in-of _ _ _ _ (take-token .ensures .0) (meeting.landed prefixed)
@@ -107,9 +115,9 @@ same-length-2 c = search needs
 
 returns-2 : tie.Need-returns-2
 returns-2 c =
-    let r = c .before .r in
-    let try-take = c .before .before .before .before .before .try-take in
     let args = c .before .before .before .before .before .before .before .before .before .args in
+    let try-take = c .before .before .before .before .before .try-take in
+    let r = c .before .r in
     let attributes = meeting.say (λ x. contract.any) contract.stepSaid (r .given .1) (try-take .ensures) in
     meeting.meets-as (bodies.prefix-then (args .c .row) (contract.stream (args .s .now) (args .c)) reading.fieldStart)
     (meeting.meets-no _ (bodies.prefix-refused attributes))
@@ -119,11 +127,13 @@ same-length-3 c = search needs
 
 returns-3 : tie.Need-returns-3
 returns-3 c =
-    let visibility = c .before .before .before .before .before .before .before .before .visibility in
-    let try-take = c .before .before .before .before .before .before .before .before .before .before .before .before .try-take in
-    let pre = c .before .before .before .before .before .before .before .before .before .before .before .before .before .before .before .before .pre in
+    let back8 = c .before .before .before .before .before .before .before .before in
+    let back16 = back8 .before .before .before .before .before .before .before .before in
+    let args = back16 .args in
+    let pre = back16 .pre in
+    let try-take = back8 .before .before .before .before .try-take in
+    let visibility = back8 .visibility in
     let try-take2 = c .before .before .before .before .before .try-take2 in
-    let args = c .before .before .before .before .before .before .before .before .before .before .before .before .before .before .before .before .args in
     let peek = c .before .before .peek in
     let enum-told = c .enum-told in
     let attributes = meeting.say (λ x. contract.any) contract.stepSaid (visibility .given .1) (try-take .ensures) in
@@ -138,11 +148,13 @@ same-length-4 c = search needs
 
 returns-4 : tie.Need-returns-4
 returns-4 c =
-    let visibility = c .before .before .before .before .before .before .before .before .visibility in
-    let try-take = c .before .before .before .before .before .before .before .before .before .before .before .before .try-take in
-    let pre = c .before .before .before .before .before .before .before .before .before .before .before .before .before .before .before .before .pre in
+    let back8 = c .before .before .before .before .before .before .before .before in
+    let back16 = back8 .before .before .before .before .before .before .before .before in
+    let args = back16 .args in
+    let pre = back16 .pre in
+    let try-take = back8 .before .before .before .before .try-take in
+    let visibility = back8 .visibility in
     let try-take2 = c .before .before .before .before .before .try-take2 in
-    let args = c .before .before .before .before .before .before .before .before .before .before .before .before .before .before .before .before .args in
     let peek = c .before .before .peek in
     let enum-told2 = c .enum-told2 in
     let attributes = meeting.say (λ x. contract.any) contract.stepSaid (visibility .given .1) (try-take .ensures) in
@@ -154,25 +166,31 @@ returns-4 c =
 
 same-length-5 : tie.Need-same-length-5
 same-length-5 c =
+    let back8 = c .before .before .before .before .before .before .before .before in
+    let back16 = back8 .before .before .before .before .before .before .before .before in
+    let back24 = back16 .before .before .before .before .before .before .before .before in
+    let try-take = back24 .before .before .try-take in
+    let try-take2 = back16 .before .before .before .try-take2 in
+    let take-token = back8 .before .take-token in
     let field-after = c .before .before .before .before .before .field-after in
-    let take-token = c .before .before .before .before .before .before .before .before .before .take-token in
-    let try-take2 = c .before .before .before .before .before .before .before .before .before .before .before .before .before .before .before .before .before .before .before .try-take2 in
-    let try-take = c .before .before .before .before .before .before .before .before .before .before .before .before .before .before .before .before .before .before .before .before .before .before .before .before .before .before .try-take in
     field-after .kept .1 .1 .0 ∙ take-token .kept .1 .1 .1 .0 ∙ try-take2 .kept .1 .1 .0 ∙ try-take .kept .1 .1 .0
 
 returns-5 : tie.Need-returns-5
 returns-5 c =
-    let visibility = c .before .before .before .before .before .before .before .before .before .before .before .before .before .before .before .before .before .before .before .before .before .before .visibility in
-    let try-take = c .before .before .before .before .before .before .before .before .before .before .before .before .before .before .before .before .before .before .before .before .before .before .before .before .before .before .try-take in
-    let pre = c .before .before .before .before .before .before .before .before .before .before .before .before .before .before .before .before .before .before .before .before .before .before .before .before .before .before .before .before .before .before .pre in
-    let try-take2 = c .before .before .before .before .before .before .before .before .before .before .before .before .before .before .before .before .before .before .before .try-take2 in
-    let peek = c .before .before .before .before .before .before .before .before .before .before .before .before .before .before .before .before .peek in
-    let t = c .before .before .before .before .before .before .before .before .before .before .before .before .before .before .t in
-    let args = c .before .before .before .before .before .before .before .before .before .before .before .before .before .before .before .before .before .before .before .before .before .before .before .before .before .before .before .before .before .before .args in
-    let take-token = c .before .before .before .before .before .before .before .before .before .take-token in
-    let if1 = c .before .before .before .before .before .before .before .before .before .before .before .if1 in
-    let r2 = c .before .r2 in
+    let back8 = c .before .before .before .before .before .before .before .before in
+    let back16 = back8 .before .before .before .before .before .before .before .before in
+    let back24 = back16 .before .before .before .before .before .before .before .before in
+    let args = back24 .before .before .before .before .before .before .args in
+    let pre = back24 .before .before .before .before .before .before .pre in
+    let try-take = back24 .before .before .try-take in
+    let visibility = back16 .before .before .before .before .before .before .visibility in
+    let try-take2 = back16 .before .before .before .try-take2 in
+    let peek = back16 .peek in
+    let t = back8 .before .before .before .before .before .before .t in
+    let if1 = back8 .before .before .before .if1 in
+    let take-token = back8 .before .take-token in
     let field-after = c .before .before .before .before .before .field-after in
+    let r2 = c .before .r2 in
     let attributes = meeting.say (λ x. contract.any) contract.stepSaid (visibility .given .1) (try-take .ensures) in
     let prefixed = bodies.meets-prefix pre attributes (try-take2 .ensures) in
     let l = meeting.peeked _ _ (peek .ensures) (t .given .1) in
@@ -188,25 +206,32 @@ returns-5 c =
 
 same-length-6 : tie.Need-same-length-6
 same-length-6 c =
+    let back8 = c .before .before .before .before .before .before .before .before in
+    let back16 = back8 .before .before .before .before .before .before .before .before in
+    let back24 = back16 .before .before .before .before .before .before .before .before in
+    let try-take = back24 .before .before .before .before .try-take in
+    let try-take2 = back16 .before .before .before .before .before .try-take2 in
+    let take-token = back8 .before .before .before .take-token in
     let field-after = c .before .before .before .before .before .before .before .field-after in
-    let take-token = c .before .before .before .before .before .before .before .before .before .before .before .take-token in
-    let try-take2 = c .before .before .before .before .before .before .before .before .before .before .before .before .before .before .before .before .before .before .before .before .before .try-take2 in
-    let try-take = c .before .before .before .before .before .before .before .before .before .before .before .before .before .before .before .before .before .before .before .before .before .before .before .before .before .before .before .before .try-take in
     field-after .kept .1 .1 .0 ∙ take-token .kept .1 .1 .1 .0 ∙ try-take2 .kept .1 .1 .0 ∙ try-take .kept .1 .1 .0
 
 returns-6 : tie.Need-returns-6
 returns-6 c =
-    let visibility = c .before .before .before .before .before .before .before .before .before .before .before .before .before .before .before .before .before .before .before .before .before .before .before .before .visibility in
-    let try-take = c .before .before .before .before .before .before .before .before .before .before .before .before .before .before .before .before .before .before .before .before .before .before .before .before .before .before .before .before .try-take in
-    let pre = c .before .before .before .before .before .before .before .before .before .before .before .before .before .before .before .before .before .before .before .before .before .before .before .before .before .before .before .before .before .before .before .before .pre in
-    let try-take2 = c .before .before .before .before .before .before .before .before .before .before .before .before .before .before .before .before .before .before .before .before .before .try-take2 in
-    let args = c .before .before .before .before .before .before .before .before .before .before .before .before .before .before .before .before .before .before .before .before .before .before .before .before .before .before .before .before .before .before .before .before .args in
-    let t = c .before .before .before .before .before .before .before .before .before .before .before .before .before .before .before .before .t in
-    let peek = c .before .before .before .before .before .before .before .before .before .before .before .before .before .before .before .before .before .before .peek in
-    let take-token = c .before .before .before .before .before .before .before .before .before .before .before .take-token in
-    let if1 = c .before .before .before .before .before .before .before .before .before .before .before .before .before .if1 in
-    let typed = c .before .before .before .typed in
+    let back8 = c .before .before .before .before .before .before .before .before in
+    let back16 = back8 .before .before .before .before .before .before .before .before in
+    let back24 = back16 .before .before .before .before .before .before .before .before in
+    let back32 = back24 .before .before .before .before .before .before .before .before in
+    let args = back32 .args in
+    let pre = back32 .pre in
+    let try-take = back24 .before .before .before .before .try-take in
+    let visibility = back24 .visibility in
+    let try-take2 = back16 .before .before .before .before .before .try-take2 in
+    let peek = back16 .before .before .peek in
+    let t = back16 .t in
+    let if1 = back8 .before .before .before .before .before .if1 in
+    let take-token = back8 .before .before .before .take-token in
     let field-after = c .before .before .before .before .before .before .before .field-after in
+    let typed = c .before .before .before .typed in
     let attributes = meeting.say (λ x. contract.any) contract.stepSaid (visibility .given .1) (try-take .ensures) in
     let prefixed = bodies.meets-prefix pre attributes (try-take2 .ensures) in
     let s = args .s .now in

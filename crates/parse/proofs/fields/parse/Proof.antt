@@ -12,7 +12,8 @@ use Rattle.parse.proofs.fields.parse.Statement.{statement}
 use Rattle.parse.proofs.fields.parse.Tie as tie
 
 abbrev Inv-loop : tie.InvT-loop
-Inv-loop s roles₀ c₀ count₀ roles c count = Rounded s c₀ roles₀ c roles count (reading.every reading.tupleField (c₀ .row) (contract.stream s c₀))
+Inv-loop s roles₀ c₀ count₀ roles c count =
+    Rounded s c₀ roles₀ c roles count (reading.every reading.tupleField (c₀ .row) (contract.stream s c₀))
     (reading.every reading.tupleField (c .row) (contract.stream s c))
 
 abbrev μ-loop : tie.MeasureT-loop
@@ -39,49 +40,52 @@ add-count c =
 loop-less : tie.Need-loop-less Inv-loop μ-loop
 loop-less c =
     let loop = c .before .before .before .before .before .before .before .loop in
-    let next = c .before .next in
     let tuple-field = c .before .before .before .before .before .tuple-field in
+    let next = c .before .next in
     let n = rounds-more reading.tupleField conserved.tupleField-round (loop .inv) (meeting.say contract.nextShown contract.nextSaid (next .given .1) (tuple-field .ensures)) (λ v h. h) in
     omega (arith, n .1, n .0 .gathering .moved .inList .within)
 
 loop-again : tie.Need-loop-again Inv-loop μ-loop
 loop-again c =
     let loop = c .before .before .before .before .before .before .before .loop in
-    let next = c .before .next in
     let tuple-field = c .before .before .before .before .before .tuple-field in
-    rounds-more reading.tupleField conserved.tupleField-round (loop .inv) (meeting.say contract.nextShown contract.nextSaid (next .given .1) (tuple-field .ensures)) (λ v h. h) .0
+    let next = c .before .next in
+    rounds-more reading.tupleField conserved.tupleField-round (loop .inv)
+    (meeting.say contract.nextShown contract.nextSaid (next .given .1) (tuple-field .ensures)) (λ v h. h) .0
 
 enum-known-end : tie.Need-enum-known-end Inv-loop μ-loop
 enum-known-end c = search needs
 
 same-length : tie.Need-same-length Inv-loop μ-loop
 same-length c =
-    let tuple-field = c .before .before .before .before .before .tuple-field in
     let loop = c .before .before .before .before .before .before .before .loop in
+    let tuple-field = c .before .before .before .before .before .tuple-field in
     tuple-field .kept .1 .1 .0 ∙ gathering-length (loop .inv .gathering)
 
 returns : tie.Need-returns Inv-loop μ-loop
 returns c =
     let loop = c .before .before .before .before .before .before .before .loop in
-    let end = c .before .end in
     let tuple-field = c .before .before .before .before .before .tuple-field in
-    rounds-done reading.tupleField conserved.tupleField-round (loop .inv) (meeting.say contract.nextShown contract.nextSaid (end .given .1) (tuple-field .ensures)) (λ v h. h)
+    let end = c .before .end in
+    rounds-done reading.tupleField conserved.tupleField-round (loop .inv)
+    (meeting.say contract.nextShown contract.nextSaid (end .given .1) (tuple-field .ensures)) (λ v h. h)
 
 enum-known-r : tie.Need-enum-known-r Inv-loop μ-loop
 enum-known-r c = search needs
 
 same-length-2 : tie.Need-same-length-2 Inv-loop μ-loop
 same-length-2 c =
-    let tuple-field = c .before .before .before .before .before .tuple-field in
     let loop = c .before .before .before .before .before .before .before .loop in
+    let tuple-field = c .before .before .before .before .before .tuple-field in
     tuple-field .kept .1 .1 .0 ∙ gathering-length (loop .inv .gathering)
 
 returns-2 : tie.Need-returns-2 Inv-loop μ-loop
 returns-2 c =
     let loop = c .before .before .before .before .before .before .before .loop in
-    let r = c .before .r in
     let tuple-field = c .before .before .before .before .before .tuple-field in
-    rounds-refused reading.tupleField conserved.tupleField-round (loop .inv) (meeting.say contract.nextShown contract.nextSaid (r .given .1) (tuple-field .ensures))
+    let r = c .before .r in
+    rounds-refused reading.tupleField conserved.tupleField-round (loop .inv)
+    (meeting.say contract.nextShown contract.nextSaid (r .given .1) (tuple-field .ensures))
 
 pub parse-spec : {M : Type 1} → statement M
 parse-spec =

@@ -12,7 +12,8 @@ use Rattle.parse.proofs.fields.parse_with_name.Statement.{statement}
 use Rattle.parse.proofs.fields.parse_with_name.Tie as tie
 
 abbrev Inv-loop : tie.InvT-loop
-Inv-loop s roles₀ c₀ count₀ roles c count = Rounded s c₀ roles₀ c roles count (reading.every reading.namedField (c₀ .row) (contract.stream s c₀))
+Inv-loop s roles₀ c₀ count₀ roles c count =
+    Rounded s c₀ roles₀ c roles count (reading.every reading.namedField (c₀ .row) (contract.stream s c₀))
     (reading.every reading.namedField (c .row) (contract.stream s c))
 
 abbrev μ-loop : tie.MeasureT-loop
@@ -38,54 +39,62 @@ add-count c =
 
 loop-less : tie.Need-loop-less Inv-loop μ-loop
 loop-less c =
-    let loop = c .before .before .before .before .before .before .before .loop in
     let args = c .before .before .before .before .before .before .before .before .before .before .args in
-    let next = c .before .next in
+    let loop = c .before .before .before .before .before .before .before .loop in
     let named-field = c .before .before .before .before .before .named-field in
+    let next = c .before .next in
     let n = rounds-more reading.namedField conserved.namedField-round (loop .inv) (meeting.say (contract.namedShown (args .s .now) (loop .c)) contract.namedSaid (next .given .1) (named-field .ensures)) (λ v h. (h .0, h .1)) in
     omega (arith, n .1, n .0 .gathering .moved .inList .within)
 
 loop-again : tie.Need-loop-again Inv-loop μ-loop
 loop-again c =
-    let loop = c .before .before .before .before .before .before .before .loop in
     let args = c .before .before .before .before .before .before .before .before .before .before .args in
-    let next = c .before .next in
+    let loop = c .before .before .before .before .before .before .before .loop in
     let named-field = c .before .before .before .before .before .named-field in
-    rounds-more reading.namedField conserved.namedField-round (loop .inv) (meeting.say (contract.namedShown (args .s .now) (loop .c)) contract.namedSaid (next .given .1) (named-field .ensures)) (λ v h. (h .0, h .1)) .0
+    let next = c .before .next in
+    rounds-more reading.namedField conserved.namedField-round (loop .inv)
+    (meeting.say (contract.namedShown (args .s .now) (loop .c)) contract.namedSaid (next .given .1)
+    (named-field .ensures))
+    (λ v h. (h .0, h .1)) .0
 
 enum-known-end : tie.Need-enum-known-end Inv-loop μ-loop
 enum-known-end c = search needs
 
 same-length : tie.Need-same-length Inv-loop μ-loop
 same-length c =
-    let named-field = c .before .before .before .before .before .named-field in
     let loop = c .before .before .before .before .before .before .before .loop in
+    let named-field = c .before .before .before .before .before .named-field in
     named-field .kept .1 .1 .0 ∙ gathering-length (loop .inv .gathering)
 
 returns : tie.Need-returns Inv-loop μ-loop
 returns c =
-    let loop = c .before .before .before .before .before .before .before .loop in
     let args = c .before .before .before .before .before .before .before .before .before .before .args in
-    let end = c .before .end in
+    let loop = c .before .before .before .before .before .before .before .loop in
     let named-field = c .before .before .before .before .before .named-field in
-    rounds-done reading.namedField conserved.namedField-round (loop .inv) (meeting.say (contract.namedShown (args .s .now) (loop .c)) contract.namedSaid (end .given .1) (named-field .ensures)) (λ v h. h)
+    let end = c .before .end in
+    rounds-done reading.namedField conserved.namedField-round (loop .inv)
+    (meeting.say (contract.namedShown (args .s .now) (loop .c)) contract.namedSaid (end .given .1)
+    (named-field .ensures))
+    (λ v h. h)
 
 enum-known-r : tie.Need-enum-known-r Inv-loop μ-loop
 enum-known-r c = search needs
 
 same-length-2 : tie.Need-same-length-2 Inv-loop μ-loop
 same-length-2 c =
-    let named-field = c .before .before .before .before .before .named-field in
     let loop = c .before .before .before .before .before .before .before .loop in
+    let named-field = c .before .before .before .before .before .named-field in
     named-field .kept .1 .1 .0 ∙ gathering-length (loop .inv .gathering)
 
 returns-2 : tie.Need-returns-2 Inv-loop μ-loop
 returns-2 c =
-    let loop = c .before .before .before .before .before .before .before .loop in
     let args = c .before .before .before .before .before .before .before .before .before .before .args in
-    let r = c .before .r in
+    let loop = c .before .before .before .before .before .before .before .loop in
     let named-field = c .before .before .before .before .before .named-field in
-    rounds-refused reading.namedField conserved.namedField-round (loop .inv) (meeting.say (contract.namedShown (args .s .now) (loop .c)) contract.namedSaid (r .given .1) (named-field .ensures))
+    let r = c .before .r in
+    rounds-refused reading.namedField conserved.namedField-round (loop .inv)
+    (meeting.say (contract.namedShown (args .s .now) (loop .c)) contract.namedSaid (r .given .1)
+    (named-field .ensures))
 
 pub parse-with-name-spec : {M : Type 1} → statement M
 parse-with-name-spec =

@@ -17,7 +17,8 @@ returns c =
     let pre = c .before .before .before .before .before .pre in
     let look = c .before .before .look in
     let if1 = c .if1 in
-    meeting.meets-same reading.tupleField (args .s .now) (args .c) pre _ _ _ _ (look .ensures .none (if1 .taken)) refl refl
+    meeting.meets-same reading.tupleField (args .s .now) (args .c) pre _ _ _ _ (look .ensures .none (if1 .taken)) refl
+    refl
 
 tuple-type-requires : tie.Need-tuple-type-requires
 tuple-type-requires c κs = search needs
@@ -28,8 +29,8 @@ same-length c = search needs
 returns-2 : tie.Need-returns-2
 returns-2 c =
     let args = c .before .before .before .before .before .before .before .before .before .args in
-    let if1 = c .before .before .before .before .if1 in
     let look = c .before .before .before .before .before .before .look in
+    let if1 = c .before .before .before .before .if1 in
     let tuple-type = c .before .before .tuple-type in
     meeting.meets-as (as-type (args .c .row) (contract.stream (args .s .now) (args .c))
     (λ e. if1 .left (look .ensures .kind ∙ ap firstKind e))) (tuple-type .ensures)

@@ -16,7 +16,8 @@ abbrev made : contract.Prefix → Trees → UnnamedField
 made p t = record { attributes = p .attributes; visibility = p .visibility; type = t }
 
 abbrev type-then : List Trees → Visibility → Reader (reading.Maybe UnnamedField)
-type-then a v = reading.run reading.fieldStops role.type >>= λ t. reading.comma (made (record { attributes = a; visibility = v }) t)
+type-then a v =
+    reading.run reading.fieldStops role.type >>= λ t. reading.comma (made (record { attributes = a; visibility = v }) t)
 
 try-take-requires : tie.Need-try-take-requires
 try-take-requires c κs = search needs
@@ -29,16 +30,17 @@ enum-known-visibility c = search needs
 
 try-take-requires-2 : tie.Need-try-take-requires-2
 try-take-requires-2 c κs =
-    let visibility = c .before .before .visibility in
     let try-take = c .before .before .before .before .before .before .try-take in
+    let visibility = c .before .before .visibility in
     let attributes = meeting.say (λ x. contract.any) contract.stepSaid (visibility .given .1) (try-take .ensures) in
     meeting.landed attributes
 
 field-type-requires : tie.Need-field-type-requires
 field-type-requires c κs =
+    let back8 = c .before .before .before .before .before .before .before .before in
+    let pre = back8 .before .before .before .before .before .before .pre in
+    let try-take = back8 .before .before .try-take in
     let visibility = c .before .before .before .before .before .before .visibility in
-    let try-take = c .before .before .before .before .before .before .before .before .before .before .try-take in
-    let pre = c .before .before .before .before .before .before .before .before .before .before .before .before .before .before .pre in
     let try-take2 = c .before .before .before .try-take2 in
     let attributes = meeting.say (λ x. contract.any) contract.stepSaid (visibility .given .1) (try-take .ensures) in
     let prefixed = bodies.meets-prefix pre attributes (try-take2 .ensures) in
@@ -55,9 +57,9 @@ same-length c = search needs
 
 returns : tie.Need-returns
 returns c =
-    let r = c .before .r in
-    let try-take = c .before .before .before .before .before .try-take in
     let args = c .before .before .before .before .before .before .before .before .before .args in
+    let try-take = c .before .before .before .before .before .try-take in
+    let r = c .before .r in
     let attributes = meeting.say (λ x. contract.any) contract.stepSaid (r .given .1) (try-take .ensures) in
     meeting.meets-as (bodies.prefix-then (args .c .row) (contract.stream (args .s .now) (args .c)) type-then)
     (meeting.meets-no _ (bodies.prefix-refused attributes))
@@ -67,13 +69,15 @@ same-length-2 c = search needs
 
 returns-2 : tie.Need-returns-2
 returns-2 c =
-    let visibility = c .before .before .before .before .before .before .before .before .before .before .before .before .visibility in
-    let try-take = c .before .before .before .before .before .before .before .before .before .before .before .before .before .before .before .before .try-take in
-    let pre = c .before .before .before .before .before .before .before .before .before .before .before .before .before .before .before .before .before .before .before .before .pre in
-    let try-take2 = c .before .before .before .before .before .before .before .before .before .try-take2 in
-    let args = c .before .before .before .before .before .before .before .before .before .before .before .before .before .before .before .before .before .before .before .before .args in
-    let r2 = c .before .r2 in
+    let back8 = c .before .before .before .before .before .before .before .before in
+    let back16 = back8 .before .before .before .before .before .before .before .before in
+    let args = back16 .before .before .before .before .args in
+    let pre = back16 .before .before .before .before .pre in
+    let try-take = back16 .try-take in
+    let visibility = back8 .before .before .before .before .visibility in
+    let try-take2 = back8 .before .try-take2 in
     let field-type = c .before .before .before .before .before .field-type in
+    let r2 = c .before .r2 in
     let attributes = meeting.say (λ x. contract.any) contract.stepSaid (visibility .given .1) (try-take .ensures) in
     let prefixed = bodies.meets-prefix pre attributes (try-take2 .ensures) in
     let d = try-take2 .result in
@@ -91,13 +95,15 @@ same-length-3 c = search needs
 
 returns-3 : tie.Need-returns-3
 returns-3 c =
-    let visibility = c .before .before .before .before .before .before .before .before .before .before .before .before .before .before .visibility in
-    let try-take = c .before .before .before .before .before .before .before .before .before .before .before .before .before .before .before .before .before .before .try-take in
-    let pre = c .before .before .before .before .before .before .before .before .before .before .before .before .before .before .before .before .before .before .before .before .before .before .pre in
-    let try-take2 = c .before .before .before .before .before .before .before .before .before .before .before .try-take2 in
-    let args = c .before .before .before .before .before .before .before .before .before .before .before .before .before .before .before .before .before .before .before .before .before .before .args in
-    let typed = c .before .before .before .typed in
+    let back8 = c .before .before .before .before .before .before .before .before in
+    let back16 = back8 .before .before .before .before .before .before .before .before in
+    let args = back16 .before .before .before .before .before .before .args in
+    let pre = back16 .before .before .before .before .before .before .pre in
+    let try-take = back16 .before .before .try-take in
+    let visibility = back8 .before .before .before .before .before .before .visibility in
+    let try-take2 = back8 .before .before .before .try-take2 in
     let field-type = c .before .before .before .before .before .before .before .field-type in
+    let typed = c .before .before .before .typed in
     let attributes = meeting.say (λ x. contract.any) contract.stepSaid (visibility .given .1) (try-take .ensures) in
     let prefixed = bodies.meets-prefix pre attributes (try-take2 .ensures) in
     let d = try-take2 .result in

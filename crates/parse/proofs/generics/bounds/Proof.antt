@@ -25,9 +25,11 @@ same-length c = search needs
 returns : tie.Need-returns
 returns c =
     let args = c .before .before .before .before .before .before .before .before .before .args in
-    let r = c .before .r in
     let marked-run = c .before .before .before .before .before .marked-run in
-    meeting.meets-none (meeting.say (contract.markedRunShown (args .s .now) COLON (contract.point (args .s .now) (args .c))) (contract.markedRunSaid (args .c)) (r .given .1) (marked-run .ensures))
+    let r = c .before .r in
+    meeting.meets-none
+    (meeting.say (contract.markedRunShown (args .s .now) COLON (contract.point (args .s .now) (args .c)))
+    (contract.markedRunSaid (args .c)) (r .given .1) (marked-run .ensures))
 
 same-length-2 : tie.Need-same-length-2
 same-length-2 c = search needs
@@ -35,8 +37,8 @@ same-length-2 c = search needs
 returns-2 : tie.Need-returns-2
 returns-2 c =
     let args = c .before .before .before .before .before .before .before .before .args in
-    let enum-told = c .enum-told in
     let marked-run = c .before .before .before .before .marked-run in
+    let enum-told = c .enum-told in
     meeting.meets-show (λ v h. (h .0, h .1, refl))
     (meeting.say (contract.markedRunShown (args .s .now) COLON (contract.point (args .s .now) (args .c))) (contract.markedRunSaid (args .c)) (enum-told .given .1)
     (marked-run .ensures))
@@ -47,8 +49,8 @@ same-length-3 c = search needs
 returns-3 : tie.Need-returns-3
 returns-3 c =
     let args = c .before .before .before .before .before .before .before .before .before .before .args in
-    let r2 = c .before .before .r2 in
     let marked-run = c .before .before .before .before .before .before .marked-run in
+    let r2 = c .before .before .r2 in
     meeting.meets-show (λ v h. (h, refl))
     (meeting.say (contract.markedRunShown (args .s .now) COLON (contract.point (args .s .now) (args .c))) (contract.markedRunSaid (args .c)) (r2 .given .1)
     (marked-run .ensures))

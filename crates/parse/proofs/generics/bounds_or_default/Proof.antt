@@ -47,26 +47,28 @@ same-length-2 c = search needs
 
 returns-2 : tie.Need-returns-2
 returns-2 c =
+    let args = c .before .before .before .before .before .before .before .before .before .before .before .args in
     let stands-punct = c .before .before .before .before .before .before .before .before .stands-punct in
     let if1 = c .before .before .before .before .before .before .before .if1 in
-    let args = c .before .before .before .before .before .before .before .before .before .before .before .args in
-    let r = c .before .r in
     let marked-run = c .before .before .before .before .before .marked-run in
+    let r = c .before .r in
     let other = sym (stands-punct .ensures) ∙ if1 .left in
     let run = meeting.say (contract.markedRunShown (args .s .now) EQUALS (contract.point (args .s .now) (args .c))) (contract.markedRunSaid (args .c)) (r .given .1)
     (marked-run .ensures) in
-    λ n. meeting.meets-as (type-defaulted n (args .c .row) (contract.stream (args .s .now) (args .c)) other) (meeting.meets-no (λ d. pure (type n end d)) run)
+    λ n.
+    meeting.meets-as (type-defaulted n (args .c .row) (contract.stream (args .s .now) (args .c)) other)
+    (meeting.meets-no (λ d. pure (type n end d)) run)
 
 same-length-3 : tie.Need-same-length-3
 same-length-3 c = search needs
 
 returns-3 : tie.Need-returns-3
 returns-3 c =
+    let args = c .before .before .before .before .before .before .before .before .before .before .args in
     let stands-punct = c .before .before .before .before .before .before .before .stands-punct in
     let if1 = c .before .before .before .before .before .before .if1 in
-    let args = c .before .before .before .before .before .before .before .before .before .before .args in
-    let enum-told = c .enum-told in
     let marked-run = c .before .before .before .before .marked-run in
+    let enum-told = c .enum-told in
     let other = sym (stands-punct .ensures) ∙ if1 .left in
     let run = meeting.say (contract.markedRunShown (args .s .now) EQUALS (contract.point (args .s .now) (args .c))) (contract.markedRunSaid (args .c))
     (enum-told .given .1) (marked-run .ensures) in
@@ -78,11 +80,12 @@ same-length-4 c = search needs
 
 returns-4 : tie.Need-returns-4
 returns-4 c =
-    let stands-punct = c .before .before .before .before .before .before .before .before .before .stands-punct in
-    let if1 = c .before .before .before .before .before .before .before .before .if1 in
-    let args = c .before .before .before .before .before .before .before .before .before .before .before .before .args in
-    let r2 = c .before .before .r2 in
+    let back8 = c .before .before .before .before .before .before .before .before in
+    let args = back8 .before .before .before .before .args in
+    let stands-punct = back8 .before .stands-punct in
+    let if1 = back8 .if1 in
     let marked-run = c .before .before .before .before .before .before .marked-run in
+    let r2 = c .before .before .r2 in
     let other = sym (stands-punct .ensures) ∙ if1 .left in
     let run = meeting.say (contract.markedRunShown (args .s .now) EQUALS (contract.point (args .s .now) (args .c))) (contract.markedRunSaid (args .c)) (r2 .given .1)
     (marked-run .ensures) in

@@ -5,7 +5,7 @@ use Rattle.reading.specs.Reading as reading
 use Rattle.parse.proofs.Places as places
 use Rattle.reading.specs.Took.{Reader, Point}
 use Rattle.reading.specs.Role as role
-use Rattle.token_list.specs.Stream.{Trees, end}
+use Rattle.token_list.specs.Stream.{Trees}
 use mathlib.Core.Bool.{Bool}
 use Rattle.token_list.specs.declared.check.Cursor.{Cursor}
 use Rattle.parse.specs.declared.runs.Ending.{Ending}
@@ -29,9 +29,9 @@ same-length c = search needs
 
 returns : tie.Need-returns
 returns c =
-    let if1 = c .if1 in
-    let consume-punct-if = c .before .before .before .before .consume-punct-if in
     let args = c .before .before .before .before .before .before .before .before .args in
+    let consume-punct-if = c .before .before .before .before .consume-punct-if in
+    let if1 = c .if1 in
     let none = not-true _ (if1 .taken) in
     let stays = consume-punct-if .ensures .1 .1 none in
     meeting.meets-say (ap contract.on stays)
@@ -56,27 +56,38 @@ same-length-2 c = search needs
 
 returns-2 : tie.Need-returns-2
 returns-2 c =
-    let args = c .before .before .before .before .before .before .before .before .before .before .before .before .before .before .before .before .args in
-    let consume-punct-if = c .before .before .before .before .before .before .before .before .before .before .before .before .consume-punct-if in
-    let r = c .before .r in
+    let back8 = c .before .before .before .before .before .before .before .before in
+    let back16 = back8 .before .before .before .before .before .before .before .before in
+    let args = back16 .args in
+    let consume-punct-if = back8 .before .before .before .before .consume-punct-if in
+    let if1 = back8 .if1 in
     let read-tokens-until-punct = c .before .before .before .before .before .read-tokens-until-punct in
-    let if1 = c .before .before .before .before .before .before .before .before .if1 in
+    let r = c .before .r in
     let run = meeting.say (contract.runShown (args .s .now) reading.parameterStops role.bound
     (consume-punct-if .result .next)) contract.runSaid (r .given .1)
     (read-tokens-until-punct .ensures) in
     meeting.meets-then runOr (consume-punct-if .ensures .0)
-    (λ t e. meeting.meets-as (ap (λ x. runOr x (consume-punct-if .result .next .row) (contract.stream (args .s .now) (consume-punct-if .result .next))) (sym e ∙ not-false _ (if1 .left))) (meeting.meets-none run))
+    (λ t e.
+    meeting.meets-as
+    (ap
+    (λ x.
+    runOr x (consume-punct-if .result .next .row)
+    (contract.stream (args .s .now) (consume-punct-if .result .next)))
+    (sym e ∙ not-false _ (if1 .left)))
+    (meeting.meets-none run))
 
 same-length-3 : tie.Need-same-length-3
 same-length-3 c = search needs
 
 returns-3 : tie.Need-returns-3
 returns-3 c =
-    let consume-punct-if = c .before .before .before .before .before .before .before .before .before .before .before .before .consume-punct-if in
-    let if1 = c .before .before .before .before .before .before .before .before .if1 in
-    let args = c .before .before .before .before .before .before .before .before .before .before .before .before .before .before .before .before .args in
-    let to = c .before .to in
+    let back8 = c .before .before .before .before .before .before .before .before in
+    let back16 = back8 .before .before .before .before .before .before .before .before in
+    let args = back16 .args in
+    let consume-punct-if = back8 .before .before .before .before .consume-punct-if in
+    let if1 = back8 .if1 in
     let read-tokens-until-punct = c .before .before .before .before .before .read-tokens-until-punct in
+    let to = c .before .to in
     let there = sym (consume-punct-if .ensures .1 .0) ∙ not-false _ (if1 .left) in
     let run = meeting.say (contract.runShown (args .s .now) reading.parameterStops role.bound
     (consume-punct-if .result .next)) contract.runSaid (to .given .1)

@@ -6,10 +6,10 @@ use Rattle.parse.specs.declared.generics.ParameterKind.{ParameterKind}
 use Rattle.reading.specs.Took.{Reader, pure, _>>=_, Point}
 use Rattle.reading.specs.Declaration.{Parameter}
 use Rattle.token_list.specs.Byte.{COLON}
-use Rattle.token_list.specs.Stream.{Trees, end}
+use Rattle.token_list.specs.Stream.{end}
 use Prim.Native.Nat.{ℕ}
 use mathlib.Core.List.{List}
-use mathlib.Core.Path.{sym, subst}
+use mathlib.Core.Path.{subst}
 use borrow.Author.Needs.{needs}
 use Rattle.parse.proofs.generics.named_parameter.Statement.{statement}
 use Rattle.parse.proofs.generics.named_parameter.Tie as tie
@@ -32,8 +32,8 @@ enum-known-name c = search needs
 bounds-requires : tie.Need-bounds-requires
 bounds-requires c κs =
     let args = c .before .before .before .before .before .before .before .before .before .before .args in
-    let name = c .before .before .name in
     let parameter-name = c .before .before .before .before .before .before .parameter-name in
+    let name = c .before .before .name in
     meeting.landed (meeting.say (contract.nameShown (args .s .now) (contract.point (args .s .now) (args .c)))
     contract.nameSaid (name .given .1) (parameter-name .ensures))
 
@@ -45,10 +45,12 @@ enum-known-run c = search needs
 
 parameter-end-requires : tie.Need-parameter-end-requires
 parameter-end-requires c κs =
-    let args = c .before .before .before .before .before .before .before .before .before .before .before .before .before .before .before .before .before .args in
-    let name = c .before .before .before .before .before .before .before .before .before .name in
-    let run = c .before .before .run in
+    let back8 = c .before .before .before .before .before .before .before .before in
+    let back16 = back8 .before .before .before .before .before .before .before .before in
+    let args = back16 .before .args in
+    let name = back8 .before .name in
     let bounds = c .before .before .before .before .before .before .bounds in
+    let run = c .before .before .run in
     meeting.landed (meeting.say (contract.boundShown (args .s .now) (contract.point (args .s .now)
     (name .given .0 .1 .0))) contract.parameterRunSaid (run .given .1) (bounds .ensures))
 
@@ -58,8 +60,8 @@ same-length c = search needs
 returns : tie.Need-returns
 returns c =
     let args = c .before .before .before .before .before .before .before .before .before .args in
-    let r = c .before .r in
     let parameter-name = c .before .before .before .before .before .parameter-name in
+    let r = c .before .r in
     let named = meeting.say (contract.nameShown (args .s .now) (contract.point (args .s .now) (args .c)))
     contract.nameSaid (r .given .1) (parameter-name .ensures) in
     meeting.meets-as (meeting.after-assoc (args .c .row)
@@ -72,11 +74,13 @@ same-length-2 c = search needs
 
 returns-2 : tie.Need-returns-2
 returns-2 c =
-    let args = c .before .before .before .before .before .before .before .before .before .before .before .before .before .before .before .before .args in
-    let name = c .before .before .before .before .before .before .before .before .name in
-    let parameter-name = c .before .before .before .before .before .before .before .before .before .before .before .before .parameter-name in
-    let r2 = c .before .r2 in
+    let back8 = c .before .before .before .before .before .before .before .before in
+    let back16 = back8 .before .before .before .before .before .before .before .before in
+    let args = back16 .args in
+    let parameter-name = back8 .before .before .before .before .parameter-name in
+    let name = back8 .name in
     let bounds = c .before .before .before .before .before .bounds in
+    let r2 = c .before .r2 in
     let named = meeting.say (contract.nameShown (args .s .now) (contract.point (args .s .now) (args .c)))
     contract.nameSaid (name .given .1) (parameter-name .ensures) in
     let d = name .given .0 .1 .0 in
@@ -96,11 +100,13 @@ same-length-3 c = search needs
 
 returns-3 : tie.Need-returns-3
 returns-3 c =
-    let args = c .before .before .before .before .before .before .before .before .before .before .before .before .before .before .before .before .before .before .before .before .args in
-    let name = c .before .before .before .before .before .before .before .before .before .before .before .before .name in
-    let parameter-name = c .before .before .before .before .before .before .before .before .before .before .before .before .before .before .before .before .parameter-name in
+    let back8 = c .before .before .before .before .before .before .before .before in
+    let back16 = back8 .before .before .before .before .before .before .before .before in
+    let args = back16 .before .before .before .before .args in
+    let parameter-name = back16 .parameter-name in
+    let name = back8 .before .before .before .before .name in
+    let bounds = back8 .before .bounds in
     let run = c .before .before .before .before .before .run in
-    let bounds = c .before .before .before .before .before .before .before .before .before .bounds in
     let parameter-end = c .before .before .parameter-end in
     let named = meeting.say (contract.nameShown (args .s .now) (contract.point (args .s .now) (args .c)))
     contract.nameSaid (name .given .1) (parameter-name .ensures) in

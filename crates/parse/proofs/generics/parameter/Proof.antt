@@ -44,10 +44,11 @@ take-token-requires c κs =
 
 lifetime-requires : tie.Need-lifetime-requires
 lifetime-requires c κs =
+    let back8 = c .before .before .before .before .before .before .before .before in
+    let pre = back8 .before .before .before .before .before .pre in
+    let peek = back8 .before .before .peek in
+    let t = back8 .t in
     let take-token = c .before .before .before .take-token in
-    let pre = c .before .before .before .before .before .before .before .before .before .before .before .before .before .pre in
-    let peek = c .before .before .before .before .before .before .before .before .before .before .peek in
-    let t = c .before .before .before .before .before .before .before .before .t in
     meeting.past-in-of _ _ _ _ (take-token .ensures .0) pre (meeting.peeked _ _ (peek .ensures) (t .given .1) .token)
 
 same-length : tie.Need-same-length
@@ -55,12 +56,14 @@ same-length c = search needs
 
 returns : tie.Need-returns
 returns c =
-    let peek = c .before .before .before .before .before .before .before .before .before .before .before .before .before .peek in
-    let t = c .before .before .before .before .before .before .before .before .before .before .before .t in
-    let is-punct = c .before .before .before .before .before .before .before .before .before .is-punct in
-    let if1 = c .before .before .before .before .before .before .before .before .if1 in
-    let args = c .before .before .before .before .before .before .before .before .before .before .before .before .before .before .before .before .args in
-    let pre = c .before .before .before .before .before .before .before .before .before .before .before .before .before .before .before .before .pre in
+    let back8 = c .before .before .before .before .before .before .before .before in
+    let back16 = back8 .before .before .before .before .before .before .before .before in
+    let args = back16 .args in
+    let pre = back16 .pre in
+    let peek = back8 .before .before .before .before .before .peek in
+    let t = back8 .before .before .before .t in
+    let is-punct = back8 .before .is-punct in
+    let if1 = back8 .if1 in
     let take-token = c .before .before .before .before .before .before .take-token in
     let lifetime = c .before .before .lifetime in
     let l = meeting.peeked _ _ (peek .ensures) (t .given .1) in
@@ -85,14 +88,15 @@ same-length-2 c = search needs
 
 returns-2 : tie.Need-returns-2
 returns-2 c =
-    let peek = c .before .before .before .before .before .before .before .before .before .before .before .peek in
-    let t = c .before .before .before .before .before .before .before .before .before .t in
+    let back8 = c .before .before .before .before .before .before .before .before in
+    let args = back8 .before .before .before .before .before .before .args in
+    let pre = back8 .before .before .before .before .before .before .pre in
+    let peek = back8 .before .before .before .peek in
+    let t = back8 .before .t in
     let is-punct = c .before .before .before .before .before .before .before .is-punct in
     let if1 = c .before .before .before .before .before .before .if1 in
     let is-punct2 = c .before .before .before .before .before .is-punct2 in
     let if2 = c .before .before .before .before .if2 in
-    let args = c .before .before .before .before .before .before .before .before .before .before .before .before .before .before .args in
-    let pre = c .before .before .before .before .before .before .before .before .before .before .before .before .before .before .pre in
     let take-token2 = c .before .before .take-token2 in
     let l = meeting.peeked _ _ (peek .ensures) (t .given .1) in
     let no-quote = meeting.punct-of _ _ _ _ (l .token) ∙ sym (is-punct .ensures) ∙ if1 .left in
@@ -102,15 +106,16 @@ returns-2 c =
 
 returns-3 : tie.Need-returns-3
 returns-3 c =
-    let peek = c .before .before .before .before .before .before .before .before .before .peek in
+    let back8 = c .before .before .before .before .before .before .before .before in
+    let args = back8 .before .before .before .before .args in
+    let pre = back8 .before .before .before .before .pre in
+    let peek = back8 .before .peek in
     let t = c .before .before .before .before .before .before .before .t in
     let is-punct = c .before .before .before .before .before .is-punct in
     let if1 = c .before .before .before .before .if1 in
     let is-punct2 = c .before .before .before .is-punct2 in
     let if2 = c .before .before .if2 in
     let if3 = c .if3 in
-    let args = c .before .before .before .before .before .before .before .before .before .before .before .before .args in
-    let pre = c .before .before .before .before .before .before .before .before .before .before .before .before .pre in
     let l = meeting.peeked _ _ (peek .ensures) (t .given .1) in
     let no-quote = meeting.punct-of _ _ _ _ (l .token) ∙ sym (is-punct .ensures) ∙ if1 .left in
     let no-angle = meeting.punct-of _ _ _ _ (l .token) ∙ sym (is-punct2 .ensures) ∙ if2 .left in
@@ -121,9 +126,10 @@ returns-3 c =
 
 take-token-requires-3 : tie.Need-take-token-requires-3
 take-token-requires-3 c κs =
-    let pre = c .before .before .before .before .before .before .before .before .before .before .before .before .before .pre in
-    let peek = c .before .before .before .before .before .before .before .before .before .before .peek in
-    let t = c .before .before .before .before .before .before .before .before .t in
+    let back8 = c .before .before .before .before .before .before .before .before in
+    let pre = back8 .before .before .before .before .before .pre in
+    let peek = back8 .before .before .peek in
+    let t = back8 .t in
     (pre, meeting.peeked _ _ (peek .ensures) (t .given .1) .token)
 
 slice-aggregate-ident-eq : tie.Need-slice-aggregate-ident-eq
@@ -131,16 +137,19 @@ slice-aggregate-ident-eq c = search needs
 
 ident-eq-requires : tie.Need-ident-eq-requires
 ident-eq-requires c κs =
-    let peek = c .before .before .before .before .before .before .before .before .before .before .before .before .before .before .peek in
-    let t = c .before .before .before .before .before .before .before .before .before .before .before .before .t in
+    let back8 = c .before .before .before .before .before .before .before .before in
+    let peek = back8 .before .before .before .before .before .before .peek in
+    let t = back8 .before .before .before .before .t in
     meeting.token-within _ _ _ (meeting.peeked _ _ (peek .ensures) (t .given .1) .token)
 
 const-generic-requires : tie.Need-const-generic-requires
 const-generic-requires c κs =
+    let back8 = c .before .before .before .before .before .before .before .before in
+    let back16 = back8 .before .before .before .before .before .before .before .before in
+    let pre = back16 .before .before .before .before .pre in
+    let peek = back16 .before .peek in
+    let t = back8 .before .before .before .before .before .before .before .t in
     let take-token3 = c .before .before .before .before .before .before .take-token3 in
-    let pre = c .before .before .before .before .before .before .before .before .before .before .before .before .before .before .before .before .before .before .before .before .pre in
-    let peek = c .before .before .before .before .before .before .before .before .before .before .before .before .before .before .before .before .before .peek in
-    let t = c .before .before .before .before .before .before .before .before .before .before .before .before .before .before .before .t in
     meeting.past-in-of _ _ _ _ (take-token3 .ensures .0) pre (meeting.peeked _ _ (peek .ensures) (t .given .1) .token)
 
 same-length-3 : tie.Need-same-length-3
@@ -148,17 +157,19 @@ same-length-3 c = search needs
 
 returns-4 : tie.Need-returns-4
 returns-4 c =
-    let peek = c .before .before .before .before .before .before .before .before .before .before .before .before .before .before .before .before .before .before .before .before .peek in
-    let t = c .before .before .before .before .before .before .before .before .before .before .before .before .before .before .before .before .before .before .t in
-    let is-punct = c .before .before .before .before .before .before .before .before .before .before .before .before .before .before .before .before .is-punct in
-    let if1 = c .before .before .before .before .before .before .before .before .before .before .before .before .before .before .before .if1 in
-    let is-punct2 = c .before .before .before .before .before .before .before .before .before .before .before .before .before .before .is-punct2 in
-    let if2 = c .before .before .before .before .before .before .before .before .before .before .before .before .before .if2 in
+    let back8 = c .before .before .before .before .before .before .before .before in
+    let back16 = back8 .before .before .before .before .before .before .before .before in
+    let args = back16 .before .before .before .before .before .before .before .args in
+    let pre = back16 .before .before .before .before .before .before .before .pre in
+    let peek = back16 .before .before .before .before .peek in
+    let t = back16 .before .before .t in
+    let is-punct = back16 .is-punct in
+    let if1 = back8 .before .before .before .before .before .before .before .if1 in
+    let is-punct2 = back8 .before .before .before .before .before .before .is-punct2 in
+    let if2 = back8 .before .before .before .before .before .if2 in
+    let take-token3 = back8 .before .take-token3 in
     let ident-eq = c .before .before .before .before .before .ident-eq in
     let if4 = c .before .before .before .before .if4 in
-    let args = c .before .before .before .before .before .before .before .before .before .before .before .before .before .before .before .before .before .before .before .before .before .before .before .args in
-    let pre = c .before .before .before .before .before .before .before .before .before .before .before .before .before .before .before .before .before .before .before .before .before .before .before .pre in
-    let take-token3 = c .before .before .before .before .before .before .before .before .before .take-token3 in
     let const-generic = c .before .before .const-generic in
     let l = meeting.peeked _ _ (peek .ensures) (t .given .1) in
     let no-quote = meeting.punct-of _ _ _ _ (l .token) ∙ sym (is-punct .ensures) ∙ if1 .left in
@@ -172,10 +183,12 @@ returns-4 c =
 
 simple-generic-requires : tie.Need-simple-generic-requires
 simple-generic-requires c κs =
+    let back8 = c .before .before .before .before .before .before .before .before in
+    let back16 = back8 .before .before .before .before .before .before .before .before in
+    let pre = back16 .before .before .before .before .pre in
+    let peek = back16 .before .peek in
+    let t = back8 .before .before .before .before .before .before .before .t in
     let take-token3 = c .before .before .before .before .before .before .take-token3 in
-    let pre = c .before .before .before .before .before .before .before .before .before .before .before .before .before .before .before .before .before .before .before .before .pre in
-    let peek = c .before .before .before .before .before .before .before .before .before .before .before .before .before .before .before .before .before .peek in
-    let t = c .before .before .before .before .before .before .before .before .before .before .before .before .before .before .before .t in
     meeting.past-in-of _ _ _ _ (take-token3 .ensures .0) pre (meeting.peeked _ _ (peek .ensures) (t .given .1) .token)
 
 returns-5 : tie.Need-returns-5
@@ -184,7 +197,8 @@ returns-5 c =
     let pre = c .before .before .before .before .before .pre in
     let peek = c .before .before .peek in
     let enum-told = c .enum-told in
-    meeting.meets-refused (reading.parameter (args .angle)) _ _ pre _ _ _ _ _ (meeting.peeked _ _ (peek .ensures) (enum-told .given .1)) refl
+    meeting.meets-refused (reading.parameter (args .angle)) _ _ pre _ _ _ _ _
+    (meeting.peeked _ _ (peek .ensures) (enum-told .given .1)) refl
 
 returns-6 : tie.Need-returns-6
 returns-6 c =
@@ -192,26 +206,29 @@ returns-6 c =
     let pre = c .before .before .before .before .before .pre in
     let peek = c .before .before .peek in
     let enum-told2 = c .enum-told2 in
-    meeting.meets-refused (reading.parameter (args .angle)) _ _ pre _ _ _ _ _ (meeting.peeked _ _ (peek .ensures) (enum-told2 .given .1) .here) refl
+    meeting.meets-refused (reading.parameter (args .angle)) _ _ pre _ _ _ _ _
+    (meeting.peeked _ _ (peek .ensures) (enum-told2 .given .1) .here) refl
 
 same-length-4 : tie.Need-same-length-4
 same-length-4 c = search needs
 
 returns-7 : tie.Need-returns-7
 returns-7 c =
-    let peek = c .before .before .before .before .before .before .before .before .before .before .before .before .before .before .before .before .before .before .before .before .peek in
-    let t = c .before .before .before .before .before .before .before .before .before .before .before .before .before .before .before .before .before .before .t in
-    let is-punct = c .before .before .before .before .before .before .before .before .before .before .before .before .before .before .before .before .is-punct in
-    let if1 = c .before .before .before .before .before .before .before .before .before .before .before .before .before .before .before .if1 in
-    let is-punct2 = c .before .before .before .before .before .before .before .before .before .before .before .before .before .before .is-punct2 in
-    let if2 = c .before .before .before .before .before .before .before .before .before .before .before .before .before .if2 in
+    let back8 = c .before .before .before .before .before .before .before .before in
+    let back16 = back8 .before .before .before .before .before .before .before .before in
+    let args = back16 .before .before .before .before .before .before .before .args in
+    let pre = back16 .before .before .before .before .before .before .before .pre in
+    let peek = back16 .before .before .before .before .peek in
+    let t = back16 .before .before .t in
+    let is-punct = back16 .is-punct in
+    let if1 = back8 .before .before .before .before .before .before .before .if1 in
+    let is-punct2 = back8 .before .before .before .before .before .before .is-punct2 in
+    let if2 = back8 .before .before .before .before .before .if2 in
+    let if3 = back8 .before .before .before .if3 in
+    let take-token3 = back8 .before .take-token3 in
     let ident-eq = c .before .before .before .before .before .ident-eq in
     let if4 = c .before .before .before .before .if4 in
-    let args = c .before .before .before .before .before .before .before .before .before .before .before .before .before .before .before .before .before .before .before .before .before .before .before .args in
     let simple-generic = c .before .before .simple-generic in
-    let pre = c .before .before .before .before .before .before .before .before .before .before .before .before .before .before .before .before .before .before .before .before .before .before .before .pre in
-    let take-token3 = c .before .before .before .before .before .before .before .before .before .take-token3 in
-    let if3 = c .before .before .before .before .before .before .before .before .before .before .before .if3 in
     let l = meeting.peeked _ _ (peek .ensures) (t .given .1) in
     let no-quote = meeting.punct-of _ _ _ _ (l .token) ∙ sym (is-punct .ensures) ∙ if1 .left in
     let no-angle = meeting.punct-of _ _ _ _ (l .token) ∙ sym (is-punct2 .ensures) ∙ if2 .left in

@@ -20,8 +20,8 @@ enum-known-run c = search needs
 parameter-end-requires : tie.Need-parameter-end-requires
 parameter-end-requires c κs =
     let args = c .before .before .before .before .before .before .before .before .before .before .args in
-    let run = c .before .before .run in
     let bounds-or-default = c .before .before .before .before .before .before .bounds-or-default in
+    let run = c .before .before .run in
     meeting.landed (meeting.say (contract.typeShown (args .s .now) (contract.point (args .s .now) (args .c)) [])
     contract.parameterRunSaid (run .given .1) (bounds-or-default .ensures []))
 
@@ -31,8 +31,8 @@ same-length c = search needs
 returns : tie.Need-returns
 returns c =
     let args = c .before .before .before .before .before .before .before .before .before .args in
-    let r = c .before .r in
     let bounds-or-default = c .before .before .before .before .before .bounds-or-default in
+    let r = c .before .r in
     λ n x h place past.
     meeting.meets-no reading.comma
     (meeting.say (contract.typeShown (args .s .now) (contract.point (args .s .now) (args .c)) n)
@@ -43,9 +43,10 @@ same-length-2 c = search needs
 
 returns-2 : tie.Need-returns-2
 returns-2 c =
-    let args = c .before .before .before .before .before .before .before .before .before .before .before .before .before .args in
+    let back8 = c .before .before .before .before .before .before .before .before in
+    let args = back8 .before .before .before .before .before .args in
+    let bounds-or-default = back8 .before .bounds-or-default in
     let run = c .before .before .before .before .before .run in
-    let bounds-or-default = c .before .before .before .before .before .before .before .before .before .bounds-or-default in
     let parameter-end = c .before .before .parameter-end in
     λ n x h place past.
     meeting.meets-then reading.comma

@@ -44,9 +44,10 @@ take-token-requires c κs =
 
 parameters-requires : tie.Need-parameters-requires
 parameters-requires c κs =
-    let pre = c .before .before .before .before .before .before .before .before .before .before .before .before .before .pre in
-    let peek = c .before .before .before .before .before .before .before .before .before .before .peek in
-    let t = c .before .before .before .before .before .before .before .before .t in
+    let back8 = c .before .before .before .before .before .before .before .before in
+    let pre = back8 .before .before .before .before .before .pre in
+    let peek = back8 .before .before .peek in
+    let t = back8 .t in
     meeting.past-in-of _ _ _ _ ((c .before .before .before .take-token) .ensures .0) pre
     ((meeting.peeked _ _ (peek .ensures) (t .given .1)) .token)
 
@@ -67,12 +68,14 @@ same-length c = search needs
 
 returns-4 : tie.Need-returns-4
 returns-4 c =
-    let args = c .before .before .before .before .before .before .before .before .before .before .before .before .before .before .before .before .args in
-    let pre = c .before .before .before .before .before .before .before .before .before .before .before .before .before .before .before .before .pre in
-    let peek = c .before .before .before .before .before .before .before .before .before .before .before .before .before .peek in
-    let t = c .before .before .before .before .before .before .before .before .before .before .before .t in
-    let is-punct = c .before .before .before .before .before .before .before .before .before .is-punct in
-    let if1 = c .before .before .before .before .before .before .before .before .if1 in
+    let back8 = c .before .before .before .before .before .before .before .before in
+    let back16 = back8 .before .before .before .before .before .before .before .before in
+    let args = back16 .args in
+    let pre = back16 .pre in
+    let peek = back8 .before .before .before .before .before .peek in
+    let t = back8 .before .before .before .t in
+    let is-punct = back8 .before .is-punct in
+    let if1 = back8 .if1 in
     let take-token = c .before .before .before .before .before .before .take-token in
     meeting.meets-from reading.generics _ _ pre _ _ (meeting.peeked _ _ (peek .ensures) (t .given .1)) _ _ _ _
     (take-token .ensures .0) (take-token .ensures .1) _ _ (reading.genericsAfter (args .c .row))

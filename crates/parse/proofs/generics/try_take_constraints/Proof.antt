@@ -43,9 +43,9 @@ ident-eq-requires c κs =
 
 returns : tie.Need-returns
 returns c =
+    let pre = c .before .before .before .before .before .before .before .before .before .pre in
     let peek = c .before .before .before .before .before .before .peek in
     let t = c .before .before .before .before .t in
-    let pre = c .before .before .before .before .before .before .before .before .before .pre in
     let ident-eq = c .before .ident-eq in
     let if1 = c .if1 in
     let l = meeting.peeked _ _ (peek .ensures) (t .given .1) in
@@ -61,10 +61,11 @@ take-token-requires c κs =
 
 read-tokens-until-punct-requires : tie.Need-read-tokens-until-punct-requires
 read-tokens-until-punct-requires c κs =
+    let back8 = c .before .before .before .before .before .before .before .before in
+    let pre = back8 .before .before .before .before .before .before .pre in
+    let peek = back8 .before .before .before .peek in
+    let t = back8 .before .t in
     let take-token = c .before .before .before .take-token in
-    let pre = c .before .before .before .before .before .before .before .before .before .before .before .before .before .before .pre in
-    let peek = c .before .before .before .before .before .before .before .before .before .before .before .peek in
-    let t = c .before .before .before .before .before .before .before .before .before .t in
     meeting.past-in-of _ _ _ _ (take-token .ensures .0) pre (meeting.peeked _ _ (peek .ensures) (t .given .1) .token)
 
 enum-known-r : tie.Need-enum-known-r
@@ -78,29 +79,33 @@ returns-2 c =
     let pre = c .before .before .before .before .before .pre in
     let peek = c .before .before .peek in
     let enum-told = c .enum-told in
-    meeting.meets-same reading.clause _ _ pre _ _ _ _ (meeting.peeked _ _ (peek .ensures) (enum-told .given .1)) refl refl
+    meeting.meets-same reading.clause _ _ pre _ _ _ _ (meeting.peeked _ _ (peek .ensures) (enum-told .given .1)) refl
+    refl
 
 returns-3 : tie.Need-returns-3
 returns-3 c =
     let pre = c .before .before .before .before .before .pre in
     let peek = c .before .before .peek in
     let enum-told2 = c .enum-told2 in
-    meeting.meets-same reading.clause _ _ pre _ _ _ _ (meeting.peeked _ _ (peek .ensures) (enum-told2 .given .1) .here) refl refl
+    meeting.meets-same reading.clause _ _ pre _ _ _ _ (meeting.peeked _ _ (peek .ensures) (enum-told2 .given .1) .here)
+    refl refl
 
 same-length : tie.Need-same-length
 same-length c = search needs
 
 returns-4 : tie.Need-returns-4
 returns-4 c =
-    let peek = c .before .before .before .before .before .before .before .before .before .before .before .before .before .before .before .before .before .peek in
-    let t = c .before .before .before .before .before .before .before .before .before .before .before .before .before .before .before .t in
-    let args = c .before .before .before .before .before .before .before .before .before .before .before .before .before .before .before .before .before .before .before .before .args in
-    let take-token = c .before .before .before .before .before .before .before .before .before .take-token in
-    let r = c .before .r in
+    let back8 = c .before .before .before .before .before .before .before .before in
+    let back16 = back8 .before .before .before .before .before .before .before .before in
+    let args = back16 .before .before .before .before .args in
+    let pre = back16 .before .before .before .before .pre in
+    let peek = back16 .before .peek in
+    let t = back8 .before .before .before .before .before .before .before .t in
+    let ident-eq = back8 .before .before .before .before .ident-eq in
+    let if1 = back8 .before .before .before .if1 in
+    let take-token = back8 .before .take-token in
     let read-tokens-until-punct = c .before .before .before .before .before .read-tokens-until-punct in
-    let pre = c .before .before .before .before .before .before .before .before .before .before .before .before .before .before .before .before .before .before .before .before .pre in
-    let ident-eq = c .before .before .before .before .before .before .before .before .before .before .before .before .ident-eq in
-    let if1 = c .before .before .before .before .before .before .before .before .before .before .before .if1 in
+    let r = c .before .r in
     let l = meeting.peeked _ _ (peek .ensures) (t .given .1) in
     let run = meeting.say (contract.runShown (args .s .now) reading.clauseStops role.where-run (take-token .result)) contract.runSaid
     (r .given .1) (read-tokens-until-punct .ensures) in
@@ -113,15 +118,17 @@ same-length-2 c = search needs
 
 returns-5 : tie.Need-returns-5
 returns-5 c =
-    let peek = c .before .before .before .before .before .before .before .before .before .before .before .before .before .before .before .before .before .peek in
-    let t = c .before .before .before .before .before .before .before .before .before .before .before .before .before .before .before .t in
-    let ident-eq = c .before .before .before .before .before .before .before .before .before .before .before .before .ident-eq in
-    let if1 = c .before .before .before .before .before .before .before .before .before .before .before .if1 in
-    let pre = c .before .before .before .before .before .before .before .before .before .before .before .before .before .before .before .before .before .before .before .before .pre in
-    let take-token = c .before .before .before .before .before .before .before .before .before .take-token in
-    let args = c .before .before .before .before .before .before .before .before .before .before .before .before .before .before .before .before .before .before .before .before .args in
-    let to = c .before .to in
+    let back8 = c .before .before .before .before .before .before .before .before in
+    let back16 = back8 .before .before .before .before .before .before .before .before in
+    let args = back16 .before .before .before .before .args in
+    let pre = back16 .before .before .before .before .pre in
+    let peek = back16 .before .peek in
+    let t = back8 .before .before .before .before .before .before .before .t in
+    let ident-eq = back8 .before .before .before .before .ident-eq in
+    let if1 = back8 .before .before .before .if1 in
+    let take-token = back8 .before .take-token in
     let read-tokens-until-punct = c .before .before .before .before .before .read-tokens-until-punct in
+    let to = c .before .to in
     let l = meeting.peeked _ _ (peek .ensures) (t .given .1) in
     let is = sym (ident-eq .ensures) ∙ not-false _ (if1 .left) in
     let there = ap (starts (reading.isWord reading.WHERE)) (l .here) ∙ is in

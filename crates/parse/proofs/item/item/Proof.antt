@@ -9,7 +9,7 @@ use Rattle.reading.specs.Took.{Reader, _>>=_, Point, beyond}
 use Rattle.reading.specs.Declaration.{Visibility, Declaration}
 use Rattle.token_list.specs.Stream.{Trees}
 use mathlib.Core.List.{List}
-use mathlib.Core.Path.{sym, _∙_, ap, subst}
+use mathlib.Core.Path.{_∙_, ap, subst}
 use Rattle.parse.proofs.item.item.Statement.{statement}
 use Rattle.parse.proofs.item.item.Tie as tie
 
@@ -27,16 +27,17 @@ enum-known-visibility c = search needs
 
 try-take-requires-2 : tie.Need-try-take-requires-2
 try-take-requires-2 c κs =
-    let visibility = c .before .before .visibility in
     let try-take = c .before .before .before .before .before .before .try-take in
+    let visibility = c .before .before .visibility in
     let attributes = meeting.say (λ x. contract.any) contract.stepSaid (visibility .given .1) (try-take .ensures) in
     meeting.landed attributes
 
 take-requires : tie.Need-take-requires
 take-requires c κs =
+    let back8 = c .before .before .before .before .before .before .before .before in
+    let pre = back8 .before .before .before .before .before .before .pre in
+    let try-take = back8 .before .before .try-take in
     let visibility = c .before .before .before .before .before .before .visibility in
-    let try-take = c .before .before .before .before .before .before .before .before .before .before .try-take in
-    let pre = c .before .before .before .before .before .before .before .before .before .before .before .before .before .before .pre in
     let try-take2 = c .before .before .before .try-take2 in
     let attributes = meeting.say (λ x. contract.any) contract.stepSaid (visibility .given .1) (try-take .ensures) in
     let prefixed = bodies.meets-prefix pre attributes (try-take2 .ensures) in
@@ -50,10 +51,12 @@ enum-known-h c = search needs
 
 parts-requires : tie.Need-parts-requires
 parts-requires c κs =
-    let args = c .before .before .before .before .before .before .before .before .before .before .before .before .before .before .before .before .before .before .before .before .before .before .args in
-    let try-take2 = c .before .before .before .before .before .before .before .before .before .before .before .try-take2 in
-    let h = c .before .before .before .h in
+    let back8 = c .before .before .before .before .before .before .before .before in
+    let back16 = back8 .before .before .before .before .before .before .before .before in
+    let args = back16 .before .before .before .before .before .before .args in
+    let try-take2 = back8 .before .before .before .try-take2 in
     let take = c .before .before .before .before .before .before .before .take in
+    let h = c .before .before .before .h in
     let headed = meeting.say (contract.headShown (args .s .now) (try-take2 .result)) contract.headSaid
     (h .given .1) (take .ensures) in
     meeting.landed headed
@@ -63,9 +66,9 @@ same-length c = search needs
 
 returns : tie.Need-returns
 returns c =
-    let r = c .before .r in
-    let try-take = c .before .before .before .before .before .try-take in
     let args = c .before .before .before .before .before .before .before .before .before .args in
+    let try-take = c .before .before .before .before .before .try-take in
+    let r = c .before .r in
     let attributes = meeting.say (λ x. contract.any) contract.stepSaid (r .given .1) (try-take .ensures) in
     meeting.meets-as (bodies.prefix-then (args .c .row) (contract.stream (args .s .now) (args .c)) head-then)
     (meeting.meets-no _ (bodies.prefix-refused attributes))
@@ -75,13 +78,15 @@ same-length-2 c = search needs
 
 returns-2 : tie.Need-returns-2
 returns-2 c =
-    let visibility = c .before .before .before .before .before .before .before .before .before .before .before .before .visibility in
-    let try-take = c .before .before .before .before .before .before .before .before .before .before .before .before .before .before .before .before .try-take in
-    let pre = c .before .before .before .before .before .before .before .before .before .before .before .before .before .before .before .before .before .before .before .before .pre in
-    let try-take2 = c .before .before .before .before .before .before .before .before .before .try-take2 in
-    let args = c .before .before .before .before .before .before .before .before .before .before .before .before .before .before .before .before .before .before .before .before .args in
-    let r2 = c .before .r2 in
+    let back8 = c .before .before .before .before .before .before .before .before in
+    let back16 = back8 .before .before .before .before .before .before .before .before in
+    let args = back16 .before .before .before .before .args in
+    let pre = back16 .before .before .before .before .pre in
+    let try-take = back16 .try-take in
+    let visibility = back8 .before .before .before .before .visibility in
+    let try-take2 = back8 .before .try-take2 in
     let take = c .before .before .before .before .before .take in
+    let r2 = c .before .r2 in
     let attributes = meeting.say (λ x. contract.any) contract.stepSaid (visibility .given .1) (try-take .ensures) in
     let prefixed = bodies.meets-prefix pre attributes (try-take2 .ensures) in
     let headed = meeting.say (contract.headShown (args .s .now) (try-take2 .result)) contract.headSaid
@@ -91,21 +96,26 @@ returns-2 c =
 
 same-length-3 : tie.Need-same-length-3
 same-length-3 c =
+    let back8 = c .before .before .before .before .before .before .before .before in
+    let back16 = back8 .before .before .before .before .before .before .before .before in
+    let try-take = back16 .before .before .before .before .before .try-take in
+    let try-take2 = back8 .before .before .before .before .before .before .try-take2 in
+    let take = back8 .before .before .take in
     let parts = c .before .before .parts in
-    let take = c .before .before .before .before .before .before .before .before .before .before .take in
-    let try-take2 = c .before .before .before .before .before .before .before .before .before .before .before .before .before .before .try-take2 in
-    let try-take = c .before .before .before .before .before .before .before .before .before .before .before .before .before .before .before .before .before .before .before .before .before .try-take in
     parts .kept .1 .1 .1 .1 .0 ∙ take .kept .1 .1 .0 ∙ try-take2 .kept .1 .1 .0 ∙ try-take .kept .1 .1 .0
 
 returns-3 : tie.Need-returns-3
 returns-3 c =
-    let visibility = c .before .before .before .before .before .before .before .before .before .before .before .before .before .before .before .before .before .visibility in
-    let try-take = c .before .before .before .before .before .before .before .before .before .before .before .before .before .before .before .before .before .before .before .before .before .try-take in
-    let pre = c .before .before .before .before .before .before .before .before .before .before .before .before .before .before .before .before .before .before .before .before .before .before .before .before .before .pre in
-    let try-take2 = c .before .before .before .before .before .before .before .before .before .before .before .before .before .before .try-take2 in
-    let args = c .before .before .before .before .before .before .before .before .before .before .before .before .before .before .before .before .before .before .before .before .before .before .before .before .before .args in
+    let back8 = c .before .before .before .before .before .before .before .before in
+    let back16 = back8 .before .before .before .before .before .before .before .before in
+    let back24 = back16 .before .before .before .before .before .before .before .before in
+    let args = back24 .before .args in
+    let pre = back24 .before .pre in
+    let try-take = back16 .before .before .before .before .before .try-take in
+    let visibility = back16 .before .visibility in
+    let try-take2 = back8 .before .before .before .before .before .before .try-take2 in
+    let take = back8 .before .before .take in
     let h = c .before .before .before .before .before .before .h in
-    let take = c .before .before .before .before .before .before .before .before .before .before .take in
     let parts = c .before .before .parts in
     let attributes = meeting.say (λ x. contract.any) contract.stepSaid (visibility .given .1) (try-take .ensures) in
     let prefixed = bodies.meets-prefix pre attributes (try-take2 .ensures) in

@@ -3,7 +3,7 @@ use Rattle.parse.specs.Contract as contract
 use Rattle.reading.specs.Reading as reading
 use borrow.Author.Needs.{needs}
 use Rattle.parse.proofs.Places as places
-use Rattle.reading.specs.Took.{Took, Reader, _>>=_, pure, Point, beyond}
+use Rattle.reading.specs.Took.{Took, _>>=_, pure, Point, beyond}
 use Rattle.reading.specs.Declaration as declaration
 use Rattle.token_list.specs.Stream.{Trees}
 use Prim.Native.Nat.{ℕ}
@@ -39,8 +39,8 @@ enum-known-d c = search needs
 
 try-take-constraints-requires : tie.Need-try-take-constraints-requires
 try-take-constraints-requires c κs =
-    let d = c .before .before .d in
     let try-take = c .before .before .before .before .before .before .try-take in
+    let d = c .before .before .d in
     let generics = meeting.say contract.genericsShown contract.countSaid (d .given .1) (try-take .ensures) in
     meeting.landed generics
 
@@ -52,10 +52,12 @@ enum-known-clause c = search needs
 
 body-requires : tie.Need-body-requires
 body-requires c κs =
-    let args = c .before .before .before .before .before .before .before .before .before .before .before .before .before .before .before .before .before .before .before .args in
-    let d = c .before .before .before .before .before .before .before .before .before .d in
-    let clause = c .before .before .clause in
+    let back8 = c .before .before .before .before .before .before .before .before in
+    let back16 = back8 .before .before .before .before .before .before .before .before in
+    let args = back16 .before .before .before .args in
+    let d = back8 .before .d in
     let try-take-constraints = c .before .before .before .before .before .before .try-take-constraints in
+    let clause = c .before .before .clause in
     let clauses = meeting.say (contract.clauseShown (args .s .now) (contract.point (args .s .now) (d .given .0 .0)))
     contract.clauseSaid (clause .given .1) (try-take-constraints .ensures) in
     meeting.landed clauses
@@ -71,8 +73,8 @@ same-length c = search needs
 
 returns : tie.Need-returns
 returns c =
-    let r = c .before .r in
     let try-take = c .before .before .before .before .before .try-take in
+    let r = c .before .r in
     let generics = meeting.say contract.genericsShown contract.countSaid (r .given .1) (try-take .ensures) in
     λ x p h w. meeting.meets-no _ generics
 
@@ -81,11 +83,13 @@ same-length-2 c = search needs
 
 returns-2 : tie.Need-returns-2
 returns-2 c =
-    let d = c .before .before .before .before .before .before .before .before .d in
-    let try-take = c .before .before .before .before .before .before .before .before .before .before .before .before .try-take in
-    let args = c .before .before .before .before .before .before .before .before .before .before .before .before .before .before .before .before .before .before .args in
-    let r2 = c .before .r2 in
+    let back8 = c .before .before .before .before .before .before .before .before in
+    let back16 = back8 .before .before .before .before .before .before .before .before in
+    let args = back16 .before .before .args in
+    let try-take = back8 .before .before .before .before .try-take in
+    let d = back8 .d in
     let try-take-constraints = c .before .before .before .before .before .try-take-constraints in
+    let r2 = c .before .r2 in
     let generics = meeting.say contract.genericsShown contract.countSaid (d .given .1) (try-take .ensures) in
     let clauses = meeting.say (contract.clauseShown (args .s .now) (contract.point (args .s .now) (d .given .0 .0)))
     contract.clauseSaid (r2 .given .1) (try-take-constraints .ensures) in
@@ -96,13 +100,16 @@ same-length-3 c = search needs
 
 returns-3 : tie.Need-returns-3
 returns-3 c =
-    let d = c .before .before .before .before .before .before .before .before .before .before .before .before .before .before .before .d in
-    let try-take = c .before .before .before .before .before .before .before .before .before .before .before .before .before .before .before .before .before .before .before .try-take in
-    let args = c .before .before .before .before .before .before .before .before .before .before .before .before .before .before .before .before .before .before .before .before .before .before .before .before .before .args in
-    let clause = c .before .before .before .before .before .before .before .before .clause in
-    let try-take-constraints = c .before .before .before .before .before .before .before .before .before .before .before .before .try-take-constraints in
-    let r3 = c .before .r3 in
+    let back8 = c .before .before .before .before .before .before .before .before in
+    let back16 = back8 .before .before .before .before .before .before .before .before in
+    let back24 = back16 .before .before .before .before .before .before .before .before in
+    let args = back24 .before .args in
+    let try-take = back16 .before .before .before .try-take in
+    let d = back8 .before .before .before .before .before .before .before .d in
+    let try-take-constraints = back8 .before .before .before .before .try-take-constraints in
+    let clause = back8 .clause in
     let body = c .before .before .before .before .before .body in
+    let r3 = c .before .r3 in
     let generics = meeting.say contract.genericsShown contract.countSaid (d .given .1) (try-take .ensures) in
     let clauses = meeting.say (contract.clauseShown (args .s .now) (contract.point (args .s .now) (d .given .0 .0)))
     contract.clauseSaid (clause .given .1) (try-take-constraints .ensures) in
@@ -115,14 +122,17 @@ same-length-4 c = search needs
 
 returns-4 : tie.Need-returns-4
 returns-4 c =
-    let d = c .before .before .before .before .before .before .before .before .before .before .before .before .before .before .before .d in
-    let try-take = c .before .before .before .before .before .before .before .before .before .before .before .before .before .before .before .before .before .before .before .try-take in
-    let args = c .before .before .before .before .before .before .before .before .before .before .before .before .before .before .before .before .before .before .before .before .before .before .before .before .before .args in
-    let clause = c .before .before .before .before .before .before .before .before .clause in
-    let try-take-constraints = c .before .before .before .before .before .before .before .before .before .before .before .before .try-take-constraints in
-    let end = c .before .end in
+    let back8 = c .before .before .before .before .before .before .before .before in
+    let back16 = back8 .before .before .before .before .before .before .before .before in
+    let back24 = back16 .before .before .before .before .before .before .before .before in
+    let args = back24 .before .args in
+    let pre = back24 .before .pre in
+    let try-take = back16 .before .before .before .try-take in
+    let d = back8 .before .before .before .before .before .before .before .d in
+    let try-take-constraints = back8 .before .before .before .before .try-take-constraints in
+    let clause = back8 .clause in
     let body = c .before .before .before .before .before .body in
-    let pre = c .before .before .before .before .before .before .before .before .before .before .before .before .before .before .before .before .before .before .before .before .before .before .before .before .before .pre in
+    let end = c .before .end in
     let generics = meeting.say contract.genericsShown contract.countSaid (d .given .1) (try-take .ensures) in
     let clauses = meeting.say (contract.clauseShown (args .s .now) (contract.point (args .s .now) (d .given .0 .0)))
     contract.clauseSaid (clause .given .1) (try-take-constraints .ensures) in

@@ -33,9 +33,10 @@ same-length c = search needs
 
 returns : tie.Need-returns
 returns c =
-    let args = c .before .before .before .before .before .before .before .before .before .before .before .before .before .args in
-    let pre = c .before .before .before .before .before .before .before .before .before .before .before .before .before .pre in
-    let item = c .before .before .before .before .before .before .before .before .before .item in
+    let back8 = c .before .before .before .before .before .before .before .before in
+    let args = back8 .before .before .before .before .before .args in
+    let pre = back8 .before .before .before .before .before .pre in
+    let item = back8 .before .item in
     let r = c .before .before .before .before .before .r in
     let refuse = c .before .before .refuse in
     items.read-refused (args .s .now) (args .rows) (pre .0) (args .roles .now) (pre .1) (r .given .0 .0)
@@ -47,9 +48,10 @@ same-length-2 c = search needs
 
 returns-2 : tie.Need-returns-2
 returns-2 c =
-    let args = c .before .before .before .before .before .before .before .before .before .before .before .before .before .before .before .args in
-    let pre = c .before .before .before .before .before .before .before .before .before .before .before .before .before .before .before .pre in
-    let item = c .before .before .before .before .before .before .before .before .before .before .before .item in
+    let back8 = c .before .before .before .before .before .before .before .before in
+    let args = back8 .before .before .before .before .before .before .before .args in
+    let pre = back8 .before .before .before .before .before .before .before .pre in
+    let item = back8 .before .before .before .item in
     let i = c .before .before .before .before .before .before .before .i in
     items.read-accepted (args .s .now) (args .rows) (pre .0) (args .roles .now) (pre .1) (i .given .0 .0)
     (meeting.say (contract.itemShown (args .s .now) contract.first) contract.itemSaid (i .given .1) (item .ensures))

@@ -20,7 +20,8 @@ told : (s : List ℕ) (c : Cursor) (b0 b1 : List ℕ) (st : Stops) (r depth : �
 told s c b0 b1 st r depth m h e = subst (contract.RunTokenRead s c b0 b1 st r depth m) e h
 
 abbrev Inv-loop : tie.InvT-loop
-Inv-loop s roles₀ stops role c₀ depth₀ minus₀ roles c depth minus = Running s (stopsOf stops) role c₀ roles₀ c depth minus roles
+Inv-loop s roles₀ stops role c₀ depth₀ minus₀ roles c depth minus =
+    Running s (stopsOf stops) role c₀ roles₀ c depth minus roles
 
 abbrev μ-loop : tie.MeasureT-loop
 μ-loop s roles₀ stops role c₀ depth₀ minus₀ roles c depth minus = length s - c .at
@@ -47,9 +48,9 @@ loop-less c =
 
 loop-again : tie.Need-loop-again Inv-loop μ-loop
 loop-again c =
+    let loop = c .before .before .before .before .before .before .before .loop in
     let run-token = c .before .before .before .before .before .run-token in
     let next = c .before .next in
-    let loop = c .before .before .before .before .before .before .before .loop in
     let b = told _ _ _ _ _ _ _ _ (run-token .ensures) (next .given .1) in
     record { going = meeting.going-more (loop .inv .going) (b .0); deep = b .1 }
 
@@ -58,17 +59,17 @@ enum-known-ending c = search needs
 
 same-length : tie.Need-same-length Inv-loop μ-loop
 same-length c =
-    let run-token = c .before .before .before .before .before .run-token in
     let loop = c .before .before .before .before .before .before .before .loop in
+    let run-token = c .before .before .before .before .before .run-token in
     run-token .kept .1 .1 .0 ∙ meeting.going-length (loop .inv .going)
 
 returns : tie.Need-returns Inv-loop μ-loop
 returns c =
-    let run-token = c .before .before .before .before .before .run-token in
-    let ending = c .before .ending in
     let args = c .before .before .before .before .before .before .before .before .before .before .args in
     let pre = c .before .before .before .before .before .before .before .before .before .before .pre in
     let loop = c .before .before .before .before .before .before .before .loop in
+    let run-token = c .before .before .before .before .before .run-token in
+    let ending = c .before .ending in
     let b = told _ _ _ _ _ _ _ _ (run-token .ensures) (ending .given .1) in
     run-read (args .s .now) (args .from) (stopsOf (args .stops)) (args .role) _ pre refl
     (meeting.going-ends _ (loop .inv .going) (b .0) (b .1) refl)
@@ -78,16 +79,16 @@ enum-known-r c = search needs
 
 same-length-2 : tie.Need-same-length-2 Inv-loop μ-loop
 same-length-2 c =
-    let run-token = c .before .before .before .before .before .run-token in
     let loop = c .before .before .before .before .before .before .before .loop in
+    let run-token = c .before .before .before .before .before .run-token in
     run-token .kept .1 .1 .0 ∙ meeting.going-length (loop .inv .going)
 
 returns-2 : tie.Need-returns-2 Inv-loop μ-loop
 returns-2 c =
-    let run-token = c .before .before .before .before .before .run-token in
-    let r = c .before .r in
     let args = c .before .before .before .before .before .before .before .before .before .before .args in
     let loop = c .before .before .before .before .before .before .before .loop in
+    let run-token = c .before .before .before .before .before .run-token in
+    let r = c .before .r in
     let b = told _ _ _ _ _ _ _ _ (run-token .ensures) (r .given .1) in
     run-refused (args .s .now) (args .from) (stopsOf (args .stops)) (args .role) {sh = contract.any}
     (meeting.going-meets (loop .inv .going) (meeting.meets-as (b .0) (contract.refuses [] (b .1))))

@@ -53,10 +53,10 @@ ends-run-requires c κs = search needs
 
 returns : tie.Need-returns
 returns c =
-    let peek = c .before .before .before .before .before .peek in
-    let t2 = c .before .before .before .t2 in
     let args = c .before .before .before .before .before .before .before .before .args in
     let pre = c .before .before .before .before .before .before .before .before .pre in
+    let peek = c .before .before .before .before .before .peek in
+    let t2 = c .before .before .before .t2 in
     let ends-run = c .before .ends-run in
     let if1 = c .if1 in
     let g = meeting.peeked _ _ (peek .ensures) (t2 .given .1) in (
@@ -88,12 +88,13 @@ same-length c = search needs
 
 returns-3 : tie.Need-returns-3
 returns-3 c =
-    let peek = c .before .before .before .before .before .before .before .before .before .before .before .peek in
-    let t = c .before .before .before .before .before .before .before .before .before .t in
-    let args = c .before .before .before .before .before .before .before .before .before .before .before .before .before .before .args in
-    let e = c .before .before .before .before .before .e in
+    let back8 = c .before .before .before .before .before .before .before .before in
+    let args = back8 .before .before .before .before .before .before .args in
+    let pre = back8 .before .before .before .before .before .before .pre in
+    let peek = back8 .before .before .before .peek in
+    let t = back8 .before .t in
     let judge = c .before .before .before .before .before .before .before .judge in
-    let pre = c .before .before .before .before .before .before .before .before .before .before .before .before .before .before .pre in
+    let e = c .before .before .before .before .before .e in
     let take-token = c .before .before .take-token in
     let l = meeting.peeked _ _ (peek .ensures) (t .given .1) in
     let stops = stopsOf (args .stops) in
@@ -111,12 +112,12 @@ returns-3 c =
 
 returns-4 : tie.Need-returns-4
 returns-4 c =
+    let args = c .before .before .before .before .before .before .before .before .before .before .args in
+    let pre = c .before .before .before .before .before .before .before .before .before .before .pre in
     let peek = c .before .before .before .before .before .before .before .peek in
     let t = c .before .before .before .before .before .t in
-    let args = c .before .before .before .before .before .before .before .before .before .before .args in
     let judge = c .before .before .before .judge in
     let e2 = c .before .e2 in
-    let pre = c .before .before .before .before .before .before .before .before .before .before .pre in
     let l = meeting.peeked _ _ (peek .ensures) (t .given .1) in
     let stops = stopsOf (args .stops) in
     let v = turns.judge-of stops (args .depth) (args .minus) _ _ _ (l .token) ∙ sym (judge .ensures) ∙
@@ -125,12 +126,12 @@ returns-4 c =
 
 returns-5 : tie.Need-returns-5
 returns-5 c =
+    let args = c .before .before .before .before .before .before .before .before .before .args in
+    let pre = c .before .before .before .before .before .before .before .before .before .pre in
     let peek = c .before .before .before .before .before .before .peek in
     let t = c .before .before .before .before .t in
-    let args = c .before .before .before .before .before .before .before .before .before .args in
     let judge = c .before .before .judge in
     let enum-told2 = c .enum-told2 in
-    let pre = c .before .before .before .before .before .before .before .before .before .pre in
     let l = meeting.peeked _ _ (peek .ensures) (t .given .1) in
     let stops = stopsOf (args .stops) in
     let v = turns.judge-of stops (args .depth) (args .minus) _ _ _ (l .token) ∙ sym (judge .ensures) ∙
@@ -142,13 +143,14 @@ same-length-2 c = search needs
 
 returns-6 : tie.Need-returns-6
 returns-6 c =
-    let peek = c .before .before .before .before .before .before .before .before .before .peek in
+    let back8 = c .before .before .before .before .before .before .before .before in
+    let args = back8 .before .before .before .before .args in
+    let pre = back8 .before .before .before .before .pre in
+    let peek = back8 .before .peek in
     let t2 = c .before .before .before .before .before .before .before .t2 in
-    let args = c .before .before .before .before .before .before .before .before .before .before .before .before .args in
-    let pre = c .before .before .before .before .before .before .before .before .before .before .before .before .pre in
-    let take-group = c .before .before .take-group in
     let ends-run = c .before .before .before .before .before .ends-run in
     let if1 = c .before .before .before .before .if1 in
+    let take-group = c .before .before .take-group in
     let g = meeting.peeked _ _ (peek .ensures) (t2 .given .1) in (
       turns.turn-group (stopsOf (args .stops)) (args .role) (args .s .now) (args .c) (pre .0) (args .depth)
           (args .minus) _ g (take-group .result) (args .roles .now) _ (take-group .ensures)

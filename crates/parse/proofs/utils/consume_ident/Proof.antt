@@ -77,10 +77,10 @@ same-length c = search needs
 
 returns-3 : tie.Need-returns-3
 returns-3 c =
-    let args =
-    c .before .before .before .before .before .before .before .before .before .before .before .before .args in
-    let pre = c .before .before .before .before .before .before .before .before .before .before .before .before .pre in
-    let peek = c .before .before .before .before .before .before .before .before .before .peek in
+    let back8 = c .before .before .before .before .before .before .before .before in
+    let args = back8 .before .before .before .before .args in
+    let pre = back8 .before .before .before .before .pre in
+    let peek = back8 .before .peek in
     let t = c .before .before .before .before .before .before .before .t in
     let if1 = c .before .before .before .before .if1 in
     let take-token = c .before .before .take-token in
@@ -113,13 +113,16 @@ same-length-2 c = search needs
 
 returns-5 : tie.Need-returns-5
 returns-5 c =
-    let args = c .before .before .before .before .before .before .before .before .before .before .before .before .before .before .before .before .args in
-    let pre = c .before .before .before .before .before .before .before .before .before .before .before .before .before .before .before .before .pre in
-    let peek = c .before .before .before .before .before .before .before .before .before .before .before .before .before .peek in
-    let t2 = c .before .before .before .before .before .before .before .before .before .before .before .t2 in
-    let past = c .before .before .before .before .before .before .before .before .before .past in
-    let lone-ident = c .before .before .before .before .before .before .before .before .lone-ident in
-    let w-2 = c .before .before .before .before .before .before .w in
+    let back8 = c .before .before .before .before .before .before .before .before in
+    let back16 = back8 .before .before .before .before .before .before .before .before in
+    let args = back16 .args in
+    let pre = back16 .pre in
+    let peek = back8 .before .before .before .before .before .peek in
+    let t2 = back8 .before .before .before .t2 in
+    let past = back8 .before .past in
+    let lone-ident = back8 .lone-ident in
+    let w-3 = c .before .before .before .before .before .before .w in
+    let w-2 = w-3 in
     let g = meeting.peeked _ _ (peek .ensures) (t2 .given .1) in
     let a = args in
     let w = subst (λ (d : Cursor). contract.loneShown (a .s .now) d (Found (w-2 .given .0 .0))) (past .ensures)

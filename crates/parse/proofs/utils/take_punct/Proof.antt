@@ -32,7 +32,8 @@ returns c =
     let peek = c .before .before .before .before .before .peek in
     let l = meeting.peeked _ _ (peek .ensures) ((c .before .before .before .t) .given .1) in
     let other = meeting.punct-of _ _ _ _ (l .token) ∙ sym ((c .before .is-punct) .ensures) ∙ not-true _ ((c .if1) .taken) in (
-      meeting.meets-same (reading.punctIf (args .punct) (args .role)) _ _ pre _ _ _ _ (l .here) (passed-over _ _ _ other) refl,
+      meeting.meets-same (reading.punctIf (args .punct) (args .role)) _ _ pre _ _ _ _ (l .here)
+          (passed-over _ _ _ other) refl,
       (sym (ap (starts (reading.isPunct (args .punct))) (l .here) ∙ other), (λ e. refl)),
     )
 
@@ -66,10 +67,10 @@ same-length c = search needs
 
 returns-4 : tie.Need-returns-4
 returns-4 c =
-    let args =
-    c .before .before .before .before .before .before .before .before .before .before .before .before .args in
-    let pre = c .before .before .before .before .before .before .before .before .before .before .before .before .pre in
-    let peek = c .before .before .before .before .before .before .before .before .before .peek in
+    let back8 = c .before .before .before .before .before .before .before .before in
+    let args = back8 .before .before .before .before .args in
+    let pre = back8 .before .before .before .before .pre in
+    let peek = back8 .before .peek in
     let t = c .before .before .before .before .before .before .before .t in
     let is-punct = c .before .before .before .before .before .is-punct in
     let if1 = c .before .before .before .before .if1 in

@@ -34,8 +34,9 @@ same-length c = search needs
 
 returns : tie.Need-returns
 returns c =
-    let pre = c .before .before .before .before .before .before .before .before .before .before .before .before .pre in
-    let peek = c .before .before .before .before .before .before .before .before .before .peek in
+    let back8 = c .before .before .before .before .before .before .before .before in
+    let pre = back8 .before .before .before .before .pre in
+    let peek = back8 .before .peek in
     let t = c .before .before .before .before .before .before .before .t in
     let if1 = c .before .before .before .before .if1 in
     let take-token = c .before .before .take-token in
@@ -62,10 +63,10 @@ take-token-requires-2 c κs =
 
 negative-value-requires : tie.Need-negative-value-requires
 negative-value-requires c κs =
-    let pre = c .before .before .before .before .before .before .before .before .before .before .before .before .before .before .before .pre in
-    let peek =
-    c .before .before .before .before .before .before .before .before .before .before .before .before .peek in
-    let t = c .before .before .before .before .before .before .before .before .before .before .t in
+    let back8 = c .before .before .before .before .before .before .before .before in
+    let pre = back8 .before .before .before .before .before .before .before .pre in
+    let peek = back8 .before .before .before .before .peek in
+    let t = back8 .before .before .t in
     meeting.past-in-of _ _ _ _ ((c .before .before .before .take-token2) .ensures .0) pre
     ((meeting.peeked _ _ (peek .ensures) (t .given .1)) .token)
 
@@ -74,23 +75,25 @@ same-length-2 c = search needs
 
 returns-2 : tie.Need-returns-2
 returns-2 c =
-    let args = c .before .before .before .before .before .before .before .before .before .before .before .before .before .before .before .before .before .before .args in
-    let pre = c .before .before .before .before .before .before .before .before .before .before .before .before .before .before .before .before .before .before .pre in
-    let peek = c .before .before .before .before .before .before .before .before .before .before .before .before .before .before .before .peek in
-    let t =
-    c .before .before .before .before .before .before .before .before .before .before .before .before .before .t in
-    let if1 = c .before .before .before .before .before .before .before .before .before .before .if1 in
-    let is-punct = c .before .before .before .before .before .before .before .before .before .is-punct in
-    let if2 = c .before .before .before .before .before .before .before .before .if2 in
+    let back8 = c .before .before .before .before .before .before .before .before in
+    let back16 = back8 .before .before .before .before .before .before .before .before in
+    let args = back16 .before .before .args in
+    let pre = back16 .before .before .pre in
+    let peek = back8 .before .before .before .before .before .before .before .peek in
+    let t = back8 .before .before .before .before .before .t in
+    let if1 = back8 .before .before .if1 in
+    let is-punct = back8 .before .is-punct in
+    let if2 = back8 .if2 in
     let take-token2 = c .before .before .before .before .before .before .take-token2 in
+    let negative-value = c .before .before .negative-value in
     meeting.meets-from reading.discriminant _ _ pre _ _ (meeting.peeked _ _ (peek .ensures) (t .given .1)) _ _ _ _
     (take-token2 .ensures .0) (take-token2 .ensures .1) _ _ reading.negativeValue
     (passed-over _ _ _ (ne-eqb _ _ (if1 .left)) ∙ chosen _ _ _
     (meeting.punct-of _ _ _ _ ((meeting.peeked _ _ (peek .ensures) (t .given .1)) .token) ∙ sym
     (is-punct .ensures) ∙ if2 .taken))
-    (places.value-past-minus (c .before .before .negative-value .result) (args .c .row)
+    (places.value-past-minus (negative-value .result) (args .c .row)
     (ap (λ (x : Cursor). x .row) (take-token2 .ensures .0))
-    ((c .before .before .negative-value) .ensures))
+    (negative-value .ensures))
 
 returns-3 : tie.Need-returns-3
 returns-3 c =

@@ -68,9 +68,10 @@ same-length c = search needs
 
 returns-5 : tie.Need-returns-5
 returns-5 c =
-    let pre = c .before .before .before .before .before .before .before .before .before .before .before .before .before .before .pre in
-    let peek = c .before .before .before .before .before .before .before .before .before .before .before .peek in
-    let t = c .before .before .before .before .before .before .before .before .before .t in
+    let back8 = c .before .before .before .before .before .before .before .before in
+    let pre = back8 .before .before .before .before .before .before .pre in
+    let peek = back8 .before .before .before .peek in
+    let t = back8 .before .t in
     let if1 = c .before .before .before .before .before .before .if1 in
     let is-negatable = c .before .before .before .before .before .is-negatable in
     let if2 = c .before .before .before .before .if2 in

@@ -35,9 +35,10 @@ take-token-requires c κs =
 
 discriminant-requires : tie.Need-discriminant-requires
 discriminant-requires c κs =
-    let pre = c .before .before .before .before .before .before .before .before .before .before .before .before .before .pre in
-    let peek = c .before .before .before .before .before .before .before .before .before .before .peek in
-    let t = c .before .before .before .before .before .before .before .before .t in
+    let back8 = c .before .before .before .before .before .before .before .before in
+    let pre = back8 .before .before .before .before .before .pre in
+    let peek = back8 .before .before .peek in
+    let t = back8 .t in
     meeting.past-in-of _ _ _ _ ((c .before .before .before .take-token) .ensures .0) pre
     ((meeting.peeked _ _ (peek .ensures) (t .given .1)) .token)
 
@@ -46,22 +47,25 @@ same-length c = search needs
 
 returns : tie.Need-returns
 returns c =
-    let args = c .before .before .before .before .before .before .before .before .before .before .before .before .before .before .before .before .args in
-    let pre = c .before .before .before .before .before .before .before .before .before .before .before .before .before .before .before .before .pre in
-    let peek = c .before .before .before .before .before .before .before .before .before .before .before .before .before .peek in
-    let t = c .before .before .before .before .before .before .before .before .before .before .before .t in
-    let is-punct = c .before .before .before .before .before .before .before .before .before .is-punct in
-    let if1 = c .before .before .before .before .before .before .before .before .if1 in
+    let back8 = c .before .before .before .before .before .before .before .before in
+    let back16 = back8 .before .before .before .before .before .before .before .before in
+    let args = back16 .args in
+    let pre = back16 .pre in
+    let peek = back8 .before .before .before .before .before .peek in
+    let t = back8 .before .before .before .t in
+    let is-punct = back8 .before .is-punct in
+    let if1 = back8 .if1 in
     let take-token = c .before .before .before .before .before .before .take-token in
+    let discriminant = c .before .before .discriminant in
     meeting.meets-from reading.valueIf _ _ pre _ _ (meeting.peeked _ _ (peek .ensures) (t .given .1)) _ _ _ _
     (take-token .ensures .0) (take-token .ensures .1) _ _ reading.discriminant
     (chosen _ _ _
     (meeting.punct-of _ _ _ _ ((meeting.peeked _ _ (peek .ensures) (t .given .1)) .token) ∙ sym
     (is-punct .ensures) ∙ if1 .taken))
     (meeting.meets-show
-    (λ v h. places.value-as _ (c .before .before .discriminant .result) _ (literalRow (args .c .row + 1)) v
+    (λ v h. places.value-as _ (discriminant .result) _ (literalRow (args .c .row + 1)) v
     (ap (λ (x : Cursor). literalRow (x .row) v) (sym (take-token .ensures .0))) h)
-    ((c .before .before .discriminant) .ensures))
+    (discriminant .ensures))
 
 is-punct-requires-2 : tie.Need-is-punct-requires-2
 is-punct-requires-2 c κs = search needs

@@ -48,11 +48,11 @@ same-length c = search needs
 
 returns : tie.Need-returns
 returns c =
-    let args = c .before .before .before .before .before .before .before .before .before .before .before .before .before .before .before .args in
-    let pre = c .before .before .before .before .before .before .before .before .before .before .before .before .before .before .before .pre in
-    let peek =
-    c .before .before .before .before .before .before .before .before .before .before .before .before .peek in
-    let t = c .before .before .before .before .before .before .before .before .before .before .t in
+    let back8 = c .before .before .before .before .before .before .before .before in
+    let args = back8 .before .before .before .before .before .before .before .args in
+    let pre = back8 .before .before .before .before .before .before .before .pre in
+    let peek = back8 .before .before .before .before .peek in
+    let t = back8 .before .before .t in
     let if1 = c .before .before .before .before .before .before .before .if1 in
     let named-group = c .before .before .before .before .before .named-group in
     meeting.meets-as
@@ -69,12 +69,12 @@ same-length-2 c = search needs
 
 returns-2 : tie.Need-returns-2
 returns-2 c =
-    let args = c .before .before .before .before .before .before .before .before .before .before .before .before .before .before .before .args in
-    let pre = c .before .before .before .before .before .before .before .before .before .before .before .before .before .before .before .pre in
-    let peek =
-    c .before .before .before .before .before .before .before .before .before .before .before .before .peek in
-    let t = c .before .before .before .before .before .before .before .before .before .before .t in
-    let past = c .before .before .before .before .before .before .before .before .past in
+    let back8 = c .before .before .before .before .before .before .before .before in
+    let args = back8 .before .before .before .before .before .before .before .args in
+    let pre = back8 .before .before .before .before .before .before .before .pre in
+    let peek = back8 .before .before .before .before .peek in
+    let t = back8 .before .before .t in
+    let past = back8 .past in
     let if1 = c .before .before .before .before .before .before .before .if1 in
     let named-group = c .before .before .before .before .before .named-group in
     meeting.meets-as
@@ -112,11 +112,13 @@ same-length-3 c = search needs
 
 returns-3 : tie.Need-returns-3
 returns-3 c =
-    let args = c .before .before .before .before .before .before .before .before .before .before .before .before .before .before .before .before .args in
-    let pre = c .before .before .before .before .before .before .before .before .before .before .before .before .before .before .before .before .pre in
-    let peek = c .before .before .before .before .before .before .before .before .before .before .before .before .before .peek in
-    let t = c .before .before .before .before .before .before .before .before .before .before .before .t in
-    let if1 = c .before .before .before .before .before .before .before .before .if1 in
+    let back8 = c .before .before .before .before .before .before .before .before in
+    let back16 = back8 .before .before .before .before .before .before .before .before in
+    let args = back16 .args in
+    let pre = back16 .pre in
+    let peek = back8 .before .before .before .before .before .peek in
+    let t = back8 .before .before .before .t in
+    let if1 = back8 .if1 in
     let if2 = c .before .before .before .before .before .before .before .if2 in
     let tuple-group = c .before .before .before .before .before .tuple-group in
     meeting.meets-as
@@ -133,12 +135,14 @@ same-length-4 c = search needs
 
 returns-4 : tie.Need-returns-4
 returns-4 c =
-    let args = c .before .before .before .before .before .before .before .before .before .before .before .before .before .before .before .before .args in
-    let pre = c .before .before .before .before .before .before .before .before .before .before .before .before .before .before .before .before .pre in
-    let peek = c .before .before .before .before .before .before .before .before .before .before .before .before .before .peek in
-    let t = c .before .before .before .before .before .before .before .before .before .before .before .t in
-    let past = c .before .before .before .before .before .before .before .before .before .past in
-    let if1 = c .before .before .before .before .before .before .before .before .if1 in
+    let back8 = c .before .before .before .before .before .before .before .before in
+    let back16 = back8 .before .before .before .before .before .before .before .before in
+    let args = back16 .args in
+    let pre = back16 .pre in
+    let peek = back8 .before .before .before .before .before .peek in
+    let t = back8 .before .before .before .t in
+    let past = back8 .before .past in
+    let if1 = back8 .if1 in
     let if2 = c .before .before .before .before .before .before .before .if2 in
     let tuple-group = c .before .before .before .before .before .tuple-group in
     meeting.meets-as

@@ -10,7 +10,6 @@ use Rattle.reading.specs.Declaration.{Fields, Value, Variant}
 use Rattle.reading.specs.Role as role
 use Rattle.token_list.specs.Stream.{Trees}
 use Prim.Native.Nat.{ℕ, _+_}
-use mathlib.Core.List.{List}
 use mathlib.Core.Path.{_≡_, refl, sym, _∙_, ap, subst, fun-ext}
 use Rattle.parse.proofs.variants.variant_here.Statement.{statement}
 use Rattle.parse.proofs.variants.variant_here.Tie as tie
@@ -47,9 +46,10 @@ enum-known-n c = search needs
 
 variant-fields-requires : tie.Need-variant-fields-requires
 variant-fields-requires c κs =
-    let args = c .before .before .before .before .before .before .before .before .before .before .before .before .args in
+    let back8 = c .before .before .before .before .before .before .before .before in
+    let args = back8 .before .before .before .before .args in
+    let variant-name = back8 .variant-name in
     let n = c .before .before .before .before .n in
-    let variant-name = c .before .before .before .before .before .before .before .before .variant-name in
     let named = meeting.say (contract.variantNameShown (args .s .now) (args .c)) contract.placedNameSaid (n .given .1)
     (variant-name .ensures) in
     meeting.landed named
@@ -62,10 +62,12 @@ enum-known-fields c = search needs
 
 variant-value-requires : tie.Need-variant-value-requires
 variant-value-requires c κs =
-    let n = c .before .before .before .before .before .before .before .before .before .before .before .n in
-    let args = c .before .before .before .before .before .before .before .before .before .before .before .before .before .before .before .before .before .before .before .args in
-    let fields = c .before .before .fields in
+    let back8 = c .before .before .before .before .before .before .before .before in
+    let back16 = back8 .before .before .before .before .before .before .before .before in
+    let args = back16 .before .before .before .args in
+    let n = back8 .before .before .before .n in
     let variant-fields = c .before .before .before .before .before .before .variant-fields in
+    let fields = c .before .before .fields in
     let d = n .given .0 .0 .next in
     let grouped = meeting.say (contract.fieldsShown (args .s .now) d) contract.fieldsSaid (fields .given .1)
     (variant-fields .ensures) in
@@ -83,8 +85,8 @@ same-length c = search needs
 returns : tie.Need-returns
 returns c =
     let args = c .before .before .before .before .before .before .before .before .before .args in
-    let r = c .before .r in
     let variant-name = c .before .before .before .before .before .variant-name in
+    let r = c .before .r in
     let named = meeting.say (contract.variantNameShown (args .s .now) (args .c)) contract.placedNameSaid (r .given .1)
     (variant-name .ensures) in
     meeting.meets-as (split (args .c .row) (contract.stream (args .s .now) (args .c)))
@@ -95,11 +97,13 @@ same-length-2 c = search needs
 
 returns-2 : tie.Need-returns-2
 returns-2 c =
-    let args = c .before .before .before .before .before .before .before .before .before .before .before .before .before .before .before .before .before .before .args in
-    let n = c .before .before .before .before .before .before .before .before .before .before .n in
-    let variant-name = c .before .before .before .before .before .before .before .before .before .before .before .before .before .before .variant-name in
-    let r2 = c .before .r2 in
+    let back8 = c .before .before .before .before .before .before .before .before in
+    let back16 = back8 .before .before .before .before .before .before .before .before in
+    let args = back16 .before .before .args in
+    let variant-name = back8 .before .before .before .before .before .before .variant-name in
+    let n = back8 .before .before .n in
     let variant-fields = c .before .before .before .before .before .variant-fields in
+    let r2 = c .before .r2 in
     let named = meeting.say (contract.variantNameShown (args .s .now) (args .c)) contract.placedNameSaid (n .given .1)
     (variant-name .ensures) in
     let d = n .given .0 .0 .next in
@@ -113,13 +117,16 @@ same-length-3 c = search needs
 
 returns-3 : tie.Need-returns-3
 returns-3 c =
-    let args = c .before .before .before .before .before .before .before .before .before .before .before .before .before .before .before .before .before .before .before .before .before .before .before .before .before .args in
-    let n = c .before .before .before .before .before .before .before .before .before .before .before .before .before .before .before .before .before .n in
-    let variant-name = c .before .before .before .before .before .before .before .before .before .before .before .before .before .before .before .before .before .before .before .before .before .variant-name in
-    let fields = c .before .before .before .before .before .before .before .before .fields in
-    let variant-fields = c .before .before .before .before .before .before .before .before .before .before .before .before .variant-fields in
-    let r3 = c .before .r3 in
+    let back8 = c .before .before .before .before .before .before .before .before in
+    let back16 = back8 .before .before .before .before .before .before .before .before in
+    let back24 = back16 .before .before .before .before .before .before .before .before in
+    let args = back24 .before .args in
+    let variant-name = back16 .before .before .before .before .before .variant-name in
+    let n = back16 .before .n in
+    let variant-fields = back8 .before .before .before .before .variant-fields in
+    let fields = back8 .fields in
     let variant-value = c .before .before .before .before .before .variant-value in
+    let r3 = c .before .r3 in
     let named = meeting.say (contract.variantNameShown (args .s .now) (args .c)) contract.placedNameSaid (n .given .1)
     (variant-name .ensures) in
     let d = n .given .0 .0 .next in
@@ -140,13 +147,16 @@ same-length-4 c = search needs
 
 returns-4 : tie.Need-returns-4
 returns-4 c =
-    let args = c .before .before .before .before .before .before .before .before .before .before .before .before .before .before .before .before .before .before .before .before .before .before .before .before .before .args in
-    let n = c .before .before .before .before .before .before .before .before .before .before .before .before .before .before .before .before .before .n in
-    let variant-name = c .before .before .before .before .before .before .before .before .before .before .before .before .before .before .before .before .before .before .before .before .before .variant-name in
-    let fields = c .before .before .before .before .before .before .before .before .fields in
-    let variant-fields = c .before .before .before .before .before .before .before .before .before .before .before .before .variant-fields in
-    let value = c .before .value in
+    let back8 = c .before .before .before .before .before .before .before .before in
+    let back16 = back8 .before .before .before .before .before .before .before .before in
+    let back24 = back16 .before .before .before .before .before .before .before .before in
+    let args = back24 .before .args in
+    let variant-name = back16 .before .before .before .before .before .variant-name in
+    let n = back16 .before .n in
+    let variant-fields = back8 .before .before .before .before .variant-fields in
+    let fields = back8 .fields in
     let variant-value = c .before .before .before .before .before .variant-value in
+    let value = c .before .value in
     let named = meeting.say (contract.variantNameShown (args .s .now) (args .c)) contract.placedNameSaid (n .given .1)
     (variant-name .ensures) in
     let d = n .given .0 .0 .next in

@@ -2,11 +2,10 @@ use Rattle.parse.proofs.Meeting as meeting
 use Rattle.parse.specs.Contract as contract
 use Rattle.reading.specs.Reading as reading
 use Rattle.parse.proofs.Places as places
-use Rattle.reading.specs.Took.{Reader, _>>=_, pure, Point}
+use Rattle.reading.specs.Took.{Reader, _>>=_, pure}
 use Rattle.reading.specs.Place.{VariantHead}
 use Rattle.reading.specs.Role as role
 use Rattle.token_list.specs.Stream.{Trees}
-use Prim.Native.Nat.{ℕ}
 use mathlib.Core.List.{List}
 use borrow.Author.Needs.{needs}
 use Rattle.parse.proofs.variants.variant_name.Statement.{statement}
@@ -29,8 +28,8 @@ enum-known-d c = search needs
 
 consume-ident-requires : tie.Need-consume-ident-requires
 consume-ident-requires c κs =
-    let d = c .before .before .d in
     let try-take = c .before .before .before .before .before .before .try-take in
+    let d = c .before .before .d in
     let attributes = meeting.say (λ x. contract.any) contract.stepSaid (d .given .1) (try-take .ensures) in
     meeting.landed attributes
 
@@ -39,8 +38,9 @@ enum-told c = search needs
 
 wrong-token-requires : tie.Need-wrong-token-requires
 wrong-token-requires c κs =
+    let back8 = c .before .before .before .before .before .before .before .before in
+    let try-take = back8 .before .before .before .try-take in
     let d = c .before .before .before .before .before .before .before .d in
-    let try-take = c .before .before .before .before .before .before .before .before .before .before .before .try-take in
     let attributes = meeting.say (λ x. contract.any) contract.stepSaid (d .given .1) (try-take .ensures) in
     meeting.landed attributes
 
@@ -52,8 +52,8 @@ same-length c = search needs
 
 returns : tie.Need-returns
 returns c =
-    let r = c .before .r in
     let try-take = c .before .before .before .before .before .try-take in
+    let r = c .before .r in
     let attributes = meeting.say (λ x. contract.any) contract.stepSaid (r .given .1) (try-take .ensures) in
     meeting.meets-no word-then attributes
 
@@ -62,10 +62,11 @@ same-length-2 c = search needs
 
 returns-2 : tie.Need-returns-2
 returns-2 c =
-    let d = c .before .before .before .before .before .before .before .before .d in
-    let try-take = c .before .before .before .before .before .before .before .before .before .before .before .before .try-take in
-    let enum-told = c .before .enum-told in
+    let back8 = c .before .before .before .before .before .before .before .before in
+    let try-take = back8 .before .before .before .before .try-take in
+    let d = back8 .d in
     let consume-ident = c .before .before .before .before .before .consume-ident in
+    let enum-told = c .before .enum-told in
     let wrong-token = c .wrong-token in
     let attributes = meeting.say (λ x. contract.any) contract.stepSaid (d .given .1) (try-take .ensures) in
     let missing = meeting.say-word (enum-told .given .1) (consume-ident .ensures) in
@@ -77,12 +78,14 @@ same-length-3 c = search needs
 
 returns-3 : tie.Need-returns-3
 returns-3 c =
-    let d = c .before .before .before .before .before .before .before .before .before .before .d in
-    let try-take = c .before .before .before .before .before .before .before .before .before .before .before .before .before .before .try-take in
-    let w = c .before .before .before .w in
+    let back8 = c .before .before .before .before .before .before .before .before in
+    let back16 = back8 .before .before .before .before .before .before .before .before in
+    let args = back16 .before .before .args in
+    let pre = back16 .before .before .pre in
+    let try-take = back8 .before .before .before .before .before .before .try-take in
+    let d = back8 .before .before .d in
     let consume-ident = c .before .before .before .before .before .before .before .consume-ident in
-    let pre = c .before .before .before .before .before .before .before .before .before .before .before .before .before .before .before .before .before .before .pre in
-    let args = c .before .before .before .before .before .before .before .before .before .before .before .before .before .before .before .before .before .before .args in
+    let w = c .before .before .before .w in
     let attributes = meeting.say (λ x. contract.any) contract.stepSaid (d .given .1) (try-take .ensures) in
     let found = meeting.say-word (w .given .1) (consume-ident .ensures) in
     let named = places.meets-beyond reading.attributes attributes .here in

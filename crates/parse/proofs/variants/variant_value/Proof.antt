@@ -43,8 +43,9 @@ same-length-2 c = search needs
 
 returns-2 : tie.Need-returns-2
 returns-2 c =
-    let args = c .before .before .before .before .before .before .before .before .before .before .before .before .before .before .args in
-    let optional-value = c .before .before .before .before .before .before .before .before .before .before .optional-value in
+    let back8 = c .before .before .before .before .before .before .before .before in
+    let args = back8 .before .before .before .before .before .before .args in
+    let optional-value = back8 .before .before .optional-value in
     let v = c .before .before .before .before .before .before .v in
     meeting.meets-then bodies.commaAfter
     (meeting.say (contract.valueShown (args .s .now) (literalRow (args .c .row + 1))) contract.valueSaid (v .given .1)

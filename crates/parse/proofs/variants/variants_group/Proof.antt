@@ -23,9 +23,10 @@ enum-known-d c = search needs
 
 close-group-requires : tie.Need-close-group-requires
 close-group-requires c κs =
-    let args = c .before .before .before .before .before .before .before .before .before .before .before .before .before .before .args in
-    let pre = c .before .before .before .before .before .before .before .before .before .before .before .before .before .before .pre in
-    let take-token = c .before .before .before .before .before .before .before .before .before .before .take-token in
+    let back8 = c .before .before .before .before .before .before .before .before in
+    let args = back8 .before .before .before .before .before .before .args in
+    let pre = back8 .before .before .before .before .before .before .pre in
+    let take-token = back8 .before .before .take-token in
     let variants = c .before .before .before .before .before .before .variants in
     let d = c .before .before .d in (
       meeting.landed (meeting.say contract.countShown contract.countSaid (d .given .1) (variants .ensures)),
@@ -39,9 +40,10 @@ same-length c = search needs
 
 returns : tie.Need-returns
 returns c =
-    let args = c .before .before .before .before .before .before .before .before .before .before .before .before .before .args in
-    let pre = c .before .before .before .before .before .before .before .before .before .before .before .before .before .pre in
-    let take-token = c .before .before .before .before .before .before .before .before .before .take-token in
+    let back8 = c .before .before .before .before .before .before .before .before in
+    let args = back8 .before .before .before .before .before .args in
+    let pre = back8 .before .before .before .before .before .pre in
+    let take-token = back8 .before .take-token in
     let variants = c .before .before .before .before .before .variants in
     bodies.group-refused _ _ _ _ (pre .0) (pre .1) (args .roles .now) _ (take-token .ensures .0)
     (take-token .ensures .1) (reading.every reading.variant)
@@ -52,10 +54,12 @@ same-length-2 c = search needs
 
 returns-2 : tie.Need-returns-2
 returns-2 c =
-    let args = c .before .before .before .before .before .before .before .before .before .before .before .before .before .before .before .before .before .args in
-    let pre = c .before .before .before .before .before .before .before .before .before .before .before .before .before .before .before .before .before .pre in
-    let take-token = c .before .before .before .before .before .before .before .before .before .before .before .before .before .take-token in
-    let variants = c .before .before .before .before .before .before .before .before .before .variants in
+    let back8 = c .before .before .before .before .before .before .before .before in
+    let back16 = back8 .before .before .before .before .before .before .before .before in
+    let args = back16 .before .args in
+    let pre = back16 .before .pre in
+    let take-token = back8 .before .before .before .before .before .take-token in
+    let variants = back8 .before .variants in
     let d = c .before .before .before .before .before .d in
     let close-group = c .before .before .close-group in
     bodies.group-closed _ _ _ _ (pre .0) (pre .1) (args .roles .now) _ (take-token .ensures .0) (take-token .ensures .1)

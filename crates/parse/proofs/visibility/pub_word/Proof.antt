@@ -70,10 +70,10 @@ past-requires c κs =
 
 lone-ident-requires : tie.Need-lone-ident-requires
 lone-ident-requires c κs =
+    let pre = c .before .before .before .before .before .before .before .pre in
     let peek = c .before .before .before .before .peek in
     let t2 = c .before .before .t2 in
     let past = c .past in
-    let pre = c .before .before .before .before .before .before .before .pre in
     let g = meeting.peeked _ _ (peek .ensures) (t2 .given .1) in (
       meeting.past-in-of _ _ _ _ (past .ensures) pre (g .token),
       meeting.follows-of _ _ _ _ (past .ensures) pre g,
@@ -90,21 +90,22 @@ slice-aggregate-ident-eq-2 c = search needs
 
 ident-eq-requires-2 : tie.Need-ident-eq-requires-2
 ident-eq-requires-2 c κs =
-    let w = c .before .before .before .w in
     let lone-ident = c .before .before .before .before .before .lone-ident in
+    let w = c .before .before .before .w in
     subst (contract.loneShown _ _) (w .given .1) (lone-ident .ensures) .1 .within
 
 returns-2 : tie.Need-returns-2
 returns-2 c =
-    let args = c .before .before .before .before .before .before .before .before .before .before .before .before .before .before .before .args in
-    let peek = c .before .before .before .before .before .before .before .before .before .before .before .before .peek in
-    let t2 = c .before .before .before .before .before .before .before .before .before .before .t2 in
-    let past = c .before .before .before .before .before .before .before .before .past in
-    let w = c .before .before .before .before .before .w in
+    let back8 = c .before .before .before .before .before .before .before .before in
+    let args = back8 .before .before .before .before .before .before .before .args in
+    let pre = back8 .before .before .before .before .before .before .before .pre in
+    let peek = back8 .before .before .before .before .peek in
+    let t2 = back8 .before .before .t2 in
+    let past = back8 .past in
     let lone-ident = c .before .before .before .before .before .before .before .lone-ident in
+    let w = c .before .before .before .before .before .w in
     let ident-eq2 = c .before .ident-eq2 in
     let if2 = c .if2 in
-    let pre = c .before .before .before .before .before .before .before .before .before .before .before .before .before .before .before .pre in
     let g = meeting.peeked _ _ (peek .ensures) (t2 .given .1) in
     let ins = at (args .s .now) (t2 .given .0 .0 .next) .here in
     let lone = lone-shown _ _ _ _ _ (past .ensures) (w .given .1) (lone-ident .ensures) in
@@ -115,9 +116,11 @@ returns-2 c =
 
 take-group-requires : tie.Need-take-group-requires
 take-group-requires c κs =
-    let pre = c .before .before .before .before .before .before .before .before .before .before .before .before .before .before .before .before .pre in
-    let peek = c .before .before .before .before .before .before .before .before .before .before .before .before .before .peek in
-    let t2 = c .before .before .before .before .before .before .before .before .before .before .before .t2 in
+    let back8 = c .before .before .before .before .before .before .before .before in
+    let back16 = back8 .before .before .before .before .before .before .before .before in
+    let pre = back16 .pre in
+    let peek = back8 .before .before .before .before .before .peek in
+    let t2 = back8 .before .before .before .t2 in
     (pre, meeting.peeked _ _ (peek .ensures) (t2 .given .1))
 
 returns-3 : tie.Need-returns-3
@@ -132,11 +135,12 @@ same-length c = search needs
 
 returns-4 : tie.Need-returns-4
 returns-4 c =
-    let peek = c .before .before .before .before .before .before .before .before .before .before .peek in
-    let t = c .before .before .before .before .before .before .before .before .t in
+    let back8 = c .before .before .before .before .before .before .before .before in
+    let pre = back8 .before .before .before .before .before .pre in
+    let peek = back8 .before .before .peek in
+    let t = back8 .t in
     let ident-eq = c .before .before .before .before .before .ident-eq in
     let if1 = c .before .before .before .before .if1 in
-    let pre = c .before .before .before .before .before .before .before .before .before .before .before .before .before .pre in
     let take-token = c .before .before .take-token in
     let l = meeting.peeked _ _ (peek .ensures) (t .given .1) in
     let is = sym (ident-eq .ensures) ∙ not-false _ (if1 .left) in (
@@ -149,12 +153,12 @@ returns-4 c =
 returns-5 : tie.Need-returns-5
 returns-5 c =
     let args = c .before .before .before .before .before .before .before .before .before .before .args in
+    let pre = c .before .before .before .before .before .before .before .before .before .before .pre in
     let peek = c .before .before .before .before .before .before .before .peek in
     let t2 = c .before .before .before .before .before .t2 in
     let past = c .before .before .before .past in
     let enum-told2 = c .enum-told2 in
     let lone-ident = c .before .before .lone-ident in
-    let pre = c .before .before .before .before .before .before .before .before .before .before .pre in
     let g = meeting.peeked _ _ (peek .ensures) (t2 .given .1) in
     let ins = at (args .s .now) (t2 .given .0 .0 .next) .here in
     let lone = lone-shown _ _ _ _ _ (past .ensures) (enum-told2 .given .1) (lone-ident .ensures) in
@@ -169,15 +173,17 @@ same-length-2 c = search needs
 
 returns-6 : tie.Need-returns-6
 returns-6 c =
-    let args = c .before .before .before .before .before .before .before .before .before .before .before .before .before .before .before .before .before .before .before .args in
-    let peek = c .before .before .before .before .before .before .before .before .before .before .before .before .before .before .before .before .peek in
-    let t2 = c .before .before .before .before .before .before .before .before .before .before .before .before .before .before .t2 in
-    let past = c .before .before .before .before .before .before .before .before .before .before .before .before .past in
-    let w = c .before .before .before .before .before .before .before .before .before .w in
-    let lone-ident = c .before .before .before .before .before .before .before .before .before .before .before .lone-ident in
+    let back8 = c .before .before .before .before .before .before .before .before in
+    let back16 = back8 .before .before .before .before .before .before .before .before in
+    let args = back16 .before .before .before .args in
+    let pre = back16 .before .before .before .pre in
+    let peek = back16 .peek in
+    let t2 = back8 .before .before .before .before .before .before .t2 in
+    let past = back8 .before .before .before .before .past in
+    let lone-ident = back8 .before .before .before .lone-ident in
+    let w = back8 .before .w in
     let ident-eq2 = c .before .before .before .before .before .ident-eq2 in
     let if2 = c .before .before .before .before .if2 in
-    let pre = c .before .before .before .before .before .before .before .before .before .before .before .before .before .before .before .before .before .before .before .pre in
     let take-group = c .before .before .take-group in
     let g = meeting.peeked _ _ (peek .ensures) (t2 .given .1) in
     let ins = at (args .s .now) (t2 .given .0 .0 .next) .here in

@@ -57,8 +57,9 @@ returns-2 c =
 
 take-group-requires : tie.Need-take-group-requires
 take-group-requires c κs =
-    let pre = c .before .before .before .before .before .before .before .before .before .before .before .before .pre in
-    let peek = c .before .before .before .before .before .before .before .before .before .peek in
+    let back8 = c .before .before .before .before .before .before .before .before in
+    let pre = back8 .before .before .before .before .pre in
+    let peek = back8 .before .peek in
     let t = c .before .before .before .before .before .before .before .t in
     (pre, (meeting.peeked _ _ (peek .ensures) (t .given .1)))
 
@@ -79,11 +80,11 @@ same-length c = search needs
 
 returns-5 : tie.Need-returns-5
 returns-5 c =
-    let args = c .before .before .before .before .before .before .before .before .before .before .before .before .before .before .before .args in
-    let pre = c .before .before .before .before .before .before .before .before .before .before .before .before .before .before .before .pre in
-    let peek =
-    c .before .before .before .before .before .before .before .before .before .before .before .before .peek in
-    let t = c .before .before .before .before .before .before .before .before .before .before .t in
+    let back8 = c .before .before .before .before .before .before .before .before in
+    let args = back8 .before .before .before .before .before .before .before .args in
+    let pre = back8 .before .before .before .before .before .before .before .pre in
+    let peek = back8 .before .before .before .before .peek in
+    let t = back8 .before .before .t in
     let if1 = c .before .before .before .before .before .before .before .if1 in
     let past = c .before .before .before .before .before .before .past in
     let is-scoped = c .before .before .before .before .before .is-scoped in

@@ -263,9 +263,10 @@ walk-returns-6 : (t : ℕ) → walk-lts.Need-returns-6 (
   closer-reads.Learnt,
 ) (walk-at t) walk.Post walk-Inv-loop walk-μ-loop
 walk-returns-6 t c =
-    let l = c .before .before .before .before .before .before .before .before .before .before .before .loop in
-    let a = c .before .before .before .before .before .before .before .before .before .before .before .before .before .args in
-    let p = c .before .before .before .before .before .before .before .before .line-shape in
+    let back8 = c .before .before .before .before .before .before .before .before in
+    let l = back8 .before .before .before .loop in
+    let a = back8 .before .before .before .before .before .args in
+    let p = back8 .line-shape in
     let w = c .before .before .before .walk in
     walks.refused-inside (a .s .now) (a .levels) (a .from) (l .at) (l .row) (l .inv) (p .result) (p .ensures)
     (c .before .before .before .before .before .before .before .before .before .before .loop-test .taken)
@@ -297,9 +298,10 @@ walk-returns-7 : (t : ℕ) → walk-lts.Need-returns-7 (
   closer-reads.Learnt,
 ) (walk-at t) walk.Post walk-Inv-loop walk-μ-loop
 walk-returns-7 t c =
-    let l = c .before .before .before .before .before .before .before .before .before .before .before .before .before .loop in
-    let a = c .before .before .before .before .before .before .before .before .before .before .before .before .before .before .before .args in
-    let p = c .before .before .before .before .before .before .before .before .before .before .line-shape in
+    let back8 = c .before .before .before .before .before .before .before .before in
+    let l = back8 .before .before .before .before .before .loop in
+    let a = back8 .before .before .before .before .before .before .before .args in
+    let p = back8 .before .before .line-shape in
     let w = c .before .before .before .before .before .walk in
     let i = c .before .before .before .inside2 .given in
     walks.mismatched (a .s .now) (a .levels) (a .from) (l .at) (l .row) (l .inv) (p .result) (p .ensures)
@@ -320,9 +322,10 @@ walk-add-row : (t : ℕ) → walk-lts.Need-add-row (
   closer-reads.Learnt,
 ) (walk-at t) walk.Post walk-Inv-loop walk-μ-loop
 walk-add-row t c =
-    let l = c .before .before .before .before .before .before .before .before .before .before .before .before .before .loop in
-    let a = c .before .before .before .before .before .before .before .before .before .before .before .before .before .before .before .args in
-    let p = c .before .before .before .before .before .before .before .before .before .before .line-shape in
+    let back8 = c .before .before .before .before .before .before .before .before in
+    let l = back8 .before .before .before .before .before .loop in
+    let a = back8 .before .before .before .before .before .before .before .args in
+    let p = back8 .before .before .line-shape in
     let w = c .before .before .before .before .before .walk in
     let i = c .before .before .before .inside2 .given in
     omega (arith, walks.closed-past (a .s .now) (a .levels) (a .from) (l .at) (l .row) (l .inv) (p .result) (p .ensures) (c .before .before .before .before .before .before .before .before .before .before .before .before .loop-test .taken) (c .before .before .before .before .before .before .before .before .before .before .before .if1 .left) (c .before .before .before .before .before .before .before .before .shape2 .given .0 .0) (c .before .before .before .before .before .before .before .before .shape2 .given .1) (c .before .before .before .before .before .before .if2 .left) (w .result) (w .ensures) (i .0 .0) (i .0 .1 .0) (i .0 .1 .1 .0) (i .1))
@@ -332,9 +335,10 @@ walk-loop-less-2 : (t : ℕ) → walk-lts.Need-loop-less-2
     (line-shape-reads.Asked, line-shape-reads.Learnt, walk-below t, walk.Post, closer-reads.Asked, closer-reads.Learnt)
     (walk-at t) walk.Post walk-Inv-loop walk-μ-loop
 walk-loop-less-2 t c =
-    let l = c .before .before .before .before .before .before .before .before .before .before .before .before .before .loop in
-    let a = c .before .before .before .before .before .before .before .before .before .before .before .before .before .before .before .args in
-    let p = c .before .before .before .before .before .before .before .before .before .before .line-shape in
+    let back8 = c .before .before .before .before .before .before .before .before in
+    let l = back8 .before .before .before .before .before .loop in
+    let a = back8 .before .before .before .before .before .before .before .args in
+    let p = back8 .before .before .line-shape in
     let w = c .before .before .before .before .before .walk in
     let i = c .before .before .before .inside2 .given in
     let o = walks.opened-past (a .s .now) (a .levels) (a .from) (l .at) (l .row) (l .inv) (p .result) (p .ensures) (c .before .before .before .before .before .before .before .before .before .before .before .before .loop-test .taken) (c .before .before .before .before .before .before .before .before .before .before .before .if1 .left) (c .before .before .before .before .before .before .before .before .shape2 .given .0 .0) (c .before .before .before .before .before .before .before .before .shape2 .given .1) in
@@ -346,9 +350,10 @@ walk-loop-again-2 : (t : ℕ) → walk-lts.Need-loop-again-2
     (line-shape-reads.Asked, line-shape-reads.Learnt, walk-below t, walk.Post, closer-reads.Asked, closer-reads.Learnt)
     (walk-at t) walk.Post walk-Inv-loop walk-μ-loop
 walk-loop-again-2 t c =
-    let l = c .before .before .before .before .before .before .before .before .before .before .before .before .before .loop in
-    let a = c .before .before .before .before .before .before .before .before .before .before .before .before .before .before .before .args in
-    let p = c .before .before .before .before .before .before .before .before .before .before .line-shape in
+    let back8 = c .before .before .before .before .before .before .before .before in
+    let l = back8 .before .before .before .before .before .loop in
+    let a = back8 .before .before .before .before .before .before .before .args in
+    let p = back8 .before .before .line-shape in
     let w = c .before .before .before .before .before .walk in
     let i = c .before .before .before .inside2 .given in
     walks.matched (a .s .now) (a .levels) (a .from) (l .at) (l .row) (l .inv) (p .result) (p .ensures)
