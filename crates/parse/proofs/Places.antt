@@ -9,10 +9,10 @@ use Rattle.token_list.specs.Stream.{Trees, end, leaf, group, head, at}
 use Rattle.token_list.specs.Contract.{InList, TokenAt, LeafAt, GroupAt, rowOf}
 use Rattle.token_list.specs.declared.check.Cursor.{Cursor}
 use Rattle.token_list.specs.declared.stream.Token.{Token}
-use Rattle.token_list.proofs.Texts.{chosen, passed-over}
+use Rattle.token_list.proofs.Texts.{chosen}
 use Rattle.reading.specs.Token.{starts, isPunct, isWord, CONST}
 use Rattle.reading.specs.Declaration.{Value}
-use Rattle.reading.specs.Took.{Took, took, Cause, stopped, Reader, after, _>>=_, Point, pastTaken, beyond}
+use Rattle.reading.specs.Took.{Took, took, Cause, stopped, Reader, Point, pastTaken, beyond}
 use Rattle.reading.specs.Reading.{punctIf, copied, whole, isLiteral, negatable, negativeValue}
 use Rattle.reading.specs.Place.{identRow, wordRow, tokenEnd, pastToken, marksName, parameterNameAt, literalRow}
 use Rattle.parse.specs.Contract.{Moved, Said, on, Meets, stands, refuses, stream, point, CursorAt, TokenIn, WordAt, NameAt, pastOf, ValueIn, valueShown, valueSaid}

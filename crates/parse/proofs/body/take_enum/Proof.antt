@@ -3,7 +3,6 @@ use Rattle.reading.specs.Declaration.{variants}
 use Rattle.token_list.specs.Stream.{at}
 use Prim.Native.Nat.{_+_}
 use Rattle.parse.proofs.Meeting as meeting
-use Rattle.parse.specs.Contract as contract
 use Rattle.reading.specs.Reading as reading
 use Rattle.token_list.proofs.Texts.{chosen, passed-over}
 use borrow.Author.Tests.{not-true, not-false}

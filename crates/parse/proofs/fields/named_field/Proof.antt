@@ -1,7 +1,6 @@
 use borrow.Author.Needs.{needs}
 use Rattle.parse.proofs.Meeting as meeting
 use Rattle.parse.specs.Contract as contract
-use Rattle.reading.specs.Reading as reading
 use Rattle.parse.proofs.fields.named_field.Statement.{statement}
 use Rattle.parse.proofs.fields.named_field.Tie as tie
 

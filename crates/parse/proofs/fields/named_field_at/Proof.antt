@@ -4,7 +4,6 @@ use Rattle.parse.specs.Contract as contract
 use Rattle.reading.specs.Reading as reading
 use Rattle.parse.proofs.Bodies as bodies
 use Rattle.parse.proofs.Places as places
-use Rattle.parse.specs.declared.fields.TypeStep.the-variants as typeSteps
 use Rattle.reading.specs.Took.{Point}
 use Rattle.reading.specs.Place.{pastToken}
 use Rattle.reading.specs.Role as role

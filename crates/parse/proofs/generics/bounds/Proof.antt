@@ -1,6 +1,5 @@
 use Rattle.parse.proofs.Meeting as meeting
 use Rattle.parse.specs.Contract as contract
-use Rattle.reading.specs.Reading as reading
 use Rattle.token_list.specs.Byte.{COLON}
 use mathlib.Core.Path.{refl}
 use borrow.Author.Needs.{needs}

@@ -1,6 +1,5 @@
 use Rattle.parse.proofs.Meeting as meeting
 use Rattle.parse.specs.Contract as contract
-use Rattle.reading.specs.Reading as reading
 use Rattle.parse.proofs.Parameters.{type-bounded, type-defaulted, type-shown}
 use Rattle.reading.specs.Took.{pure}
 use Rattle.reading.specs.Declaration.{type}

@@ -1,5 +1,4 @@
 use Rattle.parse.proofs.Meeting as meeting
-use Rattle.parse.specs.Contract as contract
 use Rattle.reading.specs.Declaration.{angled}
 use Rattle.reading.specs.Reading as reading
 use Rattle.token_list.proofs.Texts.{chosen, passed-over}

@@ -1,9 +1,6 @@
 use lib.Seq.{sets, length-sets}
 use lib.ListN.{length, replicate}
 use Prim.Native.Nat.{_-_}
-use Rattle.parse.proofs.Meeting as meeting
-use Rattle.parse.specs.Contract as contract
-use Rattle.reading.specs.Reading as reading
 use mathlib.Core.Path.{_∙_, ap}
 use borrow.Author.Needs.{needs}
 use Rattle.parse.proofs.item.mark_left_over.Statement.{statement}

@@ -6,9 +6,7 @@ use Rattle.token_list.specs.Contract as listed
 use lib.ListN.{length}
 use Prim.Native.Nat.{ℕ}
 use mathlib.Core.List.{List}
-use Rattle.parse.proofs.Meeting as meeting
 use Rattle.parse.specs.Contract as contract
-use Rattle.reading.specs.Reading as reading
 use mathlib.Core.Path.{sym, _∙_, ap}
 use borrow.Author.Needs.{needs}
 use Rattle.parse.proofs.item.new.Statement.{statement}

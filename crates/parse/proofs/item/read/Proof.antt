@@ -2,7 +2,6 @@ use Rattle.parse.proofs.Items as items
 use lib.ListN.{replicate}
 use Rattle.parse.proofs.Meeting as meeting
 use Rattle.parse.specs.Contract as contract
-use Rattle.reading.specs.Reading as reading
 use mathlib.Core.Path.{_∙_, ap}
 use borrow.Author.Needs.{needs}
 use Rattle.parse.proofs.item.read.Statement.{statement}

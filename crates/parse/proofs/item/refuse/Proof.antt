@@ -1,7 +1,4 @@
 use Rattle.parse.proofs.Items as items
-use Rattle.parse.proofs.Meeting as meeting
-use Rattle.parse.specs.Contract as contract
-use Rattle.reading.specs.Reading as reading
 use mathlib.Core.Path.{refl, _∙_}
 use borrow.Author.Needs.{needs}
 use Rattle.parse.proofs.item.refuse.Statement.{statement}

@@ -5,7 +5,6 @@ use Rattle.token_list.specs.Contract.{Skipped}
 use Rattle.token_list.specs.Stream.{follows, at}
 use Rattle.parse.proofs.Meeting as meeting
 use Rattle.reading.specs.Reading as reading
-use Rattle.token_list.specs.Contract.{InList}
 use borrow.Author.Tests.{eq-eqb, ne-eqb}
 use mathlib.Core.Bool.{true}
 use mathlib.Core.Path.{_≡_, refl, sym, _∙_, ap, subst, subst⁻¹}

@@ -5,7 +5,6 @@ use Rattle.token_list.specs.Stream.{at, head}
 use Rattle.token_list.proofs.Streams.{skipped-open}
 use Rattle.parse.proofs.Meeting as meeting
 use Rattle.reading.specs.Reading as reading
-use Rattle.token_list.specs.Contract.{InList}
 use mathlib.Core.Path.{subst, subst⁻¹}
 use borrow.Author.Needs.{needs}
 use Rattle.parse.proofs.utils.take_group.Statement.{statement}

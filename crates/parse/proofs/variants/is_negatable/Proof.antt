@@ -2,9 +2,6 @@ use Rattle.parse.proofs.Bodies.{Negatable, negatable-start, digit-low, 
 use Rattle.reading.specs.Token.{negatable}
 use lib.Seq.{slice}
 use Prim.Native.Nat.{_≤_, _-_}
-use Rattle.parse.proofs.Meeting as meeting
-use Rattle.parse.specs.Contract as contract
-use Rattle.reading.specs.Reading as reading
 use native.Mathlib.Omega.{arith}
 use mathlib.Core.Path.{_≡_, sym, _∙_}
 use Rattle.parse.proofs.variants.is_negatable.Statement.{statement}

@@ -1,6 +1,5 @@
 use Rattle.parse.proofs.Places as places
 use Rattle.parse.proofs.Meeting as meeting
-use Rattle.parse.specs.Contract as contract
 use Rattle.reading.specs.Reading as reading
 use Rattle.token_list.proofs.Texts.{chosen, passed-over}
 use borrow.Author.Tests.{eq-eqb, ne-eqb, not-true, not-false}

@@ -3,7 +3,6 @@ use Rattle.reading.specs.Place.{literalRow}
 use Rattle.token_list.specs.declared.check.Cursor.{Cursor}
 use Rattle.parse.proofs.Places as places
 use Rattle.parse.proofs.Meeting as meeting
-use Rattle.parse.specs.Contract as contract
 use Rattle.reading.specs.Reading as reading
 use Rattle.token_list.proofs.Texts.{chosen, passed-over}
 use mathlib.Core.Path.{refl, sym, _∙_, ap}

@@ -3,7 +3,6 @@ use Rattle.reading.specs.Place.{literalRow}
 use Rattle.parse.proofs.Bodies as bodies
 use Rattle.parse.proofs.Meeting as meeting
 use Rattle.parse.specs.Contract as contract
-use Rattle.reading.specs.Reading as reading
 use borrow.Author.Needs.{needs}
 use Rattle.parse.proofs.variants.variant_value.Statement.{statement}
 use Rattle.parse.proofs.variants.variant_value.Tie as tie

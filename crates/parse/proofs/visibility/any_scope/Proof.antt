@@ -1,5 +1,4 @@
 use Rattle.parse.proofs.Meeting as meeting
-use Rattle.parse.specs.Contract as contract
 use Rattle.reading.specs.Reading as reading
 use mathlib.Core.Path.{refl}
 use borrow.Author.Needs.{needs}

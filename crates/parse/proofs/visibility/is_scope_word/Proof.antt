@@ -1,8 +1,4 @@
 use Rattle.token_list.proofs.Texts.{or-last, or-holds}
-use Rattle.parse.proofs.Meeting as meeting
-use Rattle.parse.specs.Contract as contract
-use Rattle.reading.specs.Reading as reading
-use Rattle.token_list.proofs.Texts.{chosen, passed-over, and-last, and-fails}
 use mathlib.Core.Path.{sym, _∙_}
 use borrow.Author.Needs.{needs}
 use Rattle.parse.proofs.visibility.is_scope_word.Statement.{statement}
