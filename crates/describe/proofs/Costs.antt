@@ -183,7 +183,7 @@ headCost h = nameCost (h .name)
 dataType-covering : Covering headCost 0 r.dataType
 dataType-covering =
     bind (keeps 0 (conserved.word-conserving role.item-word))
-    (λ w. bind (keeps 0 (conserved.kindOf-conserving w))
+    (λ w. bind (keeps 0 (conserved.namedKind-conserving w))
     (λ k. bind (word-covering role.item-name)
     (λ v. bind (named!-covering v)
     (λ n. returned _))))

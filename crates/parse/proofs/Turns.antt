@@ -13,7 +13,7 @@ use Rattle.token_list.specs.declared.check.Cursor.{Cursor}
 use Rattle.token_list.specs.declared.stream.Token.{Token}
 use Rattle.token_list.proofs.Texts.{chosen, passed-over}
 use Rattle.reading.specs.Took.{Took, took, refuse, onward}
-use Rattle.reading.specs.Reading.{Stops, stopping, Ending, atEnd, atAngle, atComma, atGroup, RunEnd, ended, Verdict, belongs, ends, unopened, judge, judgePunct, judged, runFrom, front, kept, run, copied}
+use Rattle.reading.specs.Reading.{Stops, stopping, Ending, atEnd, atAngle, atComma, atGroup, RunEnd, ended, Verdict, belongs, ends, unopened, judge, judgePunct, judged, runFrom, firstRows, kept, run, copied}
 use Rattle.parse.specs.Contract.{Moved, on, no, any, Meets, stands, refuses, stream, point, CursorAt, InsideAt, pastOf, Belonged, runEndOf, RunAt}
 use Rattle.parse.specs.declared.runs.Run.{Run}
 use Rattle.reading.specs.Place.{endOf}
@@ -129,7 +129,7 @@ module _ (s : List ℕ) (c : Cursor) {b0 b1 : List ℕ} (st : Stops) (role : ℕ
       go : {t : Took RunEnd} → runFrom st role 0 false (c .row) (stream s c) ≡ t → Meets s c b0 b1 (λ (v : RunEnd). runEndOf r ≡ v) (on (r .to)) t
           → Meets s c b0 b1 (RunAt s st role (point s c) r) (on (r .to)) (run st role (c .row) (stream s c))
       go e (stands {rs = rs} {us = us} mv h) =
-          let tokens = front (stream s c) (length rs) in
+          let tokens = firstRows (stream s c) (length rs) in
           let gives : run st role (c .row) (stream s c) ≡ took tokens rs us = ap (kept (stream s c)) e in
           let plain : Meets s c b0 b1 any (on (r .to)) (run st role (c .row) (stream s c)) =
           meets-as gives (stands mv tt) in

@@ -210,7 +210,7 @@ visibilityShown s x r v = PubAt s x (r .scope) v (r .word)
 
 -- the item's word alone
 abbrev pub itemWord : Reader declaration.Kind
-itemWord = reading.word role.item-word >>= reading.kindOf
+itemWord = reading.word role.item-word >>= reading.namedKind
 
 abbrev pub kindOf : DataType → declaration.Kind
 kindOf kinds.Struct = declaration.struct

@@ -205,7 +205,7 @@ module _ (st : Stops) (n : ℕ) where
   pub run-complete : {ts us : Trees} {rs : List ℕ} → g.Run everything st n 0 false ts us rs →
       Takes Any (r.run st n) ts us rs
   run-complete {ts} {us} {rs} h = record {
-    from = λ row. taken-as (r.front ts (length rs)) rs us tt (ap (r.kept ts)
+    from = λ row. taken-as (r.firstRows ts (length rs)) rs us tt (ap (r.kept ts)
         (runFrom-complete h row .equal));
   }
 
@@ -311,11 +311,11 @@ name-then {Q = Q} {f = f} {us = us} {vs = vs} {qs = qs} h k =
     go (found t p) e = and-then (pure-takes {P = λ a. a ≡ t} t us refl)
         (λ a e. subst (λ (a : List ℕ). Takes Q (f a) us vs qs) (sym e) (k t))
 
-kindOf-taken : (k : Kind) (t : List ℕ) (p row : ℕ) (us : Trees) → same t (kindWord k) ≡ true →
-    r.kindOf (found t p) row us ≡ took k [] us
-kindOf-taken struct t p row us e =
+namedKind-taken : (k : Kind) (t : List ℕ) (p row : ℕ) (us : Trees) → same t (kindWord k) ≡ true →
+    r.namedKind (found t p) row us ≡ took k [] us
+namedKind-taken struct t p row us e =
     ap (λ (b : Bool). cond b (pure struct) (cond (same t ENUM) (pure enum) (λ row ts. refuse 25 p)) row us) e
-kindOf-taken enum t p row us e =
+namedKind-taken enum t p row us e =
     ap (λ (b : Bool). cond b (pure struct) (cond (same t ENUM) (pure enum) (λ row ts. refuse 25 p)) row us)
     (ap (λ (w : List ℕ). same w STRUCT) (same-path t ENUM e))
     ∙ ap (λ (b : Bool). cond b (pure enum) (λ row ts. refuse 25 p) row us) e
@@ -333,8 +333,8 @@ dataType-complete k (g.Head.head {us = us} {vs = vs} {bs = bs} a b) =
     named l e = with-roles (append-nil bs) (name-then b (λ t. pure-takes (record { kind = l; name = t }) vs e))
 
     kinds : (w : Word) → Found (λ t. same t (kindWord k)) w →
-        Takes (λ (h : r.Head). h .kind ≡ k) (r.kindOf w >>= after-kind) us vs bs
+        Takes (λ (h : r.Head). h .kind ≡ k) (r.namedKind w >>= after-kind) us vs bs
     kinds missing e = absurd e
     kinds (found t p) e =
-        and-then {P = λ l. l ≡ k} {m = r.kindOf (found t p)} {rs = []}
-        (record { from = λ row. taken-as k [] us refl (kindOf-taken k t p row us e) }) named
+        and-then {P = λ l. l ≡ k} {m = r.namedKind (found t p)} {rs = []}
+        (record { from = λ row. taken-as k [] us refl (namedKind-taken k t p row us e) }) named

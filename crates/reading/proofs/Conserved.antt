@@ -99,15 +99,15 @@ pub named!-conserving : (w : Word) → Conserving (r.named! w)
 named!-conserving missing row ts = refused refl
 named!-conserving (found t p) row ts = nothing-taken
 
-pub kindOf-conserving : (w : Word) → Conserving (r.kindOf w)
-kindOf-conserving missing = λ row ts. refused refl
-kindOf-conserving (found t p) =
+pub namedKind-conserving : (w : Word) → Conserving (r.namedKind w)
+namedKind-conserving missing = λ row ts. refused refl
+namedKind-conserving (found t p) =
     reader-choice (same t r.STRUCT) (pure-conserving struct)
     (reader-choice (same t r.ENUM) (pure-conserving enum) (λ row ts. refused refl))
 
 pub dataType-conserving : Conserving r.dataType
 dataType-conserving =
-    bind (word-conserving role.item-word) (λ w. bind (kindOf-conserving w)
+    bind (word-conserving role.item-word) (λ w. bind (namedKind-conserving w)
     (λ k. bind (word-conserving role.item-name) (λ v. bind (named!-conserving v) (λ n. pure-conserving _))))
 
 -- ## Parameters

@@ -15,11 +15,11 @@ use Rattle.reading.specs.Declaration.{Visibility, Kind, struct, enum, Pa
 use Rattle.reading.specs.Took.{Took, took, Reader, onward, _>>=_, pure}
 use Rattle.reading.specs.Reading as r
 use Rattle.reading.specs.Reading.{Maybe, done, one, Word, rounds, every, more}
-use Rattle.reading.proofs.SoundTokens.{Meets, met, refused, met-by, choice, onward-met, onward-still, after-met, pure-met, run-sound, attributes-sound, visibility-sound, name-then, kindWord, dataType-sound}
+use Rattle.reading.proofs.SoundTokens.{Sound, met, refused, met-by, choice, onward-met, onward-still, after-met, pure-met, run-sound, attributes-sound, visibility-sound, name-then, kindWord, dataType-sound}
 
 -- ## Marks and generics
 
-pub punctIf-sound : (b row : ℕ) (ts : Trees) → Meets (λ t rs us. g.Mark everything b t ts us rs)
+pub punctIf-sound : (b row : ℕ) (ts : Trees) → Sound (λ t rs us. g.Mark everything b t ts us rs)
     (r.punctIf b role.separator row ts)
 punctIf-sound b row end = met [] end (g.Mark.absent refl)
 punctIf-sound b row (leaf q us) = choice (isPunct b q) (λ e. met (role.separator ∷ []) us (g.Mark.present e))
@@ -33,16 +33,16 @@ pub data Marked (b : ℕ) : Trees → List ℕ → Trees → Type 0 where
       g.Run everything parameterStops role.bound 0 false us vs rs
       → Marked b (leaf c us) (role.separator ∷ rs) vs
 
-weaken : {A : Type 0} {N M : A → List ℕ → Trees → Type 0} {t : Took A} → Meets N t →
-    ((a : A) (rs : List ℕ) (us : Trees) → N a rs us → M a rs us) → Meets M t
+weaken : {A : Type 0} {N M : A → List ℕ → Trees → Type 0} {t : Took A} → Sound N t →
+    ((a : A) (rs : List ℕ) (us : Trees) → N a rs us → M a rs us) → Sound M t
 weaken (met rs us h) k = met rs us (k _ rs us h)
 weaken refused k = refused
 
-marked-run-sound : (b row : ℕ) (ts : Trees) → Meets (λ x rs us. Marked b ts rs us) (r.marked-run b row ts)
+marked-run-sound : (b row : ℕ) (ts : Trees) → Sound (λ x rs us. Marked b ts rs us) (r.marked-run b row ts)
 marked-run-sound b row ts = after-met row (punctIf-sound b row ts) go
   where
     go : {ts : Trees} (t : Bool) (rs : List ℕ) (us : Trees) → g.Mark everything b t ts us rs → (row : ℕ)
-        → Meets (λ x qs vs. Marked b ts (rs ++ qs) vs) (r.runIf t parameterStops role.bound row us)
+        → Sound (λ x qs vs. Marked b ts (rs ++ qs) vs) (r.runIf t parameterStops role.bound row us)
     go true rs us (g.Mark.present e) row = weaken (run-sound parameterStops role.bound row us) (λ x qs vs h. some e h)
     go false rs us (g.Mark.absent e) row = met [] us (none e)
 
@@ -56,14 +56,14 @@ data Commaed {A : Type 0} (P : List ℕ → Trees → Type 0) : Maybe A → List
       Commaed P (one a) (rs ++ cs) vs
 
 comma-sound : {A : Type 0} (P : List ℕ → Trees → Type 0) (a : A) (rs : List ℕ) (us : Trees) → P rs us → (row : ℕ)
-    → Meets (λ m qs vs. Commaed P m (rs ++ qs) vs) (r.comma a row us)
+    → Sound (λ m qs vs. Commaed P m (rs ++ qs) vs) (r.comma a row us)
 comma-sound P a rs us h row =
     after-met row (punctIf-sound 44 row us) (λ t cs vs m row. met [] vs (rw append-nil (commaed h m)))
 
 data ParameterName : Trees → List ℕ → Trees → Type 0 where
   name : {p : Row} {us : Trees} → isIdent p ≡ true → ParameterName (leaf p us) (role.parameter-name ∷ []) us
 
-parameterName-sound : (n p row : ℕ) (ts : Trees) → Meets (λ x rs us. ParameterName ts rs us)
+parameterName-sound : (n p row : ℕ) (ts : Trees) → Sound (λ x rs us. ParameterName ts rs us)
     (r.parameterName n p row ts)
 parameterName-sound n p row end = refused
 parameterName-sound n p row (leaf q us) =
@@ -75,27 +75,27 @@ module _ (q : Row) where
   Named us rs vs = g.Parameter everything (leaf q us) vs (role.parameter-name ∷ rs)
 
   lifetime-sound : (quote row : ℕ) (us : Trees) → isPunct 39 q ≡ true →
-      Meets (λ x rs vs. Named us rs vs) (r.lifetimeAfter quote row us)
+      Sound (λ x rs vs. Named us rs vs) (r.lifetimeAfter quote row us)
   lifetime-sound quote row us e = after-met row (parameterName-sound 24 quote row us) go
     where
       go : {us : Trees} (n rs : List ℕ) (vs : Trees) → ParameterName us rs vs → (row : ℕ)
-          → Meets (λ x qs ws. Named us (rs ++ qs) ws) ((r.marked-run 58 >>= λ b. pure (Parameter.lifetime n b)) row vs)
+          → Sound (λ x qs ws. Named us (rs ++ qs) ws) ((r.marked-run 58 >>= λ b. pure (Parameter.lifetime n b)) row vs)
       go n rs vs (name f) row =
           after-met row (marked-run-sound 58 row vs)
           (λ b qs ws h row. met [] ws (rw append-nil (g.Parameter.lifetime e f refl (bound-of h))))
 
   constant-sound : (row : ℕ) (us : Trees) → isWord CONST q ≡ true →
-      Meets (λ x rs vs. Named us rs vs) (r.constantAfter row us)
+      Sound (λ x rs vs. Named us rs vs) (r.constantAfter row us)
   constant-sound row us e = after-met row (parameterName-sound 27 65535 row us) go
     where
       go : {us : Trees} (n rs : List ℕ) (vs : Trees) → ParameterName us rs vs → (row : ℕ)
-          → Meets (λ x qs ws. Named us (rs ++ qs) ws) ((r.marked-run 58 >>= λ b. pure (Parameter.constant n b)) row vs)
+          → Sound (λ x qs ws. Named us (rs ++ qs) ws) ((r.marked-run 58 >>= λ b. pure (Parameter.constant n b)) row vs)
       go n rs vs (name f) row =
           after-met row (marked-run-sound 58 row vs) (λ b qs ws h row. met [] ws
           (rw append-nil (g.Parameter.constant e f (bound-of h) refl)))
 
   type-sound : (row : ℕ) (us : Trees) (n : List ℕ) → isWord CONST q ≡ false → isIdent q ≡ true →
-      Meets (λ x rs vs. Named us rs vs) (r.typeAfter n row us)
+      Sound (λ x rs vs. Named us rs vs) (r.typeAfter n row us)
   type-sound row us n e f = after-met row (punctIf-sound 58 row us) go
     where
       default : {us : Trees} → starts (isPunct 58) us ≡ false → (rs : List ℕ) (vs : Trees) → Marked 61 us rs vs →
@@ -104,7 +104,7 @@ module _ (q : Row) where
       default a rs vs (some b h) = g.Parameter.defaulted e f b h refl
 
       go : {us : Trees} (t : Bool) (rs : List ℕ) (vs : Trees) → g.Mark everything 58 t us vs rs → (row : ℕ)
-          → Meets (λ x qs ws. Named us (rs ++ qs) ws) (r.typeRuns n t row vs)
+          → Sound (λ x qs ws. Named us (rs ++ qs) ws) (r.typeRuns n t row vs)
       go true rs vs (g.Mark.present a) row =
           after-met row (run-sound parameterStops role.bound row vs)
           (λ x qs ws h row. met [] ws (rw append-nil (g.Parameter.bounded e f a h)))
@@ -117,7 +117,7 @@ data ParameterRead : Trees → Maybe Parameter → List ℕ → Trees → Type 0
       → ParameterRead ts (one a) (ps ++ cs) vs
   last : {q : Row} {us : Trees} → isPunct 62 q ≡ true → ParameterRead (leaf q us) done (role.angle ∷ []) us
 
-parameter-read : (angle row : ℕ) (ts : Trees) → Meets (ParameterRead ts) (r.parameter angle row ts)
+parameter-read : (angle row : ℕ) (ts : Trees) → Sound (ParameterRead ts) (r.parameter angle row ts)
 parameter-read angle row end = refused
 parameter-read angle row (group d ts us) = refused
 parameter-read angle row (leaf q us) =
@@ -133,32 +133,32 @@ parameter-read angle row (leaf q us) =
         ParameterRead (leaf q us) m (role.parameter-name ∷ rs) vs
     one-more m rs vs (commaed h k) = another h k
 
-    from : {t : Took (Maybe Parameter)} → Meets (Commaed (Named q us)) t →
-        Meets (ParameterRead (leaf q us)) (onward (role.parameter-name ∷ []) t)
+    from : {t : Took (Maybe Parameter)} → Sound (Commaed (Named q us)) t →
+        Sound (ParameterRead (leaf q us)) (onward (role.parameter-name ∷ []) t)
     from h = onward-met (role.parameter-name ∷ []) h one-more
 
 -- ## Going round: N is what one round reads, L what they all do
 
 module _ {A : Type 0} (m : Reader (Maybe A)) (N : Trees → Maybe A → List ℕ → Trees → Type 0)
     (L : Trees → List ℕ → Trees → Type 0)
-    (sound : (row : ℕ) (ts : Trees) → Meets (N ts) (m row ts))
+    (sound : (row : ℕ) (ts : Trees) → Sound (N ts) (m row ts))
     (last : (ts : Trees) (rs : List ℕ) (us : Trees) → N ts done rs us → L ts rs us)
     (next : (ts us vs : Trees) (a : A) (rs qs : List ℕ) → N ts (one a) rs us → L us qs vs → L ts (rs ++ qs) vs) where
-  rounds-sound : (n row : ℕ) (ts : Trees) → Meets (λ x rs us. L ts rs us) (rounds n m row ts)
+  rounds-sound : (n row : ℕ) (ts : Trees) → Sound (λ x rs us. L ts rs us) (rounds n m row ts)
   rounds-sound zero row ts = refused
   rounds-sound (suc n) row ts = after-met row (sound row ts) (go (rounds-sound n))
     where
-      go : ((row : ℕ) (ts : Trees) → Meets (λ x rs us. L ts rs us) (rounds n m row ts)) →
+      go : ((row : ℕ) (ts : Trees) → Sound (λ x rs us. L ts rs us) (rounds n m row ts)) →
           (x : Maybe A) (rs : List ℕ) (us : Trees) → N ts x rs us → (row : ℕ)
-          → Meets (λ y qs vs. L ts (rs ++ qs) vs) (more (rounds n m) x row us)
+          → Sound (λ y qs vs. L ts (rs ++ qs) vs) (more (rounds n m) x row us)
       go ih done rs us h row = met [] us (rw append-nil (last ts rs us h))
       go ih (one a) rs us h row =
           after-met row (ih row us) (λ x qs vs k row. met [] vs (rw append-nil (next ts us vs a rs qs h k)))
 
-  every-sound : (row : ℕ) (ts : Trees) → Meets (λ x rs us. L ts rs us) (every m row ts)
+  every-sound : (row : ℕ) (ts : Trees) → Sound (λ x rs us. L ts rs us) (every m row ts)
   every-sound row ts = rounds-sound (suc (size ts)) row ts
 
-pub parameters-sound : (angle row : ℕ) (ts : Trees) → Meets (λ x rs us. g.Parameters everything ts us rs)
+pub parameters-sound : (angle row : ℕ) (ts : Trees) → Sound (λ x rs us. g.Parameters everything ts us rs)
     (every (r.parameter angle) row ts)
 parameters-sound angle = every-sound (r.parameter angle) ParameterRead (λ ts rs us. g.Parameters everything ts us rs)
     (parameter-read angle) final following
@@ -171,7 +171,7 @@ parameters-sound angle = every-sound (r.parameter angle) ParameterRead (λ ts rs
         → g.Parameters everything ts vs (rs ++ qs)
     following ts us vs a rs qs (another h m) k = g.Parameters.next h m refl refl k
 
-pub generics-sound : (row : ℕ) (ts : Trees) → Meets (λ x rs us. g.Generics everything ts us rs) (r.generics row ts)
+pub generics-sound : (row : ℕ) (ts : Trees) → Sound (λ x rs us. g.Generics everything ts us rs) (r.generics row ts)
 generics-sound row end = met [] end (g.Generics.none refl)
 generics-sound row (group d ts us) = met [] (group d ts us) (g.Generics.none refl)
 generics-sound row (leaf q us) =
@@ -180,7 +180,7 @@ generics-sound row (leaf q us) =
     (λ x rs vs h row. met [] vs (rw append-nil h))) (λ x rs vs h. g.Generics.generics e h))
     (λ e. met [] (leaf q us) (g.Generics.none e))
 
-pub clause-sound : (row : ℕ) (ts : Trees) → Meets (λ x rs us. g.Clause everything ts us rs) (r.clause row ts)
+pub clause-sound : (row : ℕ) (ts : Trees) → Sound (λ x rs us. g.Clause everything ts us rs) (r.clause row ts)
 clause-sound row end = met [] end (g.Clause.none refl)
 clause-sound row (group d ts us) = met [] (group d ts us) (g.Clause.none refl)
 clause-sound row (leaf q us) =
@@ -199,12 +199,12 @@ data FieldRead : Trees → Maybe Field → List ℕ → Trees → Type 0 where
 module _ (ts us : Trees) (ks : List ℕ) (h : g.Attributes everything ts us ks) where
   fieldAfter-read : (bs : List ℕ) (q : Row) (vs : Trees) → g.Visibility everything us (leaf q vs) bs →
       isIdent q ≡ true → (a : List Trees) (v : Visibility) (n : List ℕ) (row : ℕ)
-      → Meets (λ m qs ws. FieldRead ts m (ks ++ (bs ++ (role.field-name ∷ qs))) ws) (r.fieldAfter a v n row vs)
+      → Sound (λ m qs ws. FieldRead ts m (ks ++ (bs ++ (role.field-name ∷ qs))) ws) (r.fieldAfter a v n row vs)
   fieldAfter-read bs q vs i e a v n row = after-met row (punctIf-sound 58 row vs) (go i)
     where
       go : {vs : Trees} → g.Visibility everything us (leaf q vs) bs → (t : Bool) (rs : List ℕ) (ws : Trees) →
           g.Mark everything 58 t vs ws rs → (row : ℕ)
-          → Meets (λ m qs xs. FieldRead ts m (ks ++ (bs ++ (role.field-name ∷ (rs ++ qs)))) xs)
+          → Sound (λ m qs xs. FieldRead ts m (ks ++ (bs ++ (role.field-name ∷ (rs ++ qs)))) xs)
           ((r.must 23 t >>= λ u. r.run fieldStops role.type >>= λ f. r.comma (record {
             name = n;
             field = record { attributes = a; visibility = v; type = f };
@@ -217,7 +217,7 @@ module _ (ts us : Trees) (ks : List ℕ) (h : g.Attributes everything ts us ks) 
       go i false rs ws m row = refused
 
   fieldStart-read : (bs : List ℕ) (vs : Trees) → g.Visibility everything us vs bs → (a : List Trees) (v : Visibility) (row : ℕ)
-      → Meets (λ m qs ws. FieldRead ts m (ks ++ (bs ++ qs)) ws) (r.fieldStart a v row vs)
+      → Sound (λ m qs ws. FieldRead ts m (ks ++ (bs ++ qs)) ws) (r.fieldStart a v row vs)
   fieldStart-read bs end i a v row = met {a = done} [] end (rw append-nil (last h i))
   fieldStart-read bs (group d vs ws) i a v row = refused
   fieldStart-read bs (leaf q vs) i a v row =
@@ -225,12 +225,12 @@ module _ (ts us : Trees) (ks : List ℕ) (h : g.Attributes everything ts us ks) 
       (λ e. onward-still (role.field-name ∷ []) (fieldAfter-read bs q vs i e a v (q .text) (row + 1)))
       (λ e. refused)
 
-namedField-read : (row : ℕ) (ts : Trees) → Meets (FieldRead ts) (r.namedField row ts)
+namedField-read : (row : ℕ) (ts : Trees) → Sound (FieldRead ts) (r.namedField row ts)
 namedField-read row ts =
     after-met row (attributes-sound row ts) (λ x ks us h row. after-met row (visibility-sound row us)
     (λ y bs vs i row. fieldStart-read ts us ks h bs vs i x y row))
 
-pub namedFields-sound : (row : ℕ) (ts : Trees) → Meets (λ x rs us. g.NamedFields everything ts rs)
+pub namedFields-sound : (row : ℕ) (ts : Trees) → Sound (λ x rs us. g.NamedFields everything ts rs)
     (every r.namedField row ts)
 namedFields-sound =
     every-sound r.namedField FieldRead (λ ts rs us. g.NamedFields everything ts rs) namedField-read final following
@@ -248,7 +248,7 @@ data TypeRead : Trees → Maybe UnnamedField → List ℕ → Trees → Type 0 w
       TypeRead ts (one a) rs us
   last : TypeRead end done [] end
 
-tupleType-read : (row : ℕ) (ts : Trees) → isEnd ts ≡ false → Meets (TypeRead ts) (r.tupleType row ts)
+tupleType-read : (row : ℕ) (ts : Trees) → isEnd ts ≡ false → Sound (TypeRead ts) (r.tupleType row ts)
 tupleType-read row ts e =
     after-met row (attributes-sound row ts)
     (λ x ks us h row. after-met row (visibility-sound row us)
@@ -256,12 +256,12 @@ tupleType-read row ts e =
     (λ z qs ws j row. after-met row (punctIf-sound 44 row ws)
     (λ t cs ys m row. met [] ys (rw append-nil (another e (g.TupleField.field h i j refl m)))))))
 
-tupleField-read : (row : ℕ) (ts : Trees) → Meets (TypeRead ts) (r.tupleField row ts)
+tupleField-read : (row : ℕ) (ts : Trees) → Sound (TypeRead ts) (r.tupleField row ts)
 tupleField-read row end = met [] end last
 tupleField-read row (leaf q us) = tupleType-read row (leaf q us) refl
 tupleField-read row (group d ts us) = tupleType-read row (group d ts us) refl
 
-pub tupleFields-sound : (row : ℕ) (ts : Trees) → Meets (λ x rs us. g.TupleFields everything ts rs)
+pub tupleFields-sound : (row : ℕ) (ts : Trees) → Sound (λ x rs us. g.TupleFields everything ts rs)
     (every r.tupleField row ts)
 tupleFields-sound =
     every-sound r.tupleField TypeRead (λ ts rs us. g.TupleFields everything ts rs) tupleField-read final following
@@ -276,19 +276,19 @@ tupleFields-sound =
 -- ## Variants and bodies
 
 closing-met : {A : Type 0} {P : List ℕ → Type 0} {M : List ℕ → Trees → Type 0} {t : Took A} (us : Trees) →
-    Meets (λ x rs vs. P rs) t
+    Sound (λ x rs vs. P rs) t
     → ((rs : List ℕ) → P rs → M (role.delimiter ∷ rs ++ role.delimiter ∷ []) us) →
-    Meets (λ x rs vs. M rs vs) (r.closing us t)
+    Sound (λ x rs vs. M rs vs) (r.closing us t)
 closing-met us (met rs vs h) k = met (role.delimiter ∷ rs ++ role.delimiter ∷ []) us (k rs h)
 closing-met us refused k = refused
 
-named-inside : (row : ℕ) (ts : Trees) → Meets (λ x rs us. g.NamedFields everything ts rs) (r.namedFields row ts)
+named-inside : (row : ℕ) (ts : Trees) → Sound (λ x rs us. g.NamedFields everything ts rs) (r.namedFields row ts)
 named-inside row ts = pure-met {P = λ rs us. g.NamedFields everything ts rs} row Fields.named (namedFields-sound row ts)
 
-tuple-inside : (row : ℕ) (ts : Trees) → Meets (λ x rs us. g.TupleFields everything ts rs) (r.tupleFields row ts)
+tuple-inside : (row : ℕ) (ts : Trees) → Sound (λ x rs us. g.TupleFields everything ts rs) (r.tupleFields row ts)
 tuple-inside row ts = pure-met {P = λ rs us. g.TupleFields everything ts rs} row Fields.tuple (tupleFields-sound row ts)
 
-pub variantFields-sound : (row : ℕ) (ts : Trees) → Meets (λ x rs us. g.VariantFields everything ts us rs)
+pub variantFields-sound : (row : ℕ) (ts : Trees) → Sound (λ x rs us. g.VariantFields everything ts us rs)
     (r.variantFields row ts)
 variantFields-sound row end = met [] end (g.VariantFields.none refl)
 variantFields-sound row (leaf q us) = met [] (leaf q us) (g.VariantFields.none refl)
@@ -307,7 +307,7 @@ data ValueRead : Trees → Value → List ℕ → Trees → Type 0 where
   some : {v : Value} {ts us : Trees} {rs : List ℕ} → g.Value everything ts us rs → ValueRead ts v rs us
 
 negativeValue-read : (e m : Row) → isPunct 61 e ≡ true → isPunct 45 m ≡ true → (row : ℕ) (ts : Trees)
-    → Meets (λ v rs us. ValueRead (leaf e (leaf m ts)) v (role.separator ∷ role.value ∷ rs) us) (r.negativeValue row ts)
+    → Sound (λ v rs us. ValueRead (leaf e (leaf m ts)) v (role.separator ∷ role.value ∷ rs) us) (r.negativeValue row ts)
 negativeValue-read e m a b row end = refused
 negativeValue-read e m a b row (group d ts us) = refused
 negativeValue-read e m a b row (leaf q us) =
@@ -315,7 +315,7 @@ negativeValue-read e m a b row (leaf q us) =
     (λ d. met (role.value ∷ []) us (some (g.Value.negative a b c d))) (λ d. refused)) (λ c. refused)
 
 discriminant-read : (e : Row) → isPunct 61 e ≡ true → (row : ℕ) (ts : Trees)
-    → Meets (λ v rs us. ValueRead (leaf e ts) v (role.separator ∷ rs) us) (r.discriminant row ts)
+    → Sound (λ v rs us. ValueRead (leaf e ts) v (role.separator ∷ rs) us) (r.discriminant row ts)
 discriminant-read e a row end = refused
 discriminant-read e a row (group d ts us) = refused
 discriminant-read e a row (leaf q us) =
@@ -323,7 +323,7 @@ discriminant-read e a row (leaf q us) =
     (λ c. choice (isPunct 45 q) (λ b. onward-still (role.value ∷ []) (negativeValue-read e q a b (row + 1) us))
     (λ b. refused))
 
-valueIf-read : (row : ℕ) (ts : Trees) → Meets (ValueRead ts) (r.valueIf row ts)
+valueIf-read : (row : ℕ) (ts : Trees) → Sound (ValueRead ts) (r.valueIf row ts)
 valueIf-read row end = met [] end (none refl)
 valueIf-read row (group d ts us) = refused
 valueIf-read row (leaf q us) =
@@ -348,7 +348,7 @@ variant-of : {t : Bool} {v : Value} {ts us vs ws xs ys : Trees} {ks bs fs es cs 
 variant-of h i j (none p) m = g.Variant.plain h i j m (parted m p)
 variant-of h i j (some k) m = g.Variant.valued h i j k m refl refl
 
-variantHere-read : (row : ℕ) (ts : Trees) → isEnd ts ≡ false → Meets (VariantRead ts) (r.variantHere row ts)
+variantHere-read : (row : ℕ) (ts : Trees) → isEnd ts ≡ false → Sound (VariantRead ts) (r.variantHere row ts)
 variantHere-read row ts e =
     after-met row (attributes-sound row ts)
     (λ x ks us h row. name-then role.variant-name row us
@@ -357,12 +357,12 @@ variantHere-read row ts e =
     (λ v es xs k row. after-met row (punctIf-sound 44 row xs)
     (λ t cs ys m row. met [] ys (rw append-nil (another e (variant-of h i j k m))))))))
 
-variant-read : (row : ℕ) (ts : Trees) → Meets (VariantRead ts) (r.variant row ts)
+variant-read : (row : ℕ) (ts : Trees) → Sound (VariantRead ts) (r.variant row ts)
 variant-read row end = met [] end last
 variant-read row (leaf q us) = variantHere-read row (leaf q us) refl
 variant-read row (group d ts us) = variantHere-read row (group d ts us) refl
 
-pub variants-sound : (row : ℕ) (ts : Trees) → Meets (λ x rs us. g.Variants everything ts rs) (every r.variant row ts)
+pub variants-sound : (row : ℕ) (ts : Trees) → Sound (λ x rs us. g.Variants everything ts rs) (every r.variant row ts)
 variants-sound =
     every-sound r.variant VariantRead (λ ts rs us. g.Variants everything ts rs) variant-read final following
   where
@@ -380,7 +380,7 @@ pub data BodyRead : Kind → Trees → Trees → List ℕ → Type 0 where
       BodyRead Kind.struct ts us rs
   ofEnum : {ts us : Trees} {rs : List ℕ} → g.EnumBody everything ts us rs → BodyRead Kind.enum ts us rs
 
-structBody-sound : (row : ℕ) (ts : Trees) → Meets (λ x rs us. BodyRead Kind.struct ts us rs) (r.structBody row ts)
+structBody-sound : (row : ℕ) (ts : Trees) → Sound (λ x rs us. BodyRead Kind.struct ts us rs) (r.structBody row ts)
 structBody-sound row end = refused
 structBody-sound row (leaf q us) =
     choice (isPunct 59 q) (λ e. met (role.delimiter ∷ []) us (ofStruct (g.StructBody.unit e))) (λ e. refused)
@@ -395,7 +395,7 @@ structBody-sound row (group d ts us) =
     (λ rs h. ofStruct (g.StructBody.tuple e h)))
     (λ e. refused))
 
-enumBody-sound : (row : ℕ) (ts : Trees) → Meets (λ x rs us. BodyRead Kind.enum ts us rs) (r.enumBody row ts)
+enumBody-sound : (row : ℕ) (ts : Trees) → Sound (λ x rs us. BodyRead Kind.enum ts us rs) (r.enumBody row ts)
 enumBody-sound row end = refused
 enumBody-sound row (leaf q us) =
     choice (isPunct 59 q) (λ e. met (role.delimiter ∷ []) us (ofEnum (g.EnumBody.unit refl e))) (λ e. refused)
@@ -404,7 +404,7 @@ enumBody-sound row (group d ts us) =
     (pure-met {P = λ rs us. g.Variants everything ts rs} (row + 1) Body.variants (variants-sound (row + 1) ts))
     (λ rs h. ofEnum (g.EnumBody.variants refl h))
 
-pub bodyOf-sound : (k : Kind) (row : ℕ) (ts : Trees) → Meets (λ x rs us. BodyRead k ts us rs) (r.bodyOf k row ts)
+pub bodyOf-sound : (k : Kind) (row : ℕ) (ts : Trees) → Sound (λ x rs us. BodyRead k ts us rs) (r.bodyOf k row ts)
 bodyOf-sound struct = structBody-sound
 bodyOf-sound enum = enumBody-sound
 
@@ -419,7 +419,7 @@ item-of : {ts₀ ts₁ ts₂ ts₃ ts₄ ts₅ ts₆ : Trees} {ks bs cs ds es fs
 item-of struct a b c d e (ofStruct {tuple = tuple} f) = (tuple, g.Item.struct a b c d e f)
 item-of enum a b c d e (ofEnum f) = (false, g.Item.enum a b c d e f)
 
-pub item-sound : (row : ℕ) (ts : Trees) → Meets (λ x rs us. (tuple : Bool) × g.Item everything tuple ts us rs)
+pub item-sound : (row : ℕ) (ts : Trees) → Sound (λ x rs us. (tuple : Bool) × g.Item everything tuple ts us rs)
     (r.item row ts)
 item-sound row ts =
     after-met row (attributes-sound row ts)
@@ -434,5 +434,5 @@ item-sound row ts =
 pub obeys-sound : {ts us : Trees} {d : Declaration} {rs : List ℕ} → r.item 0 ts ≡ took d rs us
     → g.Obeys everything ts (rs ++ replicate (size us) role.left-over)
 obeys-sound {ts} {us} e =
-    let i = met-by (subst (Meets (λ x rs us. (tuple : Bool) × g.Item everything tuple ts us rs)) e
+    let i = met-by (subst (Sound (λ x rs us. (tuple : Bool) × g.Item everything tuple ts us rs)) e
     (item-sound 0 ts)) in g.Obeys.obeys (i .1) (g.LeftOver.rows refl)

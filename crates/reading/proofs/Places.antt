@@ -162,9 +162,9 @@ module _ (b : ℕ) where
   Low missing = Unit {0}
   Low (found t p) = p < b
 
-  kindOf-placed : (w : Word) → Low w → Placing (r.kindOf w)
-  kindOf-placed missing l = wrong-placed 11
-  kindOf-placed (found t p) l =
+  namedKind-placed : (w : Word) → Low w → Placing (r.namedKind w)
+  namedKind-placed missing l = wrong-placed 11
+  namedKind-placed (found t p) l =
       reader-choice (same t r.STRUCT) (none struct) (reader-choice (same t r.ENUM) (none enum) (λ row ts h. at-row l))
 
   word-then : {A : Type 0} (n : ℕ) (f : Word → Reader A) → ((w : Word) → Low w → Placing (f w)) →
@@ -189,7 +189,7 @@ module _ (b : ℕ) where
   dataType-placed : Placing r.dataType
   dataType-placed =
       word-then role.item-word _
-      (λ w l. bind (c.kindOf-conserving w) (kindOf-placed w l)
+      (λ w l. bind (c.namedKind-conserving w) (namedKind-placed w l)
       (λ k. bind (c.word-conserving role.item-name) (word-placed role.item-name)
       (λ v. bind (c.named!-conserving v) (named!-placed v) (λ n. none _))))
 

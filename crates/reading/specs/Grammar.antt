@@ -40,9 +40,9 @@ abbrev pub nothing : Difference → Bool
 nothing d = false
 
 -- a run's roles: not those of an empty run
-abbrev pub filled : List ℕ → Bool
-filled [] = false
-filled (r ∷ rs) = true
+abbrev pub nonempty : List ℕ → Bool
+nonempty [] = false
+nonempty (r ∷ rs) = true
 
 -- rule 6: a token that is neither `<` nor `>` nor a stop
 abbrev pub ordinary : Stops → ℕ → Row → Bool
@@ -193,7 +193,7 @@ module _ (allowed : Difference → Bool) where
     defaulted : {q c : Row} {us vs : Trees} {rs : List ℕ}
         → isWord CONST q ≡ false → isName q ≡ true → isPunct EQUALS c ≡ true
         → Run parameterStops role.bound 0 false us vs rs
-        → Unless empty-type (filled rs)
+        → Unless empty-type (nonempty rs)
         → Parameter (leaf q (leaf c us)) vs (role.parameter-name ∷ role.separator ∷ rs)
 
   pub data Parameters : Trees → Trees → List ℕ → Type 0 where
@@ -225,7 +225,7 @@ module _ (allowed : Difference → Bool) where
   pub data NamedField : Trees → Trees → List ℕ → Type 0 where
     field : {comma : Bool} {q c : Row} {ts us vs ws xs : Trees} {ks bs rs cs : List ℕ}
         → Attributes ts us ks → Visibility us (leaf q (leaf c vs)) bs → isName q ≡ true → isPunct COLON c ≡ true
-        → Run fieldStops role.type 0 false vs ws rs → Unless empty-type (filled rs) → Mark COMMA comma ws xs cs
+        → Run fieldStops role.type 0 false vs ws rs → Unless empty-type (nonempty rs) → Mark COMMA comma ws xs cs
         → NamedField ts xs (ks ++ (bs ++ (role.field-name ∷ role.separator ∷ rs ++ cs)))
 
   -- StructFields, to the end of their group
@@ -240,7 +240,7 @@ module _ (allowed : Difference → Bool) where
   pub data TupleField : Trees → Trees → List ℕ → Type 0 where
     field : {comma : Bool} {ts us vs ws xs : Trees} {ks bs rs cs : List ℕ}
         → Attributes ts us ks → Visibility us vs bs
-        → Run fieldStops role.type 0 false vs ws rs → Unless empty-type (filled rs) → Mark COMMA comma ws xs cs
+        → Run fieldStops role.type 0 false vs ws rs → Unless empty-type (nonempty rs) → Mark COMMA comma ws xs cs
         → TupleField ts xs (ks ++ (bs ++ (rs ++ cs)))
 
   -- TupleFields, to the end of their group: while tokens remain
@@ -282,7 +282,7 @@ module _ (allowed : Difference → Bool) where
     valued : {comma : Bool} {ts us vs ws xs ys : Trees} {ks bs fs es cs : List ℕ}
         → Attributes ts us ks → Word isName role.variant-name us vs bs → VariantFields vs ws fs → Value ws xs es
         → Mark COMMA comma xs ys cs → Unless comma-after-value (comma || isEnd ys)
-        → Unless group-and-value (not (filled fs))
+        → Unless group-and-value (not (nonempty fs))
         → Variant ts ys (ks ++ (bs ++ (fs ++ (es ++ cs))))
 
   -- EnumItems, to the end of their group

@@ -11,7 +11,7 @@ use Rattle.reading.specs.Role as role
 use Rattle.reading.specs.Token.{starts, isPunct, isWord, whole, CONST, Stops}
 use Rattle.reading.specs.Declaration.{Value, absent, literal, negative}
 use Rattle.reading.specs.Took.{Took, took, stopped, Reader, pure, Point, beyond, _>>=_}
-use Rattle.reading.specs.Reading.{RunEnd, atEnd, ended, runFrom, attributes, visibility, word, named!, kindOf, dataType, generics, clause, variantFields, variant}
+use Rattle.reading.specs.Reading.{RunEnd, atEnd, ended, runFrom, attributes, visibility, word, named!, namedKind, dataType, generics, clause, variantFields, variant}
 
 -- the ident of a word: in the word's own row, or inside what wraps it
 abbrev pub identRow : ℕ → Trees → ℕ
@@ -64,7 +64,7 @@ startAt x = beyond visibility (visibilityAt x)
 -- ## The item
 
 abbrev pub itemNameAt : Point → Point
-itemNameAt x = beyond (word role.item-word >>= kindOf) (startAt x)
+itemNameAt x = beyond (word role.item-word >>= namedKind) (startAt x)
 
 abbrev pub genericsAt : Point → Point
 genericsAt x = beyond dataType (startAt x)

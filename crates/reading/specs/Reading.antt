@@ -88,15 +88,15 @@ runFrom st r depth minus row (group d ts us) =
     (onward (copied r ts) (runFrom st r depth false (row + whole ts) us))
 
 -- the first tokens of a stream, n rows in all
-abbrev pub front : Trees → ℕ → Trees
-front end n = end
-front (leaf r us) zero = end
-front (leaf r us) (suc n) = leaf r (front us n)
-front (group d ts us) zero = end
-front (group d ts us) (suc n) = group d ts (front us (n - (1 + size ts)))
+abbrev pub firstRows : Trees → ℕ → Trees
+firstRows end n = end
+firstRows (leaf r us) zero = end
+firstRows (leaf r us) (suc n) = leaf r (firstRows us n)
+firstRows (group d ts us) zero = end
+firstRows (group d ts us) (suc n) = group d ts (firstRows us (n - (1 + size ts)))
 
 abbrev pub kept : Trees → Took RunEnd → Took Trees
-kept ts (took e rs us) = took (front ts (length rs)) rs us
+kept ts (took e rs us) = took (firstRows ts (length rs)) rs us
 kept ts (stopped w n p) = stopped w n p
 
 -- a run, with what it holds
@@ -158,9 +158,9 @@ abbrev pub named! : Word → Reader (List ℕ)
 named! missing = wrong 11
 named! (found t p) = pure t
 
-abbrev pub kindOf : Word → Reader Kind
-kindOf missing = wrong 11
-kindOf (found t p) = cond (same t STRUCT) (pure struct) (cond (same t ENUM) (pure enum) (λ row ts. refuse 25 p))
+abbrev pub namedKind : Word → Reader Kind
+namedKind missing = wrong 11
+namedKind (found t p) = cond (same t STRUCT) (pure struct) (cond (same t ENUM) (pure enum) (λ row ts. refuse 25 p))
 
 pub record Head : Type 0 where
   pub kind : Kind
@@ -169,7 +169,7 @@ pub record Head : Type 0 where
 abbrev pub dataType : Reader Head
 dataType = do
   w ← word role.item-word
-  k ← kindOf w
+  k ← namedKind w
   v ← word role.item-name
   n ← named! v
   pure (record { kind = k; name = n })

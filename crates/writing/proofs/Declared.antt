@@ -19,7 +19,7 @@ use Rattle.reading.specs.Token.{isIdent, isPunct, isEnd, CONST}
 use Rattle.reading.specs.Declaration.{Parameter, lifetime, constant, type, Generics, angled, Declaration}
 use Rattle.reading.specs.Took.{took}
 use Rattle.reading.specs.Reading.{item}
-use Rattle.reading.proofs.SoundTokens.{Meets, met-by}
+use Rattle.reading.proofs.SoundTokens.{Sound, met-by}
 use Rattle.writing.specs.Rows.{ident, opening, closing, runRows}
 use Rattle.writing.specs.Generics.{constraints, bounds, parameterRows}
 use Rattle.writing.specs.Depth.{depth}
@@ -359,5 +359,5 @@ pub declared-of : (s : List ℕ) {n : ℕ} {d : Declaration} {rs : List ℕ} {us
     → item 0 (at s FIRST-ROW .here) ≡ took d rs us → d .generics ≡ angled ps → Generic (at s FIRST-ROW .here) ps
 declared-of s ps c e g =
     let ts = at s FIRST-ROW .here in
-    let w = met-by (subst (Meets (λ d rs us. Within ts (d .generics))) e (item-read 0 ts)) in
+    let w = met-by (subst (Sound (λ d rs us. Within ts (d .generics))) e (item-read 0 ts)) in
     generic (subst (λ (x : Generics). Within ts x) g w) (list-stream s c .right)

@@ -13,7 +13,7 @@ use Rattle.token_list.specs.Row.{Row, written}
 use Rattle.token_list.specs.Stream.{Trees, end, leaf, group, Streams, before, streams, size}
 use Rattle.token_list.proofs.Texts.{and-parts}
 use Rattle.token_list.proofs.Streams.{before-close, before-open, before-leaf}
-use Rattle.reading.specs.Reading.{front}
+use Rattle.reading.specs.Reading.{firstRows}
 use Rattle.writing.specs.Rows.{opening, closing, runRows}
 
 -- ## Rows
@@ -60,10 +60,10 @@ rows-joined (group d ts vs) us =
     ∙ ap (λ (rs : List Row). opening d ∷ rs) (sym (append-assoc (runRows ts) (closing d ∷ runRows vs) (runRows us)))
 
 -- the first tokens
-pub front-joined : (ts us : Trees) (n : ℕ) → n ≡ size ts → front (joined ts us) n ≡ ts
+pub front-joined : (ts us : Trees) (n : ℕ) → n ≡ size ts → firstRows (joined ts us) n ≡ ts
 front-joined end us n e = none us n e
   where
-    none : (us : Trees) (n : ℕ) → n ≡ 0 → front us n ≡ end
+    none : (us : Trees) (n : ℕ) → n ≡ 0 → firstRows us n ≡ end
     none end n e = refl
     none (leaf r us) zero e = refl
     none (leaf r us) (suc n) e = absurd (omega arith)

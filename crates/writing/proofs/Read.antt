@@ -16,7 +16,7 @@ use Rattle.reading.specs.Declaration.{Parameter, Generics, without, angled}
 use Rattle.reading.specs.Took.{Took, took, stopped, Reader, after, _>>=_, pure}
 use Rattle.reading.specs.Reading as r
 use Rattle.reading.specs.Reading.{Maybe, done, one, RunEnd, rounds, more}
-use Rattle.reading.proofs.SoundTokens.{Meets, met, refused, choice, onward-still, after-met, runFrom-sound, attributes-sound, visibility-sound, dataType-sound}
+use Rattle.reading.proofs.SoundTokens.{Sound, met, refused, choice, onward-still, after-met, runFrom-sound, attributes-sound, visibility-sound, dataType-sound}
 use Rattle.reading.proofs.GrammarSound.{punctIf-sound}
 use Rattle.writing.proofs.Joined.{joined, front-joined}
 use Rattle.writing.proofs.Runs.{Alone, held}
@@ -61,29 +61,29 @@ pub data GenericsAt : Trees → Generics → Type 0 where
 
 -- ## The readers
 
-weaken : {A : Type 0} {N M : A → List ℕ → Trees → Type 0} {t : Took A} → Meets N t →
-    ((a : A) (rs : List ℕ) (us : Trees) → N a rs us → M a rs us) → Meets M t
+weaken : {A : Type 0} {N M : A → List ℕ → Trees → Type 0} {t : Took A} → Sound N t →
+    ((a : A) (rs : List ℕ) (us : Trees) → N a rs us → M a rs us) → Sound M t
 weaken (met rs us h) k = met rs us (k _ rs us h)
 weaken refused k = refused
 
-pub run-read : (row : ℕ) (ts : Trees) → Meets (λ b rs us. RunAt ts b us) (r.run parameterStops role.bound row ts)
+pub run-read : (row : ℕ) (ts : Trees) → Sound (λ b rs us. RunAt ts b us) (r.run parameterStops role.bound row ts)
 run-read row ts =
     go (r.runFrom parameterStops role.bound 0 false row ts) (runFrom-sound parameterStops role.bound 0 false row ts)
   where
-    go : (t : Took RunEnd) → Meets (λ x rs us. g.Run everything parameterStops role.bound 0 false ts us rs) t
-        → Meets (λ b rs us. RunAt ts b us) (r.kept ts t)
+    go : (t : Took RunEnd) → Sound (λ x rs us. g.Run everything parameterStops role.bound 0 false ts us rs) t
+        → Sound (λ b rs us. RunAt ts b us) (r.kept ts t)
     go t refused = refused
     go t (met rs us h) =
         let i = held h in
-        let b = ap (λ (t : Trees). r.front t (length rs)) (i .cut)
+        let b = ap (λ (t : Trees). r.firstRows t (length rs)) (i .cut)
         ∙ front-joined (i .tokens) us (length rs) (i .counted) in
         met rs us (subst (λ (t : Trees). RunAt ts t us) (sym b) (record { cut = i .cut; roles = rs; alone = i .alone }))
 
-marked-read : (m row : ℕ) (ts : Trees) → Meets (λ b rs us. MarkedAt m ts b us) (r.marked-run m row ts)
+marked-read : (m row : ℕ) (ts : Trees) → Sound (λ b rs us. MarkedAt m ts b us) (r.marked-run m row ts)
 marked-read m row ts = after-met row (punctIf-sound m row ts) go
   where
     go : {ts : Trees} (t : Bool) (rs : List ℕ) (us : Trees) → g.Mark everything m t ts us rs → (row : ℕ)
-        → Meets (λ b qs vs. MarkedAt m ts b vs) (r.runIf t parameterStops role.bound row us)
+        → Sound (λ b qs vs. MarkedAt m ts b vs) (r.runIf t parameterStops role.bound row us)
     go true rs us (g.Mark.present e) row = weaken (run-read row us) (λ b qs vs h. some e h)
     go false rs us (g.Mark.absent e) row = met [] us none
 
@@ -93,7 +93,7 @@ data CommaedAt (ts : Trees) : Maybe Parameter → Trees → Type 0 where
   last : {q : Row} {us : Trees} → ts ≡ leaf q us → isPunct GREATER q ≡ true → CommaedAt ts done us
 
 comma-read : (ts : Trees) (p : Parameter) (us : Trees) → ParameterAt ts p us → (row : ℕ)
-    → Meets (λ m rs vs. CommaedAt ts m vs) (r.comma p row us)
+    → Sound (λ m rs vs. CommaedAt ts m vs) (r.comma p row us)
 comma-read ts p us h row = after-met row (punctIf-sound COMMA row us) (λ t rs vs m row. met [] vs (commaed h (mark m)))
   where
     mark : {t : Bool} {us vs : Trees} {rs : List ℕ} → g.Mark everything COMMA t us vs rs → CommaAt us vs
@@ -104,38 +104,38 @@ comma-read ts p us h row = after-met row (punctIf-sound COMMA row us) (λ t rs v
 data NameAt : Trees → List ℕ → Trees → Type 0 where
   name : {p : Row} {us : Trees} → isIdent p ≡ true → NameAt (leaf p us) (p .text) us
 
-name-read : (n p row : ℕ) (ts : Trees) → Meets (λ t rs us. NameAt ts t us) (r.parameterName n p row ts)
+name-read : (n p row : ℕ) (ts : Trees) → Sound (λ t rs us. NameAt ts t us) (r.parameterName n p row ts)
 name-read n p row end = refused
 name-read n p row (leaf q us) = choice (isIdent q) (λ e. met (role.parameter-name ∷ []) us (name e)) (λ e. refused)
 name-read n p row (group d ts us) = refused
 
 module _ (q : Row) where
   lifetime-read : (quote row : ℕ) (us : Trees) → isPunct QUOTE q ≡ true
-      → Meets (λ p rs vs. ParameterAt (leaf q us) p vs) (r.lifetimeAfter quote row us)
+      → Sound (λ p rs vs. ParameterAt (leaf q us) p vs) (r.lifetimeAfter quote row us)
   lifetime-read quote row us e = after-met row (name-read 24 quote row us) go
     where
       go : {us : Trees} (n rs : List ℕ) (vs : Trees) → NameAt us n vs → (row : ℕ)
-          → Meets (λ p qs ws. ParameterAt (leaf q us) p ws)
+          → Sound (λ p qs ws. ParameterAt (leaf q us) p ws)
           ((r.marked-run COLON >>= λ b. pure (Parameter.lifetime n b)) row vs)
       go n rs vs (name f) row =
           after-met row (marked-read COLON row vs) (λ b qs ws h row. met [] ws (lifetime e f h))
 
   constant-read : (row : ℕ) (us : Trees) → isWord CONST q ≡ true
-      → Meets (λ p rs vs. ParameterAt (leaf q us) p vs) (r.constantAfter row us)
+      → Sound (λ p rs vs. ParameterAt (leaf q us) p vs) (r.constantAfter row us)
   constant-read row us e = after-met row (name-read 27 65535 row us) go
     where
       go : {us : Trees} (n rs : List ℕ) (vs : Trees) → NameAt us n vs → (row : ℕ)
-          → Meets (λ p qs ws. ParameterAt (leaf q us) p ws)
+          → Sound (λ p qs ws. ParameterAt (leaf q us) p ws)
           ((r.marked-run COLON >>= λ b. pure (Parameter.constant n b)) row vs)
       go n rs vs (name f) row =
           after-met row (marked-read COLON row vs) (λ b qs ws h row. met [] ws (constant e f h))
 
   type-read : (row : ℕ) (us : Trees) → isWord CONST q ≡ false → isIdent q ≡ true
-      → Meets (λ p rs vs. ParameterAt (leaf q us) p vs) (r.typeAfter (q .text) row us)
+      → Sound (λ p rs vs. ParameterAt (leaf q us) p vs) (r.typeAfter (q .text) row us)
   type-read row us e f = after-met row (punctIf-sound COLON row us) go
     where
       go : {us : Trees} (t : Bool) (rs : List ℕ) (vs : Trees) → g.Mark everything COLON t us vs rs → (row : ℕ)
-          → Meets (λ p qs ws. ParameterAt (leaf q us) p ws) (r.typeRuns (q .text) t row vs)
+          → Sound (λ p qs ws. ParameterAt (leaf q us) p ws) (r.typeRuns (q .text) t row vs)
       go true rs vs (g.Mark.present a) row =
           after-met row (run-read row vs) (λ b qs ws h row. met [] ws (bounded e f a h))
       go false rs vs (g.Mark.absent a) row =
@@ -143,13 +143,13 @@ module _ (q : Row) where
 
   -- the first row of a parameter is taken
   first-read : {us : Trees} (m : Reader Parameter) (row : ℕ)
-      → Meets (λ p rs vs. ParameterAt (leaf q us) p vs) (m (row + 1) us)
-      → Meets (λ p rs vs. CommaedAt (leaf q us) p vs) (r.from role.parameter-name row us (m >>= r.comma))
+      → Sound (λ p rs vs. ParameterAt (leaf q us) p vs) (m (row + 1) us)
+      → Sound (λ p rs vs. CommaedAt (leaf q us) p vs) (r.from role.parameter-name row us (m >>= r.comma))
   first-read {us} m row h =
       onward-still (role.parameter-name ∷ [])
       (after-met (row + 1) h (λ p rs vs i row. comma-read (leaf q us) p vs i row))
 
-parameter-read : (angle row : ℕ) (ts : Trees) → Meets (λ m rs us. CommaedAt ts m us) (r.parameter angle row ts)
+parameter-read : (angle row : ℕ) (ts : Trees) → Sound (λ m rs us. CommaedAt ts m us) (r.parameter angle row ts)
 parameter-read angle row end = refused
 parameter-read angle row (group d ts us) = refused
 parameter-read angle row (leaf q us) =
@@ -163,7 +163,7 @@ parameter-read angle row (leaf q us) =
 
 -- after a parameter that ran to the end of its stream nothing is read
 ended : (angle n row : ℕ) (us : Trees) (P : List Parameter → List ℕ → Trees → Type 0) → isEnd us ≡ true
-    → Meets P (rounds n (r.parameter angle) row us)
+    → Sound P (rounds n (r.parameter angle) row us)
 ended angle zero row us P e = refused
 ended angle (suc n) row end P e = refused
 ended angle (suc n) row (leaf q us) P e = absurd (false≢true e)
@@ -174,22 +174,22 @@ comma-ended absent e = e
 comma-ended (present c) e = absurd (false≢true e)
 
 rounds-read : (angle n row : ℕ) (ts : Trees)
-    → Meets (λ ps rs us. ParametersAt ts ps us) (rounds n (r.parameter angle) row ts)
+    → Sound (λ ps rs us. ParametersAt ts ps us) (rounds n (r.parameter angle) row ts)
 rounds-read angle zero row ts = refused
 rounds-read angle (suc n) row ts = after-met row (parameter-read angle row ts) (go (rounds-read angle n))
   where
-    go : ((row : ℕ) (us : Trees) → Meets (λ ps rs vs. ParametersAt us ps vs) (rounds n (r.parameter angle) row us))
+    go : ((row : ℕ) (us : Trees) → Sound (λ ps rs vs. ParametersAt us ps vs) (rounds n (r.parameter angle) row us))
         → (m : Maybe Parameter) (rs : List ℕ) (us : Trees) → CommaedAt ts m us → (row : ℕ)
-        → Meets (λ ps qs vs. ParametersAt ts ps vs) (more (rounds n (r.parameter angle)) m row us)
+        → Sound (λ ps qs vs. ParametersAt ts ps vs) (more (rounds n (r.parameter angle)) m row us)
     go ih done rs us (last e c) row = met [] us (subst (λ (t : Trees). ParametersAt t [] us) (sym e) (close c))
     go ih (one p) rs vs (commaed {us = us} h c) row = by (isEnd us) refl
       where
         by : (e : Bool) → isEnd us ≡ e
-            → Meets (λ ps qs ws. ParametersAt ts ps ws) ((rounds n (r.parameter angle) >>= λ ps. pure (p ∷ ps)) row vs)
+            → Sound (λ ps qs ws. ParametersAt ts ps ws) ((rounds n (r.parameter angle) >>= λ ps. pure (p ∷ ps)) row vs)
         by true e = after-met row (ended angle n row vs (λ ps qs ws. ⊥) (comma-ended c e)) (λ ps qs ws i row. absurd i)
         by false e = after-met row (ih row vs) (λ ps qs ws i row. met [] ws (next h e c i))
 
-pub generics-read : (row : ℕ) (ts : Trees) → Meets (λ x rs us. GenericsAt ts x) (r.generics row ts)
+pub generics-read : (row : ℕ) (ts : Trees) → Sound (λ x rs us. GenericsAt ts x) (r.generics row ts)
 generics-read row end = met [] end none
 generics-read row (group d ts us) = met [] (group d ts us) none
 generics-read row (leaf q us) =
@@ -238,11 +238,11 @@ pub record Within (ts : Trees) (x : Generics) : Type 0 where
 
 -- what is read last changes nothing of what was read before
 kept-read : {A B : Type 0} {P : B → Type 0} (row : ℕ) (t : Took A) (f : A → Reader B)
-    → ((a : A) (row : ℕ) (us : Trees) → Meets (λ b rs vs. P b) (f a row us)) → Meets (λ b rs vs. P b) (after row t f)
+    → ((a : A) (row : ℕ) (us : Trees) → Sound (λ b rs vs. P b) (f a row us)) → Sound (λ b rs vs. P b) (after row t f)
 kept-read row (took a rs us) f k = onward-still rs (k a _ us)
 kept-read row (stopped w n p) f k = refused
 
-pub item-read : (row : ℕ) (ts : Trees) → Meets (λ d rs us. Within ts (d .generics)) (r.item row ts)
+pub item-read : (row : ℕ) (ts : Trees) → Sound (λ d rs us. Within ts (d .generics)) (r.item row ts)
 item-read row ts =
     after-met row (attributes-sound row ts) (λ a rs us h row. after-met row (visibility-sound row us)
     (λ v qs vs i row. after-met row (dataType-sound row vs) (λ k ps ws j row. after-met row (generics-read row ws)

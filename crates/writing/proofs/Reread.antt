@@ -238,7 +238,7 @@ module _ (angle : ℕ) where
       → Stopped (every (r.parameter angle) row (parameterThen p AFTER))
   minus-refused p w c e row =
       let i = before-arrow (sym (ends-in-minus (runOf p)) ∙ e) (w .alone) in
-      let x = r.front (joined (runOf p) AFTER) (length (i .0)) in
+      let x = r.firstRows (joined (runOf p) AFTER) (length (i .0)) in
       let h = run-here end end [] (λ p row. refl) angle row p x AFTER (i .0) c (run-taken (i .1)) in
       subst (λ (ts : Trees). Stopped (every (r.parameter angle) row ts)) (some-run p e)
       (later row (colonThen p AFTER) (h .1) (at-once (row + length (h .0)) end refl))

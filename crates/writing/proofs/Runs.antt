@@ -148,11 +148,11 @@ alone-length (inside {ts = ts} {rs = rs} e h) =
 alone-length (ended z) = refl
 
 pub run-taken : {ts us : Trees} {rs : List ℕ} → Run everything parameterStops role.bound 0 false ts us rs → (row : ℕ)
-    → r.run parameterStops role.bound row ts ≡ took (r.front ts (length rs)) rs us
+    → r.run parameterStops role.bound row ts ≡ took (r.firstRows ts (length rs)) rs us
 run-taken {ts} h row = ap (r.kept ts) (runFrom-complete parameterStops role.bound h row .equal)
 
 pub run-value : {ts us : Trees} {rs : List ℕ} (b : Trees) → Run everything parameterStops role.bound 0 false ts us rs
     → ts ≡ joined b us → length rs ≡ size b → (row : ℕ) → r.run parameterStops role.bound row ts ≡ took b rs us
 run-value {us = us} {rs = rs} b h e n row =
     run-taken h row
-    ∙ ap (λ (t : Trees). took t rs us) (ap (λ (x : Trees). r.front x (length rs)) e ∙ front-joined b us (length rs) n)
+    ∙ ap (λ (t : Trees). took t rs us) (ap (λ (x : Trees). r.firstRows x (length rs)) e ∙ front-joined b us (length rs) n)

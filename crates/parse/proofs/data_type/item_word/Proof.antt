@@ -36,7 +36,7 @@ returns c =
     let args = back8 .before .before .before .before .before .before .args in
     let consume-ident = back8 .before .before .consume-ident in
     let w = c .before .before .before .before .before .before .w in
-    meeting.meets-word reading.kindOf _ (meeting.say-word (w .given .1) (consume-ident .ensures))
+    meeting.meets-word reading.namedKind _ (meeting.say-word (w .given .1) (consume-ident .ensures))
     (λ text h.
     meeting.meets-as
     (heads.kind-struct text (w .given .0 .0 .row) (w .given .0 .0 .next .row)
@@ -61,7 +61,7 @@ returns-2 c =
     let consume-ident = back8 .before .before .before .before .before .consume-ident in
     let w = back8 .before .w in
     let text-is = c .before .before .before .before .text-is in
-    meeting.meets-word reading.kindOf _ (meeting.say-word (w .given .1) (consume-ident .ensures))
+    meeting.meets-word reading.namedKind _ (meeting.say-word (w .given .1) (consume-ident .ensures))
     (λ text h.
     meeting.meets-as
     (heads.kind-enum text (w .given .0 .0 .row) (w .given .0 .0 .next .row)
@@ -77,7 +77,7 @@ same-length-3 c = search needs
 returns-3 : tie.Need-returns-3
 returns-3 c =
     let consume-ident = c .before .before .before .before .before .consume-ident in
-    meeting.meets-missing reading.kindOf (meeting.say-word ((c .before .enum-told) .given .1) (consume-ident .ensures))
+    meeting.meets-missing reading.namedKind (meeting.say-word ((c .before .enum-told) .given .1) (consume-ident .ensures))
     (meeting.meets-wrong _ _ ((c .wrong-token) .ensures))
 
 same-length-4 : tie.Need-same-length-4
@@ -91,7 +91,7 @@ returns-4 c =
     let consume-ident = back8 .before .before .before .before .before .consume-ident in
     let w = back8 .before .w in
     let text-is = c .before .before .before .before .text-is in
-    meeting.meets-word reading.kindOf _ (meeting.say-word (w .given .1) (consume-ident .ensures))
+    meeting.meets-word reading.namedKind _ (meeting.say-word (w .given .1) (consume-ident .ensures))
     (λ text h.
     meeting.meets-as
     (heads.kind-other text (w .given .0 .0 .row) (w .given .0 .0 .next .row)

@@ -24,7 +24,7 @@ abbrev rest : declaration.Kind → Reader reading.Head
 rest k = reading.word role.item-name >>= name-of k
 
 split : (row : ℕ) (ts : Trees) → reading.dataType row ts ≡ after row (contract.itemWord row ts) rest
-split row ts = sym (meeting.after-assoc row (reading.word role.item-word row ts) reading.kindOf rest)
+split row ts = sym (meeting.after-assoc row (reading.word role.item-word row ts) reading.namedKind rest)
 
 item-word-requires : tie.Need-item-word-requires
 item-word-requires c κs = search needs
