@@ -30,7 +30,7 @@ use Rattle.reading.specs.Reading.{item}
 use Rattle.parse.specs.Contract.{on, no, Meets, stands, refuses}
 use Rattle.parse.specs.declared.variants.ValueAt.{ValueAt}
 use Rattle.parse.specs.declared.variants.ValueAt.the-variants as valueAts
-use Rattle.describe.specs.Value.{SCRATCH-BYTES, negativeText, Answer, refused, bodyValue, valueAnswer, variantAnswer, itemAnswer, answer, scratch, textOf}
+use Rattle.describe.specs.Value.{SCRATCH-BYTES, negativeText, Answer, refused, bodyValue, valueAnswer, variantAnswer, itemAnswer, answer, scratch, valueText}
 use Rattle.describe.specs.Listing as listing
 use Rattle.describe.specs.Contract.{ValueAs, part, textStart, textEnd, placeOf, Placed, listedAs, ListedAs}
 use Rattle.describe.specs.declared.listing.Listed.{Listed}
@@ -64,7 +64,7 @@ module _ {s : List ℕ} {v : ValueAt} (x : Point) (w : declaration.Value) (k : V
   pub placed-absent : (y : List ℕ) → v ≡ valueAts.Absent → Placed s y y (valueAnswer (valueRow x w) w) places.None
   placed-absent y e =
       let a = answered declaration.absent (known e .value) refl in
-      record { place = sym (ap (placeOf s) a); text = sym (ap textOf a); range = tt; scratch = sym (ap (scratch y) a) }
+      record { place = sym (ap (placeOf s) a); text = sym (ap valueText a); range = tt; scratch = sym (ap (scratch y) a) }
 
   pub placed-literal : (y : List ℕ) (t : Token) → v ≡ valueAts.Literal t → length s ≤ 65536
       → Placed s y y (valueAnswer (valueRow x w) w) (places.InList (t .start) (t .end))
@@ -82,7 +82,7 @@ module _ {s : List ℕ} {v : ValueAt} (x : Point) (w : declaration.Value) (k : V
       sym (b .1 .bytes) in
       record {
         place = here ∙ ap (λ (n : ℕ). places.InList (textStart s n) (textEnd s n)) same ∙ sym (ap (placeOf s) a);
-        text = inside ∙ sym (ap textOf a);
+        text = inside ∙ sym (ap valueText a);
         range = (
           omega (arith, token .start),
           omega (arith, token .start, token .end .text),
@@ -104,7 +104,7 @@ module _ {s : List ℕ} {v : ValueAt} (x : Point) (w : declaration.Value) (k : V
       let short : r ≤ SCRATCH-BYTES = omega (arith, p .next, few) in
       record {
         place = ap places.InScratch long ∙ sym (ap (placeOf s) a);
-        text = part-front r z (omega (arith, kept p)) ∙ shown p (omega arith) ∙ ap negativeText m ∙ sym (ap textOf a);
+        text = part-front r z (omega (arith, kept p)) ∙ shown p (omega arith) ∙ ap negativeText m ∙ sym (ap valueText a);
         range = (omega (arith, p .next, negative-length n), short);
         scratch = p .bytes ∙ ap (λ (k : ℕ). sets y 0 (negativeText k)) m ∙ sym (ap (scratch y) a);
       }
@@ -116,7 +116,7 @@ module _ {s x y : List ℕ} {r : ValuePlace} where
 pub placed-refused : {s x : List ℕ} {a : Answer} (r : Refusal) → a ≡ refused (r .number) (r .place) →
     Placed s x x a (places.Refused r)
 placed-refused {s} {x} r e =
-    record { place = sym (ap (placeOf s) e); text = sym (ap textOf e); range = tt; scratch = sym (ap (scratch x) e) }
+    record { place = sym (ap (placeOf s) e); text = sym (ap valueText e); range = tt; scratch = sym (ap (scratch x) e) }
 
 module _ (s : List ℕ) (k n : ℕ) where
   abbrev framedBy : list.Answer → Answer

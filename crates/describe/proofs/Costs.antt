@@ -168,7 +168,7 @@ word-covering n row (leaf q us) = choice (r.isIdent q) (one-row n q us (omega ar
 word-covering n row (group d ts us) =
     choice (r.lone r.isIdent ts) (covers _ (r.copied n ts) us (omega (arith, first ts))) (nothing-taken (omega arith))
   where
-    first : (ts : Trees) → length (r.textOf ts) ≤ texts ts
+    first : (ts : Trees) → length (r.firstText ts) ≤ texts ts
     first end = omega arith
     first (leaf q us) = omega arith
     first (group d ts us) = omega arith

@@ -69,7 +69,7 @@ InRange (places.Refused r) = Unit
 -- the place, the text that stands there, and the scratch, which was `before` and is `after`
 pub record Placed (s before after : List ℕ) (a : value.Answer) (r : ValuePlace) : Type 0 where
   pub place : r ≡ placeOf s a
-  pub text : partOf s after r ≡ value.textOf a
+  pub text : partOf s after r ≡ value.valueText a
   pub range : InRange r
   pub scratch : after ≡ value.scratch before a
 

@@ -65,8 +65,8 @@ scratch x (inScratch t) = sets x 0 t
 scratch x (refused n p) = x
 
 -- the value's text, empty where there is none
-abbrev pub textOf : Answer → List ℕ
-textOf none = []
-textOf (inList row t) = t
-textOf (inScratch t) = t
-textOf (refused n p) = []
+abbrev pub valueText : Answer → List ℕ
+valueText none = []
+valueText (inList row t) = t
+valueText (inScratch t) = t
+valueText (refused n p) = []

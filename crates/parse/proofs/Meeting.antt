@@ -14,7 +14,7 @@ use Rattle.token_list.specs.declared.stream.Peeked.{Peeked}
 use Rattle.token_list.specs.declared.check.Cursor.{Cursor}
 use Rattle.token_list.specs.declared.stream.Token.{Token}
 use Rattle.reading.specs.Took.{Took, took, Cause, stopped, Reader, onward, after, _>>=_, placeOf, pure}
-use Rattle.reading.specs.Reading.{copied, whole, lone, isPunct, isIdent, isWord, textOf, Word, missing, found}
+use Rattle.reading.specs.Reading.{copied, whole, lone, isPunct, isIdent, isWord, firstText, Word, missing, found}
 use Rattle.parse.specs.Contract.{Moved, Said, on, no, Meets, stands, refuses, refusal, stream, pastOf, Belonged, InsideAt, point, wordShown, wordSaid}
 use Rattle.parse.specs.Contract.{WordAt as WordOf}
 use Rattle.parse.specs.declared.utils.Word.{Word as WordAt}
@@ -381,7 +381,7 @@ after-pure row t f g =
 
 -- ## A word that stands alone
 
-pub lone-word : (t : List ℕ) (ts : Trees) → lone isIdent ts ≡ true → lone (isWord t) ts ≡ same (textOf ts) t
+pub lone-word : (t : List ℕ) (ts : Trees) → lone isIdent ts ≡ true → lone (isWord t) ts ≡ same (firstText ts) t
 lone-word t end e = absurd (false≢true e)
 lone-word t (group d ts us) e = absurd (false≢true e)
 lone-word t (leaf r end) e = and-last _ _ e

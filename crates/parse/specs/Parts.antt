@@ -111,7 +111,7 @@ nameShown s x (nameSteps.Refused r) v = ⊥
 abbrev pub loneShown : List ℕ → Cursor → MaybeWord → Type 0
 loneShown s c words.Missing = reading.lone reading.isIdent (stream s c) ≡ false
 loneShown s c (words.Found w) =
-    (reading.lone reading.isIdent (stream s c) ≡ true) × TextOf s (w .token) (reading.textOf (stream s c))
+    (reading.lone reading.isIdent (stream s c) ≡ true) × TextOf s (w .token) (reading.firstText (stream s c))
     × (w .token .kind ≡ IDENT) × (w .row ≡ c .row) × Skipped s c (w .next)
     × TokenIn s (c .row) (w .token)
 

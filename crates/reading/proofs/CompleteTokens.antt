@@ -280,7 +280,7 @@ Found p (found t row) = p t ≡ true
 
 module _ (is : Row → Bool) (p : List ℕ → Bool) (parts : (q : Row) → is q ≡ true → (isIdent q ≡ true) ×
     (p (q .text) ≡ true)) where
-  lone-parts : (ts : Trees) → lone is ts ≡ true → (lone isIdent ts ≡ true) × (p (r.textOf ts) ≡ true)
+  lone-parts : (ts : Trees) → lone is ts ≡ true → (lone isIdent ts ≡ true) × (p (r.firstText ts) ≡ true)
   lone-parts end e = absurd (false≢true e)
   lone-parts (group d ts us) e = absurd (false≢true e)
   lone-parts (leaf q end) e = parts q e
@@ -292,7 +292,7 @@ module _ (is : Row → Bool) (p : List ℕ → Bool) (parts : (q : Row) → is q
   word-taken {n} (g.Word.ident {q = q} {us = us} e) row =
       taken-as (found (q .text) row) (n ∷ []) us (parts q e .1) (chosen (isIdent q) _ _ (parts q e .0))
   word-taken {n} (g.Word.wrapped {ts = ts} {us = us} a e) row =
-      taken-as (found (r.textOf ts) (row + 1)) (copied n ts) us (lone-parts ts e .1)
+      taken-as (found (r.firstText ts) (row + 1)) (copied n ts) us (lone-parts ts e .1)
       (chosen (lone isIdent ts) _ _ (lone-parts ts e .0))
 
   word-complete : {n : ℕ} {ts us : Trees} {rs : List ℕ} → g.Word everything is n ts us rs →

@@ -350,11 +350,11 @@ word-shorter n f k row (group d ts us) = go (r.lone r.isIdent ts)
   where
     go : (b : Bool)
         → Shorter (least (group d ts us)) (group d ts us)
-        (after row (cond b (took (found (r.textOf ts) (row + 1)) (r.copied n ts) us)
+        (after row (cond b (took (found (r.firstText ts) (row + 1)) (r.copied n ts) us)
         (took missing [] (group d ts us))) (λ w. r.named! w >>= f))
     go true =
         onward-shorter (r.copied n ts) (past-group n d ts us) (omega arith)
-        (onward-conserved [] (past-none us) (k (r.textOf ts) _ us))
+        (onward-conserved [] (past-none us) (k (r.firstText ts) _ us))
     go false = refused refl
 
 -- a variant's parts after its name

@@ -178,11 +178,11 @@ module _ (b : ℕ) where
       go false = onward-placed [] (k missing tt (row + 0) (leaf q us) (omega arith))
   word-then {A} n f k row (group d ts us) h = go (r.lone r.isIdent ts)
     where
-      go : (t : Bool) → Placed (after row (cond t (took (found (r.textOf ts) (row + 1)) (r.copied n ts) us)
+      go : (t : Bool) → Placed (after row (cond t (took (found (r.firstText ts) (row + 1)) (r.copied n ts) us)
           (took missing [] (group d ts us))) f)
       go true =
           onward-placed (r.copied n ts)
-          (k (found (r.textOf ts) (row + 1)) (omega arith) (row + length (r.copied n ts)) us
+          (k (found (r.firstText ts) (row + 1)) (omega arith) (row + length (r.copied n ts)) us
           (omega (arith, copied-length n ts)))
       go false = onward-placed [] (k missing tt (row + 0) (group d ts us) (omega arith))
 

@@ -203,7 +203,7 @@ data WordRead (n : ℕ) : Trees → Word → List ℕ → Trees → Type 0 where
   missed : {ts : Trees} → WordRead n ts missing [] ts
   ident : {q : Row} {us : Trees} {p : ℕ} → isIdent q ≡ true → WordRead n (leaf q us) (found (q .text) p) (n ∷ []) us
   wrapped : {d p : ℕ} {ts us : Trees} → lone isIdent ts ≡ true →
-      WordRead n (group d ts us) (found (r.textOf ts) p) (copied n ts) us
+      WordRead n (group d ts us) (found (r.firstText ts) p) (copied n ts) us
 
 word-read : (n row : ℕ) (ts : Trees) → Sound (WordRead n ts) (r.word n row ts)
 word-read n row end = met [] end missed
@@ -216,7 +216,7 @@ word-ident : {n p : ℕ} {t : List ℕ} {ts us : Trees} {rs : List ℕ} → Word
 word-ident (ident e) = g.Word.ident e
 word-ident (wrapped e) = g.Word.wrapped refl e
 
-lone-word : (w : List ℕ) (ts : Trees) → lone isIdent ts ≡ true → same (r.textOf ts) w ≡ true → lone (isWord w) ts ≡ true
+lone-word : (w : List ℕ) (ts : Trees) → lone isIdent ts ≡ true → same (r.firstText ts) w ≡ true → lone (isWord w) ts ≡ true
 lone-word w end e f = absurd (false≢true e)
 lone-word w (group d ts us) e f = absurd (false≢true e)
 lone-word w (leaf q end) e f = and-both _ _ e f

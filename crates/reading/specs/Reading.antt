@@ -24,17 +24,18 @@ pub data Word : Type 0 where
   missing : Word
   found : List ℕ → ℕ → Word
 
-abbrev pub textOf : Trees → List ℕ
-textOf end = []
-textOf (group d ts us) = []
-textOf (leaf r ts) = r .text
+-- the text of the first token, which a group has not
+abbrev pub firstText : Trees → List ℕ
+firstText end = []
+firstText (group d ts us) = []
+firstText (leaf r ts) = r .text
 
 -- an ident, or a group that holds just one
 abbrev pub word : ℕ → Reader Word
 word r row end = took missing [] end
 word r row (leaf q us) = cond (isIdent q) (took (found (q .text) row) (r ∷ []) us) (took missing [] (leaf q us))
 word r row (group d ts us) =
-    cond (lone isIdent ts) (took (found (textOf ts) (row + 1)) (copied r ts) us) (took missing [] (group d ts us))
+    cond (lone isIdent ts) (took (found (firstText ts) (row + 1)) (copied r ts) us) (took missing [] (group d ts us))
 
 abbrev pub punctIf : ℕ → ℕ → Reader Bool
 punctIf b r row end = took false [] end

@@ -18,7 +18,7 @@ use Rattle.tagged_reading.specs.Role as role
 use Rattle.tagged_reading.specs.Role.{others}
 use Rattle.tagged_reading.specs.Entry.{Entry, tag, property}
 use Rattle.tagged_reading.specs.Reading.{Answer, read, refused, adding, entries, keyed, valued, separated}
-use Rattle.tagged_attribute.specs.Contract.{Onward, Added, partRoles, tagRoles, propertyRoles, TagRead, PropertyRead, EntryRead, textOf, entriesAt}
+use Rattle.tagged_attribute.specs.Contract.{Onward, Added, partRoles, tagRoles, propertyRoles, TagRead, PropertyRead, EntryRead, tokenText, entriesAt}
 use Rattle.tagged_attribute.specs.declared.entry.EntryStep.{EntryStep}
 use Rattle.tagged_attribute.proofs.Cursors.{onward-leaf, onward-group, onward-then, token-in, stream-past}
 
@@ -27,7 +27,7 @@ pub read-as : (s : List ℕ) (c : Cursor) (r : EntryStep) {a b : Answer} → a �
 read-as s c r e h = subst⁻¹ (λ (x : Answer). EntryRead s c x r) e h
 
 module _ (s : List ℕ) where
-  text-of : (t : Token) (row : ℕ) → TokenIn s row t → TextOf s t (textOf s t)
+  text-of : (t : Token) (row : ℕ) → TokenIn s row t → TextOf s t (tokenText s t)
   text-of t row k = record { bytes = refl; within = token-within s _ t k }
 
   -- the part that ends at d, whatever follows
@@ -64,34 +64,34 @@ module _ (s : List ℕ) where
     entry-other f = ap (entries (c .row)) (l .here) ∙ passed-over _ _ _ f
 
     pub entry-key : (d : Cursor) → d ≡ pastOf c t → isIdent (rowOf s t) ≡ true
-        → entriesAt s c ≡ keyed (c .row) (textOf s t) (stream s d)
+        → entriesAt s c ≡ keyed (c .row) (tokenText s t) (stream s d)
     entry-key d q f =
         ap (entries (c .row)) (l .here) ∙ chosen _ _ _ f
-        ∙ ap (keyed (c .row) (textOf s t)) (sym (stream-past s c d t q))
+        ∙ ap (keyed (c .row) (tokenText s t)) (sym (stream-past s c d t q))
 
   -- ## After the key
 
   module _ (c d : Cursor) (k : Token) (place : TokenIn s (c .row) k) (o : Onward s c d 1) where
     abbrev was : Answer
-    was = keyed (c .row) (textOf s k) (stream s d)
+    was = keyed (c .row) (tokenText s k) (stream s d)
 
     pub tag-last : stream s d ≡ end → TagRead s c was (record { tag = k; next = d })
     tag-last e =
-        let es = tag (textOf s k) ∷ [] in
+        let es = tag (tokenText s k) ∷ [] in
         record {
-          text = textOf s k;
+          text = tokenText s k;
           tag = text-of k (c .row) place;
           place = place;
           added = added tagRoles 0 o refl (omega arith)
-              (ap (keyed (c .row) (textOf s k)) e ∙ ap (adding es tagRoles) (nothing-after d e));
+              (ap (keyed (c .row) (tokenText s k)) e ∙ ap (adding es tagRoles) (nothing-after d e));
         }
 
     pub key-group : (p : Token) → GroupAt s (d .at) p → was ≡ refused 29 (c .row)
-    key-group p g = ap (keyed (c .row) (textOf s k)) (g .here)
+    key-group p g = ap (keyed (c .row) (tokenText s k)) (g .here)
 
     module _ (p : Token) (l : LeafAt s (d .at) p) where
-      at-leaf : was ≡ keyed (c .row) (textOf s k) (leaf (rowOf s p) (at s (p .next) .here))
-      at-leaf = ap (keyed (c .row) (textOf s k)) (l .here)
+      at-leaf : was ≡ keyed (c .row) (tokenText s k) (leaf (rowOf s p) (at s (p .next) .here))
+      at-leaf = ap (keyed (c .row) (tokenText s k)) (l .here)
 
       pub key-other : isPunct COMMA (rowOf s p) ≡ false → isPunct EQUALS (rowOf s p) ≡ false
           → was ≡ refused 29 (c .row)
@@ -103,9 +103,9 @@ module _ (s : List ℕ) where
 
         pub tag-comma : isPunct COMMA (rowOf s p) ≡ true → TagRead s c was (record { tag = k; next = e })
         tag-comma f =
-            let es = tag (textOf s k) ∷ [] in
+            let es = tag (tokenText s k) ∷ [] in
             record {
-              text = textOf s k;
+              text = tokenText s k;
               tag = text-of k (c .row) place;
               place = place;
               added = added tagRoles 1 past-key refl (omega arith)
@@ -113,21 +113,21 @@ module _ (s : List ℕ) where
             }
 
         pub key-equals : isPunct COMMA (rowOf s p) ≡ false → isPunct EQUALS (rowOf s p) ≡ true
-            → was ≡ valued (c .row) (textOf s k) (stream s e)
+            → was ≡ valued (c .row) (tokenText s k) (stream s e)
         key-equals f g =
             at-leaf ∙ passed-over _ _ _ f ∙ chosen _ _ _ g
-            ∙ ap (valued (c .row) (textOf s k)) (sym (stream-past s d e p q))
+            ∙ ap (valued (c .row) (tokenText s k)) (sym (stream-past s d e p q))
 
   -- ## After `key =`
 
   module _ (c v : Cursor) (k : Token) (o : Onward s c v 2) where
     abbrev is : Answer
-    is = valued (c .row) (textOf s k) (stream s v)
+    is = valued (c .row) (tokenText s k) (stream s v)
 
     pub lost-end : stream s v ≡ end → Added s c v [] (partRoles [] (c .row) (v .row)) is
     lost-end e =
         added [] 2 o refl (omega arith)
-        (ap (valued (c .row) (textOf s k)) e ∙ ap (adding [] (others 2)) (nothing-after v e))
+        (ap (valued (c .row) (tokenText s k)) e ∙ ap (adding [] (others 2)) (nothing-after v e))
 
     pub lost-group : (d e : Cursor) (t : Token) → GroupAt s (v .at) t → d ≡ pastOf v t
         → skipped (at s (d .at) .outer) s d e
@@ -138,7 +138,7 @@ module _ (s : List ℕ) where
         let g = onward-group (o .inList) group-here p h in
         let q = onward-then o (g .0) in
         added [] (2 + n) q (omega arith) (omega arith)
-        (ap (valued (c .row) (textOf s k)) (group-stream s v t (o .inList) group-here)
+        (ap (valued (c .row) (tokenText s k)) (group-stream s v t (o .inList) group-here)
         ∙ (λ i. adding [] (others (2 + n)) (entries (sym (q .row) i) (sym (g .1) i))))
 
     module _ (l : Token) (f : LeafAt s (v .at) l) (d : Cursor) (p : d ≡ pastOf v l) where
@@ -151,21 +151,21 @@ module _ (s : List ℕ) where
       pub lost-token : isLiteral (rowOf s l) ≡ false → Added s c d [] (partRoles [] (c .row) (d .row)) is
       lost-token e =
           added [] 3 past-value refl (omega arith)
-          (ap (valued (c .row) (textOf s k)) (f .here) ∙ passed-over _ _ _ e
+          (ap (valued (c .row) (tokenText s k)) (f .here) ∙ passed-over _ _ _ e
           ∙ ap (adding [] (others 3)) (past-token c v d l 3 past-value p))
 
       pub value-here : isLiteral (rowOf s l) ≡ true
-          → is ≡ separated (c .row) (property (textOf s k) (textOf s l)) (stream s d)
+          → is ≡ separated (c .row) (property (tokenText s k) (tokenText s l)) (stream s d)
       value-here e =
-          ap (valued (c .row) (textOf s k)) (f .here) ∙ chosen _ _ _ e
-          ∙ ap (separated (c .row) (property (textOf s k) (textOf s l))) (sym (stream-past s v d l p))
+          ap (valued (c .row) (tokenText s k)) (f .here) ∙ chosen _ _ _ e
+          ∙ ap (separated (c .row) (property (tokenText s k) (tokenText s l))) (sym (stream-past s v d l p))
 
   -- ## After `key = literal`
 
   module _ (c d : Cursor) (k l : Token) (key : TokenIn s (c .row) k) (literal : TokenIn s (c .row + 2) l)
       (o : Onward s c d 3) where
     abbrev pair : Entry
-    pair = property (textOf s k) (textOf s l)
+    pair = property (tokenText s k) (tokenText s l)
 
     abbrev then : Answer
     then = separated (c .row) pair (stream s d)
@@ -174,8 +174,8 @@ module _ (s : List ℕ) where
         → PropertyRead s c then (record { key = k; literal = l; next = e })
     property-read e a =
         record {
-          name = textOf s k;
-          text = textOf s l;
+          name = tokenText s k;
+          text = tokenText s l;
           key = text-of k (c .row) key;
           literal = text-of l (c .row + 2) literal;
           key-place = key;

@@ -15,7 +15,7 @@ use Rattle.parse.specs.Contract.{TokenIn}
 use Rattle.parse.proofs.Meeting.{token-within}
 use Rattle.tagged_reading.specs.Entry.{Entry, tag, property}
 use Rattle.tagged_reading.specs.Reading.{Answer, none, read, refused, adding}
-use Rattle.tagged_attribute.specs.Contract.{Added, TagRead, PropertyRead, textOf, entriesAt}
+use Rattle.tagged_attribute.specs.Contract.{Added, TagRead, PropertyRead, tokenText, entriesAt}
 use Rattle.tagged_attribute.specs.Listing.{entryLine, entryLines}
 use Rattle.tagged_attribute.specs.Reported.{Readable, LineAt, NoLine, LineRead}
 use Rattle.tagged_attribute.specs.declared.entry.TagAt.{TagAt}
@@ -38,7 +38,7 @@ property-line a b c d e = joined a (joined b (joined c (joined d e)))
 
 -- a text as the part of the list that is lent to be written
 pub put-text : {s : List ℕ} {t : Token} {x y : List ℕ} {at r : ℕ} → Readable s t
-    → Put x y at r (take (t .end - t .start) (drop (t .start) s)) → Put x y at r (textOf s t)
+    → Put x y at r (take (t .end - t .start) (drop (t .start) s)) → Put x y at r (tokenText s t)
 put-text {s} {t} {x} {y} {at} {r} h p =
     let a = t .start in
     let e = t .end in
@@ -53,7 +53,7 @@ readable s row t k = record { forth = k .text; within = token-within s _ t k }
 -- ## The line of the entry at a cursor
 
 module _ {s : List ℕ} {c : Cursor} {x y : List ℕ} {at r : ℕ} where
-  pub line-tag : {t : TagAt} → TagRead s c (entriesAt s c) t → Put x y at r (entryLine (tag (textOf s (t .tag)))) → LineAt s c (t .next) x y at r
+  pub line-tag : {t : TagAt} → TagRead s c (entriesAt s c) t → Put x y at r (entryLine (tag (tokenText s (t .tag)))) → LineAt s c (t .next) x y at r
   line-tag {t} h p =
       let text = ap (λ (k : List ℕ). entryLine (tag k)) (sym (h .tag .bytes)) in
       record {
@@ -64,9 +64,9 @@ module _ {s : List ℕ} {c : Cursor} {x y : List ℕ} {at r : ℕ} where
       }
 
   pub line-property : {p : PropertyAt} → PropertyRead s c (entriesAt s c) p
-      → Put x y at r (entryLine (property (textOf s (p .key)) (textOf s (p .literal)))) → LineAt s c (p .next) x y at r
+      → Put x y at r (entryLine (property (tokenText s (p .key)) (tokenText s (p .literal)))) → LineAt s c (p .next) x y at r
   line-property {p} h w =
-      let text : entryLine (property (textOf s (p .key)) (textOf s (p .literal))) ≡
+      let text : entryLine (property (tokenText s (p .key)) (tokenText s (p .literal))) ≡
       entryLine (property (h .name) (h .text)) =
       λ i. entryLine (property (sym (h .key .bytes) i) (sym (h .literal .bytes) i)) in
       record {

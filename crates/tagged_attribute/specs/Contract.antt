@@ -36,8 +36,8 @@ use Rattle.tagged_attribute.specs.declared.utils.Tagged.the-variants as 
 
 -- ## One entry
 
-abbrev pub textOf : List ℕ → Token → List ℕ
-textOf s t = slice (t .start) (t .end) s
+abbrev pub tokenText : List ℕ → Token → List ℕ
+tokenText s t = slice (t .start) (t .end) s
 
 -- from the cursor c to d, n rows on in the same stream
 pub record Onward (s : List ℕ) (c d : Cursor) (n : ℕ) : Type 0 where

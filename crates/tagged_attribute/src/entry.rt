@@ -13,7 +13,7 @@ ghost use Rattle.token_list.specs.Contract.{InList};
 ghost use Rattle.parse.specs.Contract.{stream, TokenIn};
 ghost use Rattle.tagged_reading.specs.Entry.{property};
 ghost use Rattle.tagged_reading.specs.Reading.{entries, keyed, valued, separated};
-ghost use Rattle.tagged_attribute.specs.Contract.{Onward, EntryRead, textOf};
+ghost use Rattle.tagged_attribute.specs.Contract.{Onward, EntryRead, tokenText};
 
 // Where a tag stands, and the cursor after its `,`.
 pub struct TagAt {
@@ -68,7 +68,7 @@ fn keyed(s: &[u8], c: Cursor, k: Token, d: Cursor) -> EntryStep
     requires { ⌜ TokenIn (now s) (c .row) k ⌝ }
     requires { ⌜ Onward (now s) c d 1 ⌝ }
     ensures { λ r. ⌜ EntryRead (now (s .entry)) c
-        (keyed (c .row) (textOf (now (s .entry)) k) (stream (now (s .entry)) d)) r ⌝ }
+        (keyed (c .row) (tokenText (now (s .entry)) k) (stream (now (s .entry)) d)) r ⌝ }
 {
     let row = c.row;
     match peek(s, d) {
@@ -98,7 +98,7 @@ fn valued(s: &[u8], c: Cursor, k: Token, v: Cursor) -> EntryStep
     requires { ⌜ TokenIn (now s) (c .row) k ⌝ }
     requires { ⌜ Onward (now s) c v 2 ⌝ }
     ensures { λ r. ⌜ EntryRead (now (s .entry)) c
-        (valued (c .row) (textOf (now (s .entry)) k) (stream (now (s .entry)) v)) r ⌝ }
+        (valued (c .row) (tokenText (now (s .entry)) k) (stream (now (s .entry)) v)) r ⌝ }
 {
     match peek(s, v) {
         Peeked::Nothing => EntryStep::Lost(v),
@@ -122,7 +122,7 @@ fn separated(s: &[u8], c: Cursor, k: Token, l: Token, d: Cursor) -> EntryStep
     requires { ⌜ TokenIn (now s) (c .row + 2) l ⌝ }
     requires { ⌜ Onward (now s) c d 3 ⌝ }
     ensures { λ r. ⌜ EntryRead (now (s .entry)) c (separated (c .row)
-        (property (textOf (now (s .entry)) k) (textOf (now (s .entry)) l)) (stream (now (s .entry)) d)) r ⌝ }
+        (property (tokenText (now (s .entry)) k) (tokenText (now (s .entry)) l)) (stream (now (s .entry)) d)) r ⌝ }
 {
     let row = d.row;
     match peek(s, d) {

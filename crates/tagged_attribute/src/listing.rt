@@ -14,7 +14,7 @@ ghost use Rattle.token_list.specs.Contract.{InList};
 ghost use Rattle.output.specs.Contract.{Put};
 ghost use Rattle.tagged_reading.specs.Entry.{Entry, tag, property};
 ghost use Rattle.tagged_reading.specs.Reading.{read};
-ghost use Rattle.tagged_attribute.specs.Contract.{textOf, entriesAt};
+ghost use Rattle.tagged_attribute.specs.Contract.{tokenText, entriesAt};
 ghost use Rattle.tagged_attribute.specs.Listing.{entryLine, entryLines};
 ghost use Rattle.tagged_attribute.specs.Reported.{Readable, LineRead, Reported};
 
@@ -27,7 +27,7 @@ pub enum LineTurn {
 
 fn put_tag(s: &[u8], t: Token, out: &mut [u8], at: usize) -> usize
     requires { ⌜ Readable (now s) t ⌝ }
-    ensures { λ r. ⌜ Put (now (out .entry)) (now (out .exit)) at r (entryLine (tag (textOf (now (s .entry)) t))) ⌝ }
+    ensures { λ r. ⌜ Put (now (out .entry)) (now (out .exit)) at r (entryLine (tag (tokenText (now (s .entry)) t))) ⌝ }
 {
     let start = t.start;
     let end = t.end;
@@ -40,7 +40,7 @@ fn put_property(s: &[u8], k: Token, l: Token, out: &mut [u8], at: usize) -> usiz
     requires { ⌜ Readable (now s) k ⌝ }
     requires { ⌜ Readable (now s) l ⌝ }
     ensures { λ r. ⌜ Put (now (out .entry)) (now (out .exit)) at r
-        (entryLine (property (textOf (now (s .entry)) k) (textOf (now (s .entry)) l))) ⌝ }
+        (entryLine (property (tokenText (now (s .entry)) k) (tokenText (now (s .entry)) l))) ⌝ }
 {
     let key = k.start;
     let key_end = k.end;

@@ -135,7 +135,7 @@ returns-5 c =
     meeting.meets-group (reading.word (a .role)) (a .s .now) (a .c) pre _ (t2 .given .0 .0) g (w-2 .given .0 .0 .next)
     (a .roles .now) _ _ m _ (chosen _ _ _ (w .0)) (
       _,
-      ap (reading.found (reading.textOf (at (a .s .now) (t2 .given .0 .0 .next) .here))) (sym (w .3)),
+      ap (reading.found (reading.firstText (at (a .s .now) (t2 .given .0 .0 .next) .here))) (sym (w .3)),
       record {
         text = w .1;
         token = places.ident-group _ _ _ _ g (w .5);

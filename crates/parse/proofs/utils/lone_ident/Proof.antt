@@ -103,7 +103,7 @@ returns-6 c =
     let within-group = subst⁻¹ (λ (d : Cursor). follows (at (a .s .now) (d .at) .outer) ≡ true) (p .ensures)
     (ap follows (sym (l .outer)) ∙ pre .1) in (
       ap (reading.lone reading.isIdent) (meeting.leaf-then _ _ _ _ _ l (past .ensures) n) ∙ eq-eqb _ _ (if1 .left),
-      record { bytes = ap reading.textOf (l .here); within = meeting.token-within _ _ _ (l .token) },
+      record { bytes = ap reading.firstText (l .here); within = meeting.token-within _ _ _ (l .token) },
       if1 .left,
       refl,
       meeting.leaf-skipped (a .s .now) (a .inside) (c .skip .result) (t .given .0 .0) l
