@@ -90,7 +90,7 @@ returns-5 : tie.Need-returns-5
 returns-5 c =
     let enum-told5 = c .before .before .before .before .before .enum-told5 in
     let put-bytes5 = c .before .before .put-bytes5 in
-    (rw (enum-told5 .given .1) (put-bytes5 .ensures), omega (arith, put-bytes5 .ensures .next))
+    rw (enum-told5 .given .1) (put-bytes5 .ensures)
 
 pub put-topic-spec : {M : Type 1} → statement M
 put-topic-spec =
