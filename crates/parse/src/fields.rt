@@ -131,8 +131,7 @@ fn field_after(s: &[u8], c: Cursor, roles: &mut [u8]) -> TypeStep
     field_type(s, next, roles)
 }
 
-// One named field, or the end: for those who ask only for its name. A record of all places goes
-// through memory, and with it empty types took three times as long (docs/PERFORMANCE.md).
+// One named field, or the end: for those who ask only for its name and where it ends.
 pub fn named_field(s: &[u8], c: Cursor, roles: &mut [u8]) -> NamedStep
     requires { ⌜ InList (now s) c ⌝ }
     ensures { λ r. ⌜ Meets (now (s .entry)) c (now (roles .entry)) (now (roles .exit)) (namedShown (now (s .entry)) c r)
