@@ -36,6 +36,13 @@ extern "C" {
 /* No listing is longer: MOST in crates/describe/specs/Listing.antt, of which the law `fits` is proved. */
 #define KUSTHRILA_MOST_LISTING 147473u
 
+/* No list that kusthrila_impl_generics or kusthrila_type_generics writes is longer; added names take at most 12 bytes more
+ * for each byte of lifetimes and 8 for each of types: MOST and mostAdded in crates/writing/specs/Answer.antt, of which the laws
+ * in crates/writing/proofs/Lengths.antt are proved. */
+#define KUSTHRILA_MOST_GENERICS 98304u
+#define KUSTHRILA_MOST_ADDED(lifetimes_len, types_len) \
+    (KUSTHRILA_MOST_GENERICS + 12u * (size_t)(lifetimes_len) + 8u * (size_t)(types_len))
+
 /* A scratch must have as many bytes. */
 #define KUSTHRILA_SCRATCH 20u
 
@@ -76,7 +83,7 @@ enum kusthrila_tagged_role {
     KUSTHRILA_TAGGED_OTHER = 23  /* any other row */
 };
 
-/* The refusals. 9, 10 and 30 are none. */
+/* The refusals. 9 and 10 are none. */
 enum kusthrila_refusal {
     KUSTHRILA_REFUSAL_TOO_LONG = 1,             /* more than 65,536 bytes */
     KUSTHRILA_REFUSAL_LINE_OF_NAMES = 2,        /* the first line is not `kind text` */
@@ -105,6 +112,7 @@ enum kusthrila_refusal {
     KUSTHRILA_REFUSAL_NO_CONST_NAME = 27,       /* no name after `const` */
     KUSTHRILA_REFUSAL_NO_ENTRY_COMMA = 28,      /* tagged: no `,` after a value */
     KUSTHRILA_REFUSAL_NO_ENTRY = 29,            /* tagged: neither a key nor a key and a value */
+    KUSTHRILA_REFUSAL_ADDED_NAME = 30,          /* an added name is no name of at most 255 bytes, or has `r#` */
     KUSTHRILA_REFUSAL_NOT_ONE_GROUP = 31        /* tagged: the list is not one group */
 };
 
@@ -119,6 +127,20 @@ uint64_t kusthrila_read(const uint8_t *list, size_t list_len, uint8_t *roles, si
 /* Writes the listing at the start of out: its length, with the bytes after it as they were; or a refusal, with all bytes
  * as they were. out must be long enough for the listing, else refusal 8; KUSTHRILA_MOST_LISTING bytes always are. */
 uint64_t kusthrila_listing(const uint8_t *list, size_t list_len, uint8_t *out, size_t out_len);
+
+/* Writes the generics of the declaration as a token list at the start of out: as they stand behind `impl`, without defaults, or
+ * as names alone, as they stand behind the type's name. The answer is the list's length, with the bytes after it as they were; or
+ * a refusal, with all bytes as they were. A declaration without generics gives the line of names alone. out must be long enough,
+ * else refusal 8; KUSTHRILA_MOST_GENERICS bytes always are. At most the first 4,294,967,295 bytes of out are used. */
+uint64_t kusthrila_impl_generics(const uint8_t *list, size_t list_len, uint8_t *out, size_t out_len);
+uint64_t kusthrila_type_generics(const uint8_t *list, size_t list_len, uint8_t *out, size_t out_len);
+
+/* The same as kusthrila_impl_generics with added lifetimes in front and added types behind. Each is a text: a name a line, without
+ * `'`; the last line may lack its LF, and an empty text has no names. A name that is not right is refusal 30, also where the
+ * declaration has no generics. KUSTHRILA_MOST_ADDED(lifetimes_len, types_len) bytes of out are always enough. */
+uint64_t kusthrila_impl_generics_with_additional(const uint8_t *list, size_t list_len, const uint8_t *lifetimes,
+                                                 size_t lifetimes_len, const uint8_t *types, size_t types_len, uint8_t *out,
+                                                 size_t out_len);
 
 /* The value of the variant at this position, counted from 0. 0: it has none, or there is no such variant. Below 65536:
  * its text is that many bytes at the start of scratch. Else below KUSTHRILA_REFUSED: its text is the part of the list from

@@ -7,6 +7,7 @@ count=${1:-100000}
 seed=${2:-7}
 build_oracle
 "$built/lists" cases "$count" "$seed" "$root/oracle/examples.txt" >"$built/compare.in"
+export ORACLE_ADDED="$seed"
 answer "$built/compare.in" "$built/compare.txt" "$built/compare.counts"
 cat "$built/compare.counts"
 if [ -x "$root/target/bin/replay" ]; then

@@ -46,6 +46,16 @@ static void value_all(void) {
             kusthrila_value(lists[n].bytes, lists[n].length, position, scratch, sizeof scratch);
 }
 
+static void generics_all(void) {
+    top = (uint8_t *)__builtin_frame_address(0);
+    for (size_t n = 0; n < count; n++) {
+        kusthrila_impl_generics(lists[n].bytes, lists[n].length, out, sizeof out);
+        kusthrila_type_generics(lists[n].bytes, lists[n].length, out, sizeof out);
+        kusthrila_impl_generics_with_additional(lists[n].bytes, lists[n].length, (const uint8_t *)"x\n", 2,
+                                                (const uint8_t *)"Y\nZ", 3, out, sizeof out);
+    }
+}
+
 static void tagged_all(void) {
     top = (uint8_t *)__builtin_frame_address(0);
     for (size_t n = 0; n < count; n++)
@@ -125,5 +135,6 @@ int main(int argc, char **argv) {
     over |= measure("kusthrila_listing", listing_all);
     over |= measure("kusthrila_value", value_all);
     over |= measure("kusthrila_tagged", tagged_all);
+    over |= measure("kusthrila_impl_generics and its like", generics_all);
     return over;
 }

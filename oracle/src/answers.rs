@@ -1,5 +1,6 @@
 //! Runs the Rust on token lists and writes what it answers in the words of document 01.
 
+use crate::added;
 use crate::check::{check, printed, refusal, Check, END};
 use crate::expect::{meets, Sections};
 use crate::lists::{mates, write_section, Row};
@@ -8,6 +9,7 @@ use crate::model;
 use crate::parse::{Attribute, AttributeLocation, DataType, Generics, Parse, Visibility};
 use crate::reading::Reading;
 use crate::refusals::{number_and_place, place, Refusal};
+use crate::rng::Rng;
 use crate::stream_builder::StreamBuilder;
 use crate::trees::trees;
 use crate::utils::{parse_tagged_attribute, ParsedAttribute};
@@ -46,6 +48,9 @@ pub fn run(spans: Vec<Span>) {
         idents: HashMap::new(),
         literals: HashMap::new(),
         counts: BTreeMap::new(),
+        added: std::env::var("ORACLE_ADDED")
+            .ok()
+            .map(|seed| Rng(seed.parse().expect("ORACLE_ADDED"))),
     };
     let mut kind = String::from("?");
     let mut expected = String::new();
@@ -131,6 +136,8 @@ struct Oracle {
     idents: HashMap<String, Ident>,
     literals: HashMap<String, Literal>,
     counts: BTreeMap<String, usize>,
+    // Where names of every kind are added too: what they are taken from.
+    added: Option<Rng>,
 }
 
 impl Oracle {
@@ -207,6 +214,21 @@ impl Oracle {
                     "additional",
                     written(&|g| g.impl_generics_with_additional(&lifetimes, &types)).as_bytes(),
                 );
+                if let Some(rng) = &mut self.added {
+                    let texts = [added::text(rng), added::text(rng)];
+                    put("lifetimes", &texts[0]);
+                    put("types", &texts[1]);
+                    let names = texts.map(|text| added::names(&text));
+                    let (what, answer) = match names {
+                        [Some(lifetimes), Some(types)] => (
+                            "added names, written",
+                            written(&|g| g.impl_generics_with_additional(&lifetimes, &types)),
+                        ),
+                        _ => ("added names, refusal 30", refusal(30, END)),
+                    };
+                    put("added", answer.as_bytes());
+                    self.count(what.into());
+                }
             }
         }
         let tagged = tagged(&trees, &rows, &mate);

@@ -4,6 +4,7 @@ extern crate proc_macro;
 
 include!("virtue.rs");
 
+mod added;
 mod answers;
 mod check;
 mod expect;
@@ -12,6 +13,7 @@ mod literal;
 mod model;
 mod reading;
 mod refusals;
+mod rng;
 mod trees;
 
 /// Reads the cases in the file `ORACLE_IN` and writes them with the answers to `ORACLE_OUT`, the

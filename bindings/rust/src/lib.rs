@@ -18,6 +18,18 @@ extern "C" {
         roles: *mut u8,
         roles_len: usize,
     ) -> u64;
+    fn kusthrila_impl_generics(list: *const u8, list_len: usize, out: *mut u8, out_len: usize) -> u64;
+    fn kusthrila_type_generics(list: *const u8, list_len: usize, out: *mut u8, out_len: usize) -> u64;
+    fn kusthrila_impl_generics_with_additional(
+        list: *const u8,
+        list_len: usize,
+        lifetimes: *const u8,
+        lifetimes_len: usize,
+        types: *const u8,
+        types_len: usize,
+        out: *mut u8,
+        out_len: usize,
+    ) -> u64;
 }
 
 /// No list has more rows.
@@ -25,6 +37,15 @@ pub const MOST_ROWS: usize = 4096;
 
 /// No listing is longer: `MOST` in `crates/describe/specs/Listing.antt`, of which the law `fits` is proved.
 pub const MOST_LISTING: usize = 147_473;
+
+/// No list that `impl_generics` or `type_generics` writes is longer: `MOST` in `crates/writing/specs/Answer.antt`, of which the
+/// laws are proved in `crates/writing/proofs/Lengths.antt`.
+pub const MOST_GENERICS: usize = 98_304;
+
+/// How many bytes of output `impl_generics_with_additional` needs at most, by the lengths of the two texts.
+pub const fn most_added(lifetimes: usize, types: usize) -> usize {
+    MOST_GENERICS.saturating_add(lifetimes.saturating_mul(12)).saturating_add(types.saturating_mul(8))
+}
 
 /// A scratch must have as many bytes.
 pub const SCRATCH: usize = 20;
@@ -89,6 +110,40 @@ pub fn read(list: &[u8], roles: &mut [u8]) -> Result<Kind, Refusal> {
 pub fn listing<'a>(list: &[u8], out: &'a mut [u8]) -> Result<&'a [u8], Refusal> {
     // SAFETY: both are slices, `out` is borrowed alone, and the call writes nothing past it.
     let code = unsafe { kusthrila_listing(list.as_ptr(), list.len(), out.as_mut_ptr(), out.len()) };
+    answer(code).map(|len| &out[..len as usize])
+}
+
+/// Writes the generics as they stand behind `impl`, without defaults, as a token list at the start of `out` and returns that part.
+/// After a refusal `out` is as it was.
+pub fn impl_generics<'a>(list: &[u8], out: &'a mut [u8]) -> Result<&'a [u8], Refusal> {
+    // SAFETY: both are slices, `out` is borrowed alone, and the call writes nothing past it.
+    let code = unsafe { kusthrila_impl_generics(list.as_ptr(), list.len(), out.as_mut_ptr(), out.len()) };
+    answer(code).map(|len| &out[..len as usize])
+}
+
+/// Writes the names of the generics, as they stand behind the type's name, as `impl_generics` does.
+pub fn type_generics<'a>(list: &[u8], out: &'a mut [u8]) -> Result<&'a [u8], Refusal> {
+    // SAFETY: both are slices, `out` is borrowed alone, and the call writes nothing past it.
+    let code = unsafe { kusthrila_type_generics(list.as_ptr(), list.len(), out.as_mut_ptr(), out.len()) };
+    answer(code).map(|len| &out[..len as usize])
+}
+
+/// `impl_generics` with added lifetimes in front and added types behind. Each is a text: a name a line, without `'`; the last
+/// line may lack its LF, and an empty text has no names.
+pub fn impl_generics_with_additional<'a>(
+    list: &[u8],
+    lifetimes: &[u8],
+    types: &[u8],
+    out: &'a mut [u8],
+) -> Result<&'a [u8], Refusal> {
+    // SAFETY: all are slices, `out` is borrowed alone, and the call writes nothing past it.
+    let code = unsafe {
+        let (lifetimes_ptr, types_ptr, out_ptr) = (lifetimes.as_ptr(), types.as_ptr(), out.as_mut_ptr());
+        let names = (lifetimes_ptr, lifetimes.len(), types_ptr, types.len());
+        kusthrila_impl_generics_with_additional(
+            list.as_ptr(), list.len(), names.0, names.1, names.2, names.3, out_ptr, out.len(),
+        )
+    };
     answer(code).map(|len| &out[..len as usize])
 }
 
@@ -166,6 +221,59 @@ mod tests {
         assert_eq!(value(list, 0, &mut scratch), Ok(Some(&b"-7"[..])));
         assert_eq!(scratch[2..], [7; 18]);
         assert_eq!(value(list, 0, &mut scratch[..19]), Err(Refusal { number: 8, place: Place::End }));
+    }
+
+    #[test]
+    fn writes_generics() {
+        let list = b"kind text\ni struct\ni A\np <\np '\ni a\np ,\ni T\np =\ni u8\np ,\ni const\ni N\np >\np ;\n";
+        let mut out = [7u8; 128];
+        let written = b"kind text\np <\np '\ni a\np ,\ni T\np ,\ni const\ni N\np :\np >\n";
+        assert_eq!(impl_generics(list, &mut out), Ok(&written[..]));
+        assert_eq!(out[written.len()..], [7; 128][written.len()..]);
+        let names = b"kind text\np <\np '\ni a\np ,\ni T\np ,\ni N\np >\n";
+        assert_eq!(type_generics(list, &mut out), Ok(&names[..]));
+        // Exactly the length, one byte less, and none.
+        let short = Err(Refusal { number: refusal::SHORT_BUFFER, place: Place::End });
+        let mut out = [7u8; 128];
+        assert_eq!(type_generics(list, &mut out[..names.len()]), Ok(&names[..]));
+        let mut out = [7u8; 128];
+        assert_eq!(type_generics(list, &mut out[..names.len() - 1]), short);
+        assert_eq!(type_generics(list, &mut out[..0]), short);
+        assert_eq!(out, [7; 128]);
+        // No generics, and none between the angles.
+        assert_eq!(impl_generics(b"kind text\ni struct\ni A\np ;\n", &mut out), Ok(&b"kind text\n"[..]));
+        let empty = b"kind text\ni struct\ni A\np <\np >\np ;\n";
+        assert_eq!(impl_generics(empty, &mut out), Ok(&b"kind text\np <\np >\n"[..]));
+        // A refusal of the reader is passed on.
+        let mut out = [7u8; 128];
+        let refused = Err(Refusal { number: refusal::NO_PARAMETER, place: Place::Row(2) });
+        assert_eq!(impl_generics(b"kind text\ni struct\ni A\np <\ni T\n", &mut out), refused);
+        assert_eq!(out, [7; 128]);
+    }
+
+    #[test]
+    fn adds_names_to_generics() {
+        let (plain, angled) = (b"kind text\ni struct\ni A\np ;\n", b"kind text\ni struct\ni A\np <\ni T\np >\np ;\n");
+        let mut out = [7u8; 1024];
+        let added = b"kind text\np <\np '\ni x\np ,\ni T\np ,\ni Y\np ,\ni _\np >\n";
+        assert_eq!(impl_generics_with_additional(angled, b"x", b"Y\n_\n", &mut out), Ok(&added[..]));
+        assert_eq!(impl_generics_with_additional(plain, b"x", b"Y", &mut out), Ok(&b"kind text\n"[..]));
+        assert_eq!(out[added.len()..], [7; 1024][added.len()..]);
+        let long = [b'n'; 255];
+        assert_eq!(impl_generics_with_additional(angled, &long, b"", &mut out).map(|part| part.len()), Ok(289));
+        let mut out = [7u8; 1024];
+        let wrong = Err(Refusal { number: refusal::ADDED_NAME, place: Place::End });
+        for name in [&b"\n"[..], b"a\n\nb", b"9", b"r#a", b"a b", b"a\0", b"\xC3\xA9", &[b'n'; 256], b"'a"] {
+            for list in [&plain[..], angled] {
+                assert_eq!(impl_generics_with_additional(list, name, b"", &mut out), wrong, "{name:?}");
+                assert_eq!(impl_generics_with_additional(list, b"", name, &mut out), wrong, "{name:?}");
+                // 30 comes before 8.
+                assert_eq!(impl_generics_with_additional(list, b"", name, &mut []), wrong, "{name:?}");
+            }
+        }
+        let refused = Err(Refusal { number: refusal::NO_WORD, place: Place::End });
+        assert_eq!(impl_generics_with_additional(b"kind text\n", b"9", b"", &mut out), refused);
+        assert_eq!(out, [7; 1024]);
     }
 
     #[test]

@@ -54,5 +54,7 @@ pub const NO_CONST_NAME: u8 = 27;
 pub const NO_ENTRY_COMMA: u8 = 28;
 /// Tagged: neither a key nor a key and a value.
 pub const NO_ENTRY: u8 = 29;
+/// An added name is no name of at most 255 bytes, or has `r#`.
+pub const ADDED_NAME: u8 = 30;
 /// Tagged: the list is not one group.
 pub const NOT_ONE_GROUP: u8 = 31;

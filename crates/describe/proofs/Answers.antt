@@ -1,54 +1,41 @@
 -- Laws on the answers of the calls.
 use mathlib.Core.Path.{_≡_, refl, ap, _∙_, sym, subst, subst⁻¹}
-use mathlib.Core.Bool.{Bool, true, false, cond}
+use mathlib.Core.Logic.{⊎-elim}
+use mathlib.Core.Bool.{false}
 use mathlib.Core.List.{List}
 use Prim.Native.Nat.{ℕ, _≤_, _<_}
 use native.Mathlib.Omega.{arith}
 use borrow.Author.Tests.{lt-ltb, le-ltb, le-leb}
-use lib.ListN.{length, take}
-use lib.Seq.{slice, sets, length-take-le}
+use lib.ListN.{length}
+use lib.Seq.{slice, sets}
 use Rattle.token_list.specs.Check as list
 use lib.Dec.{ltb}
 use Rattle.token_list.specs.Place.{OneRefusal}
-use Rattle.token_list.specs.Stream.{Trees, at, rowStart}
+use Rattle.token_list.specs.Stream.{at, rowStart}
 use Rattle.token_list.proofs.Starts.{next-start}
 use Rattle.reading.specs.Answer.{framed, readNumber}
 use Rattle.reading.specs.Place.{start, valueRow}
 use Rattle.reading.proofs.Places.{short-read, refusals}
 use Rattle.token_list.specs.Contract.{InList}
-use Rattle.token_list.specs.declared.check.Cursor.{Cursor}
 use Rattle.token_list.specs.declared.check.Refusal.{Refusal}
 use Rattle.token_list.specs.declared.stream.Token.{Token}
 use Rattle.token_list.proofs.Texts.{chosen, passed-over}
-use Rattle.output.specs.Text.{refusalText}
-use Rattle.output.specs.Contract.{further, Put, Printed}
+use Rattle.output.specs.Contract.{Put}
+use Rattle.output.specs.Answer as outputs
 use Rattle.output.proofs.Texts.{kept, shown, joined}
+use Rattle.output.proofs.Answers.{fitted-refused}
 use Rattle.reading.specs.Declaration as declaration
 use Rattle.reading.specs.Token.{MAX-I64, worth}
 use Rattle.reading.specs.Took.{Took, took, Cause, stopped, Point}
 use Rattle.reading.specs.Reading.{item}
-use Rattle.parse.specs.Contract.{on, no, Meets, stands, refuses}
 use Rattle.parse.specs.declared.variants.ValueAt.{ValueAt}
 use Rattle.parse.specs.declared.variants.ValueAt.the-variants as valueAts
 use Rattle.describe.specs.Value.{SCRATCH-BYTES, negativeText, Answer, refused, bodyValue, valueAnswer, variantAnswer, itemAnswer, answer, scratch, valueText}
 use Rattle.describe.specs.Listing as listing
-use Rattle.describe.specs.Contract.{ValueAs, part, textStart, textEnd, placeOf, Placed, listedAs, ListedAs}
-use Rattle.describe.specs.declared.listing.Listed.{Listed}
-use Rattle.describe.specs.declared.listing.Listed.the-variants as listeds
+use Rattle.describe.specs.Contract.{ValueAs, part, textStart, textEnd, placeOf, Placed}
 use Rattle.describe.specs.declared.value.ValuePlace.{ValuePlace}
 use Rattle.describe.specs.declared.value.ValuePlace.the-variants as places
 use Rattle.describe.proofs.Worths.{part-front, negative-within, negative-length}
-
--- ## What a reader's answer tells
-
-pub meets-tells : {A : Type 0} {s : List ℕ} {c d : Cursor} {b0 b1 : List ℕ} {sh : A → Type 0} {t : Took A} →
-    Meets s c b0 b1 sh (on d) t
-    → (a : A) × (rs : List ℕ) × (us : Trees) × (t ≡ took a rs us) × sh a
-meets-tells (stands {a = a} {rs = rs} {us = us} m h) = (a, rs, us, refl, h)
-
-pub meets-refusal : {A : Type 0} {s : List ℕ} {c : Cursor} {b0 b1 : List ℕ} {sh : A → Type 0} {n p : ℕ} {t : Took A} →
-    Meets s c b0 b1 sh (no n p) t → (w : Cause) × (t ≡ stopped w n p)
-meets-refusal (refuses {w = w} qs q) = (w, refl)
 
 -- ## A value
 
@@ -104,7 +91,8 @@ module _ {s : List ℕ} {v : ValueAt} (x : Point) (w : declaration.Value) (k : V
       let short : r ≤ SCRATCH-BYTES = omega (arith, p .next, few) in
       record {
         place = ap places.InScratch long ∙ sym (ap (placeOf s) a);
-        text = part-front r z (omega (arith, kept p)) ∙ shown p (omega arith) ∙ ap negativeText m ∙ sym (ap valueText a);
+        text = part-front r z (omega (arith, kept p)) ∙ shown p (omega arith) ∙ ap negativeText m ∙ sym
+            (ap valueText a);
         range = (omega (arith, p .next, negative-length n), short);
         scratch = p .bytes ∙ ap (λ (k : ℕ). sets y 0 (negativeText k)) m ∙ sym (ap (scratch y) a);
       }
@@ -157,80 +145,32 @@ pub put-listing : {k l m o : List ℕ} {i j r : ℕ} (x : declaration.Declaratio
 unfolding listing.listing
 put-listing x p q t = joined p (joined q t)
 
-module _ {x : List ℕ} (text : List ℕ) where
-  pub fits-not : (n : ℕ) → n ≡ further 0 (length text) → length x < n →
-      ListedAs x x (listing.fitted (length x) (listing.listed text))
-      (listeds.Refused (record { number = 8; place = 65535 }))
-  fits-not n e h =
-      let q = chosen _ (listing.refused 8 list.END) (listing.listed text)
-      (lt-ltb (length x) (length text) (omega (arith, e, h))) in
-      record { room = tt; answer = sym q; output = sym (ap (listing.output x) q) }
-
-  pub fits : {y : List ℕ} (n : ℕ) → n ≡ further 0 (length text) → n ≤ length x → {r : ℕ} → Put x y 0 r text →
-      ListedAs x y (listing.fitted (length x) (listing.listed text)) (listeds.Written r)
-  fits {y} n e h {r} p =
-      let q = passed-over _ (listing.refused 8 list.END) (listing.listed text)
-      (le-ltb (length x) (length text) (omega (arith, p .short))) in
-      let room : r ≤ length x = omega (arith, p .next) in
-      record {
-        room = omega (arith, kept p);
-        answer = ap listing.listed (shown p room) ∙ sym q;
-        output = p .bytes ∙ sym (ap (listing.output x) q);
-      }
-
-pub listed-as : {x y : List ℕ} {r : Listed} {a b : listing.Answer} → b ≡ a → ListedAs x y a r → ListedAs x y b r
-listed-as {x} {y} {r} e p = subst⁻¹ (λ (z : listing.Answer). ListedAs x y z r) e p
-
-pub listed-refused : {x : List ℕ} {r : Refusal} {a : listing.Answer} → listedAs x (listeds.Refused r) ≡ a →
-    x ≡ listing.output x a → ListedAs x x a (listeds.Refused r)
-listed-refused e f = record { room = tt; answer = e; output = f }
-
 module _ (s : List ℕ) (n : ℕ) where
-  abbrev fittedBy : list.Answer → listing.Answer
-  fittedBy a = listing.fitted n (framed listing.refused (λ rows. false) listing.itemAnswer s a)
+  abbrev fittedBy : list.Answer → outputs.Answer
+  fittedBy a = outputs.fitted n (framed outputs.refused (λ rows. false) listing.itemAnswer s a)
 
-  pub listing-checked : {m p : ℕ} → list.check s ≡ list.Answer.refused m p → listing.answer s n ≡ listing.refused m p
+  pub listing-checked : {m p : ℕ} → list.check s ≡ list.Answer.refused m p → listing.answer s n ≡ outputs.refused m p
   unfolding listing.answer listing.whole
   listing-checked e = ap fittedBy e
 
   pub listing-read : {r : ℕ} → list.check s ≡ list.Answer.passed r →
-      listing.answer s n ≡ listing.fitted n (listing.itemAnswer (item 0 (at s 10 .here)))
+      listing.answer s n ≡ outputs.fitted n (listing.itemAnswer (item 0 (at s 10 .here)))
   unfolding listing.answer listing.whole
   listing-read e = ap fittedBy e
 
-  pub listing-refusal : (m p : ℕ) → listing.answer s n ≡ listing.refused m p → OneRefusal readNumber s m p
+  pub listing-refusal : (m p : ℕ) → listing.answer s n ≡ outputs.refused m p → OneRefusal readNumber s m p
   unfolding listing.answer listing.whole
   listing-refusal m p e =
-      fits (framed listing.refused (λ rows. false) listing.itemAnswer s (list.check s)) e
-      (refusals s listing.refused (λ rows. false) listing.itemAnswer (λ n p m o q. ((cc), (cc))) plain m p)
+      ⊎-elim (refusals s outputs.refused (λ rows. false) listing.itemAnswer (λ n p m o q. ((cc), (cc))) plain m p) short
+      (fitted-refused n (framed outputs.refused (λ rows. false) listing.itemAnswer s (list.check s)) e)
     where
-      plain : (m p : ℕ) (t : Took declaration.Declaration) → listing.itemAnswer t ≡ listing.refused m p → (w : Cause) × (t ≡ stopped w m p)
+      plain : (m p : ℕ) (t : Took declaration.Declaration) → listing.itemAnswer t ≡ outputs.refused m p
+          → (w : Cause) × (t ≡ stopped w m p)
       plain m p (took d rs us) q = let z : _≡_ {A = ℕ} 0 1 = cc in absurd (omega arith)
       plain m p (stopped w i o) q = (w, (cc))
 
-      room : (text : List ℕ) (b : Bool) → cond b (listing.refused 8 list.END) (listing.listed text) ≡
-          listing.refused m p → OneRefusal readNumber s m p
-      room text true q =
+      short : outputs.refused 8 list.END ≡ outputs.refused m p → OneRefusal readNumber s m p
+      short q =
           let number : 8 ≡ m = cc in
           let place : list.END ≡ p = cc in
           subst (λ (i : ℕ). OneRefusal readNumber s i p) number (subst (OneRefusal readNumber s 8) place (short-read s))
-      room text false q = let z : _≡_ {A = ℕ} 0 1 = cc in absurd (omega arith)
-
-      fits : (a : listing.Answer) → listing.fitted n a ≡ listing.refused m p →
-          (a ≡ listing.refused m p → OneRefusal readNumber s m p) → OneRefusal readNumber s m p
-      fits (listing.listed text) q k = room text (ltb n (length text)) q
-      fits (listing.refused i o) q k = k q
-
--- what is written is the text of the answer
-module _ {x y : List ℕ} {a : listing.Answer} where
-  pub listed-printed : {n : ℕ} → ListedAs x y a (listeds.Written n) → Printed x y n (listing.answerText a)
-  listed-printed {n} l =
-      let q : a ≡ listing.listed (take n y) = sym (l .answer) in
-      rw q (record { counted = sym (length-take-le n y (l .room)); bytes = l .output ∙ ap (listing.output x) q })
-
-  pub refused-printed : {z : List ℕ} {n : ℕ} {r : Refusal} → ListedAs x y a (listeds.Refused r) →
-      Printed y z n (refusalText (r .number) (r .place)) → Printed x z n (listing.answerText a)
-  refused-printed {z} {n} {r} l p =
-      let q : a ≡ listing.refused (r .number) (r .place) = sym (l .answer) in
-      let same : y ≡ x = l .output ∙ ap (listing.output x) q in
-      rw q (rw same at p)

@@ -1,31 +1,35 @@
 -- No listing is longer than MOST.
 use mathlib.Core.Path.{_≡_, refl, ap, _∙_, sym, subst}
-use mathlib.Core.Bool.{Bool, true, false, cond, true≢false, false≢true}
+use mathlib.Core.Bool.{true, false, true≢false, false≢true}
 use mathlib.Core.List.{List, [], _∷_}
 use Prim.Native.Nat.{ℕ, _+_, _*_, _≤_, _<_}
 use native.Mathlib.Omega.{arith}
-use borrow.Author.Tests.{le-ltb, leb-true}
-use lib.Dec.{leb, ltb}
+use borrow.Author.Tests.{leb-true}
+use lib.Dec.{leb}
 use lib.ListN.{length, take, length-append}
 use lib.Seq.{length-take-le}
 use Rattle.token_list.specs.Check as list
 use Rattle.token_list.specs.Place.{OneRefusal}
 use Rattle.reading.specs.Answer.{readNumber}
 use Rattle.token_list.specs.Stream.{at}
-use Rattle.token_list.proofs.Texts.{passed-over, and-parts}
+use Rattle.token_list.proofs.Texts.{and-parts}
 use Rattle.token_list.proofs.Passed.{passed-list}
 use Rattle.token_list.proofs.Bounds as bounds
 use Rattle.output.specs.Text.{decimal}
 use Rattle.output.specs.Contract.{Printed}
+use Rattle.output.specs.Answer.{Answer, wrote, refused, answerText}
+use Rattle.output.specs.Written.{WrittenAs, atMost}
+use Rattle.output.specs.declared.written.Written.{Written}
+use Rattle.output.specs.declared.written.Written.the-variants as writtens
+use Rattle.output.proofs.Answers.{Within, fitted-wrote, fitted-same}
 use Rattle.output.proofs.Texts.{decimal-within}
 use Rattle.reading.specs.Declaration.{Kind, struct, enum, Fields, unit, named, tuple, Value, absent, literal, negative, Body, fields, variants, Declaration, parametersOf, bodyCount}
 use Rattle.reading.specs.Took.{Took, took, stopped}
 use Rattle.reading.specs.Reading.{item}
 use Rattle.reading.proofs.Frame.{framed-cases}
 use Rattle.reading.proofs.Conserved.{Conserved, ownNumber, refusal-number, item-conserving}
-use Rattle.describe.specs.Listing.{line, numbered, parameterLine, namedLine, tupleLine, fieldLines, number, variantLines, bodyLines, kindText, listing, Answer, listed, refused, itemAnswer, whole, fitted, answer, answerText, MOST, Fits}
-use Rattle.describe.specs.Contract.{ListedAs, Reported}
-use Rattle.describe.specs.declared.listing.Listed.the-variants as listeds
+use Rattle.describe.specs.Listing.{line, numbered, parameterLine, namedLine, tupleLine, fieldLines, number, variantLines, bodyLines, kindText, listing, itemAnswer, whole, answer, MOST, Fits}
+use Rattle.describe.specs.Contract.{Reported}
 use Rattle.describe.proofs.Costs.{total, parameterCost, fieldCost, typeCost, fieldsCost, valueCost, variantCost, bodyCost, itemCost, item-cost}
 
 -- ## Lines
@@ -113,20 +117,12 @@ listing-length d h =
 -- ## The law
 
 abbrev Right : Answer → Type 0
-Right (listed text) = length text ≤ MOST
+Right (wrote text) = length text ≤ MOST
 Right (refused n p) = n ≡ 8 → ⊥
 
-fitted-listed : {text : List ℕ} (n : ℕ) (a : Answer) → fitted n a ≡ listed text → a ≡ listed text
-fitted-listed {text} n (listed t) e = go (ltb n (length t)) e
-  where
-    go : (b : Bool) → cond b (refused 8 list.END) (listed t) ≡ listed text → listed t ≡ listed text
-    go true e = cc
-    go false e = e
-fitted-listed n (refused m p) e = cc
-
-fitted-same : (n : ℕ) → MOST ≤ n → (a : Answer) → Right a → fitted n a ≡ a
-fitted-same n h (listed text) l = passed-over _ _ _ (le-ltb n (length text) (omega arith))
-fitted-same n h (refused m p) l = refl
+within : (a : Answer) → Right a → Within MOST a
+within (wrote text) r = r
+within (refused n p) r = tt
 
 module _ (s : List ℕ) where
   by-item : {n : ℕ} → list.check s ≡ list.Answer.passed n → (t : Took Declaration) → item 0 (at s 10 .here) ≡ t →
@@ -149,9 +145,9 @@ module _ (s : List ℕ) where
   unfolding answer
   fits n =
       record {
-        longest = λ text e. rw (fitted-listed n (whole s) e) at right;
-        room = λ h. fitted-same n h (whole s) right;
-        never = λ h p e. (rw (sym (fitted-same n h (whole s) right) ∙ e) at right) refl;
+        longest = λ text e. rw (fitted-wrote n (whole s) e) at right;
+        room = λ h. fitted-same n (whole s) (within (whole s) right) h;
+        never = λ h p e. (rw (sym (fitted-same n (whole s) (within (whole s) right) h) ∙ e) at right) refl;
       }
 
   -- what is written in any output
@@ -161,6 +157,8 @@ module _ (s : List ℕ) where
     reported p short refusal =
         record { text = p; roomy = λ h. rw (fits (length x) .room h) at p; short = short; refusal = refusal }
 
-    pub reported-length : ListedAs x y (answer s (length x)) (listeds.Written n) → n ≤ MOST
-    reported-length l = omega
-        (arith, fits (length x) .longest (take n y) (sym (l .answer)), length-take-le n y (l .room))
+  -- no text that is printed is longer
+  pub answer-length : {x y : List ℕ} (r : Written) → WrittenAs x y (answer s (length x)) r → atMost r ≤ MOST
+  answer-length {x} {y} (writtens.Text n) l = omega
+      (arith, fits (length x) .longest (take n y) (sym (l .answer)), length-take-le n y (l .room))
+  answer-length (writtens.Refused r) l = omega arith

@@ -1,5 +1,4 @@
 -- Laws on the texts and on where parts stand, which the proofs of the functions cite.
-pub mod Inside
 pub mod Parts
 pub mod Worths
 pub mod Answers

@@ -25,7 +25,7 @@ use Rattle.parse.specs.declared.variants.VariantStep.{VariantStep}
 use Rattle.parse.specs.declared.generics.ParameterStep.{ParameterStep}
 use Rattle.parse.proofs.Meeting as meeting
 use Rattle.describe.specs.Listing.{line, numbered, namedLine, tupleLine, variantLines, parameterName, parameterLine}
-use Rattle.describe.proofs.Inside.{inside-more, inside-done, inside-refused, forward}
+use Rattle.parse.proofs.Inside.{inside-more, inside-done, inside-refused, forward}
 use Rattle.describe.proofs.Worths.{put-as}
 
 -- a part and a name, and the rest of the line

@@ -1,7 +1,7 @@
 -- Laws on a body and the things that stand in it.
 use mathlib.Core.Path.{_≡_, refl, ap, _∙_, sym, subst⁻¹}
 use mathlib.Core.Bool.{Bool, true, false, cond}
-use mathlib.Core.List.{List, [], _∷_}
+use mathlib.Core.List.{List, []}
 use Prim.Native.Nat.{ℕ, _+_}
 use lib.Dec.{eqb}
 use Rattle.token_list.specs.Stream.{Trees, end, leaf, group, at}
@@ -9,16 +9,15 @@ use Rattle.token_list.specs.Contract.{LeafAt, GroupAt, rowOf}
 use Rattle.token_list.specs.declared.check.Cursor.{Cursor}
 use Rattle.token_list.specs.declared.stream.Token.{Token}
 use Rattle.reading.specs.Declaration as declaration
-use Rattle.reading.specs.Took.{Took, took, stopped, refuse, Reader, onward, after, pure}
+use Rattle.reading.specs.Took.{Took, took, stopped, refuse, Reader, after, pure}
 use Rattle.reading.specs.Reading as reading
 use Rattle.reading.specs.Place.{insideOf, inside}
 use Rattle.parse.specs.Contract.{stream, point, pastOf, InsideAt}
 use Rattle.parse.proofs.Meeting.{past-in}
-use Rattle.token_list.proofs.Texts.{chosen, passed-over}
 use Rattle.describe.specs.Value.{bodyValue}
 use Rattle.describe.specs.Listing.{bodyLines}
 use Rattle.describe.specs.Contract.{fieldsIn, StructAt}
-use Rattle.describe.proofs.Inside.{took-not-refuse, took-value}
+use Rattle.parse.proofs.Inside.{took-not-refuse, took-value}
 
 -- by either branch of a choice
 either : {A B : Type 0} (b : Bool) {t u v : Took A} → (t ≡ v → B) → (u ≡ v → B) → cond b t u ≡ v → B
@@ -140,40 +139,3 @@ pub body-end : {B : Type 0} (k : declaration.Kind) {s : List ℕ} {c : Cursor} {
     InsideAt (reading.bodyOf k) s c b → stream s c ≡ end → B
 body-end declaration.struct i e = struct-end i e
 body-end declaration.enum i e = enum-end i e
-
--- ## Generics
-
-module _ {s : List ℕ} {c : Cursor} {v : declaration.Generics} (i : InsideAt reading.generics s c v) where
-  pub generics-angle : (t : Token) (d : Cursor) → LeafAt s (c .at) t → d ≡ pastOf c t →
-      reading.isPunct 60 (rowOf s t) ≡ true
-      → InsideAt (reading.every (reading.parameter (c .row))) s d (declaration.parametersOf v)
-  generics-angle t d l e p =
-      go (reading.every (reading.parameter (c .row)) (c .row + 1) (at s (t .next) .here)) refl
-      (sym (chosen _ _ _ p) ∙ ap (reading.generics (c .row)) (sym (l .here)) ∙ i .gives)
-    where
-      go : (x : Took (List declaration.Parameter)) → reading.every (reading.parameter (c .row)) (c .row + 1)
-          (at s (t .next) .here) ≡ x
-          → onward (8 ∷ []) (after (c .row + 1) x (λ ps. pure (declaration.angled ps))) ≡ took v (i .roles) (i .rest)
-          → InsideAt (reading.every (reading.parameter (c .row))) s d (declaration.parametersOf v)
-      go (took ys qs ws) g h =
-          subst⁻¹ (λ (x : Cursor). InsideAt (reading.every (reading.parameter (c .row))) s x
-          (declaration.parametersOf v)) e
-          (record {
-            inList = past-in s c t (i .inList) (l .token);
-            roles = qs;
-            rest = ws;
-            gives = g ∙ ap (λ (zs : List declaration.Parameter). took zs qs ws)
-                (ap declaration.parametersOf (took-value h));
-          })
-      go (stopped w n p) g h = took-not-refuse h
-
-  pub generics-other : (t : Token) → LeafAt s (c .at) t → reading.isPunct 60 (rowOf s t) ≡ false →
-      v ≡ declaration.without
-  generics-other t l p = sym
-      (took-value (sym (passed-over _ _ _ p) ∙ ap (reading.generics (c .row)) (sym (l .here)) ∙ i .gives))
-
-  pub generics-group : (t : Token) → GroupAt s (c .at) t → v ≡ declaration.without
-  generics-group t g = sym (took-value (ap (reading.generics (c .row)) (sym (g .here)) ∙ i .gives))
-
-  pub generics-end : stream s c ≡ end → v ≡ declaration.without
-  generics-end e = sym (took-value (ap (reading.generics (c .row)) (sym e) ∙ i .gives))

@@ -2,7 +2,7 @@
 use mathlib.Core.Path.{_≡_}
 use mathlib.Core.List.{List, []}
 use Prim.Native.Nat.{ℕ, _+_, _-_, _≤_, _<_}
-use lib.ListN.{length, take}
+use lib.ListN.{length}
 use lib.Dec.{leb, eqb}
 use lib.Seq.{slice}
 use mathlib.Core.Bool.{Bool, true, false, cond}
@@ -13,6 +13,7 @@ use Rattle.token_list.specs.declared.check.Cursor.{Cursor}
 use Rattle.reading.specs.Declaration as declaration
 use Rattle.reading.specs.Reading as reading
 use Rattle.output.specs.Contract.{Printed}
+use Rattle.output.specs.Answer.{refused, answerText}
 use Rattle.token_list.specs.Place.{OneRefusal}
 use Rattle.reading.specs.Answer.{readNumber}
 use Rattle.reading.specs.Took.{Point}
@@ -21,8 +22,6 @@ use Rattle.parse.specs.Contract.{InsideAt, ValueOf, ValueIn}
 use Rattle.parse.specs.declared.variants.ValueAt.{ValueAt}
 use Rattle.describe.specs.Value as value
 use Rattle.describe.specs.Listing as listing
-use Rattle.describe.specs.declared.listing.Listed.{Listed}
-use Rattle.describe.specs.declared.listing.Listed.the-variants as listeds
 use Rattle.describe.specs.declared.value.ValuePlace.{ValuePlace}
 use Rattle.describe.specs.declared.value.ValuePlace.the-variants as places
 
@@ -86,26 +85,11 @@ fieldsIn false s c f =
 abbrev pub StructAt : List ℕ → ℕ → Cursor → declaration.Fields → Type 0
 StructAt s mark c f = fieldsIn (eqb mark BRACE) s c f
 
--- what an answer says, of the output x
-abbrev pub listedAs : List ℕ → Listed → listing.Answer
-listedAs x (listeds.Written n) = listing.listed (take n x)
-listedAs x (listeds.Refused r) = listing.refused (r .number) (r .place)
-
-abbrev pub within : List ℕ → Listed → Type 0
-within x (listeds.Written n) = n ≤ length x
-within x (listeds.Refused r) = Unit
-
--- the output was `before` and is `after`
-pub record ListedAs (before after : List ℕ) (a : listing.Answer) (r : Listed) : Type 0 where
-  pub room : within after r
-  pub answer : listedAs after r ≡ a
-  pub output : after ≡ listing.output before a
-
 -- the report of a list s: the text of the answer, in an output that was `before` and is `after`
 pub record Reported (s before after : List ℕ) (r : ℕ) : Type 0 where
-  pub text : Printed before after r (listing.answerText (listing.answer s (length before)))
+  pub text : Printed before after r (answerText (listing.answer s (length before)))
   -- an output of MOST bytes has room for every listing, so the text is never that of refusal 8
-  pub roomy : listing.MOST ≤ length before → Printed before after r (listing.answerText (listing.whole s))
+  pub roomy : listing.MOST ≤ length before → Printed before after r (answerText (listing.whole s))
   pub short : r ≤ listing.MOST
   -- what holds of a refusal that is printed
-  pub refusal : (n p : ℕ) → listing.answer s (length before) ≡ listing.refused n p → OneRefusal readNumber s n p
+  pub refusal : (n p : ℕ) → listing.answer s (length before) ≡ refused n p → OneRefusal readNumber s n p

@@ -1,15 +1,14 @@
 -- The listing of a declaration (document 01, "The listing program").
 use mathlib.Core.Path.{_≡_}
-use mathlib.Core.Bool.{false, cond}
+use mathlib.Core.Bool.{false}
 use mathlib.Core.List.{List, [], _∷_, _++_}
 use Prim.Native.Nat.{ℕ, _+_, _*_, _≤_}
-use lib.Dec.{ltb}
 use lib.ListN.{length}
-use lib.Seq.{sets}
 use Rattle.token_list.specs.Byte.{bytes, SPACE, LF, QUOTE}
 use Rattle.token_list.specs.Layout.{MAX-BYTES, MAX-ROWS}
 use Rattle.token_list.specs.Check as list
-use Rattle.output.specs.Text.{decimal, refusalText}
+use Rattle.output.specs.Text.{decimal}
+use Rattle.output.specs.Answer.{Answer, wrote, refused, fitted}
 use Rattle.reading.specs.Declaration.{Kind, struct, enum, Parameter, lifetime, constant, type, parametersOf, UnnamedField, Field, Fields, unit, named, tuple, Value, absent, literal, negative, Variant, Body, fields, variants, Declaration, bodyCount}
 use Rattle.reading.specs.Took.{Took, took, stopped}
 use Rattle.reading.specs.Answer.{framed}
@@ -96,38 +95,17 @@ itemLines d = NAMES ++ line (kindText (d .kind)) (d .name) (decimal (bodyCount (
 unfoldable pub listing : Declaration → List ℕ
 listing d = itemLines d ++ (numbered parameterLine 0 (parametersOf (d .generics)) ++ bodyLines (d .body))
 
-pub data Answer : Type 0 where
-  -- the listing
-  listed : List ℕ → Answer
-  -- the refusal's number and place
-  refused : ℕ → ℕ → Answer
-
 abbrev pub itemAnswer : Took Declaration → Answer
-itemAnswer (took d rs us) = listed (listing d)
+itemAnswer (took d rs us) = wrote (listing d)
 itemAnswer (stopped w n p) = refused n p
 
 -- for a list, where there is room
 unfoldable pub whole : List ℕ → Answer
 whole s = framed refused (λ rows. false) itemAnswer s (list.check s)
 
--- in an output of n bytes
-abbrev pub fitted : ℕ → Answer → Answer
-fitted n (listed text) = cond (ltb n (length text)) (refused 8 list.END) (listed text)
-fitted n (refused m p) = refused m p
-
 -- for a list and an output of n bytes
 unfoldable pub answer : List ℕ → ℕ → Answer
 answer s n = fitted n (whole s)
-
--- the output: the listing, and past it the bytes that stood there; after a refusal all stay
-abbrev pub output : List ℕ → Answer → List ℕ
-output x (listed text) = sets x 0 text
-output x (refused n p) = x
-
--- what the program prints: the listing, or the refusal
-abbrev pub answerText : Answer → List ℕ
-answerText (listed text) = text
-answerText (refused n p) = refusalText n p
 
 -- 147,473: the 17 bytes of the line of names, the bytes that a list may have, and 20 bytes for each of its rows
 abbrev pub MOST : ℕ
@@ -136,7 +114,7 @@ MOST = 17 + MAX-BYTES + 20 * MAX-ROWS
 -- of a list s, and an output of n bytes
 pub record Fits (s : List ℕ) (n : ℕ) : Type 0 where
   -- no listing is longer than MOST
-  pub longest : (text : List ℕ) → answer s n ≡ listed text → length text ≤ MOST
+  pub longest : (text : List ℕ) → answer s n ≡ wrote text → length text ≤ MOST
   -- an output of that length has room for the whole listing
   pub room : MOST ≤ n → answer s n ≡ whole s
   -- and is never refused as too short

@@ -5,7 +5,8 @@ use crate::lines::put_named;
 use crate::lines::put_parameter;
 use crate::lines::put_unnamed;
 use crate::lines::put_variant;
-use output::put::put_refusal;
+use output::written::Written;
+use output::written::put_answer;
 use parse::data_type::DataType;
 use parse::fields::NamedStep;
 use parse::fields::NextStep;
@@ -39,18 +40,14 @@ ghost use Rattle.token_list.specs.Stream.{at};
 ghost use Rattle.token_list.specs.Place.{OneRefusal};
 ghost use Rattle.token_list.specs.Contract.{InList};
 ghost use Rattle.output.specs.Contract.{Put};
+ghost use Rattle.output.specs.Answer.{wrote, refused, fitted};
+ghost use Rattle.output.specs.Written.{WrittenAs};
 ghost use Rattle.reading.specs.Declaration.{Parameter, Generics, parametersOf, UnnamedField, Field, Fields, Variant, Body, Declaration};
 ghost use Rattle.reading.specs.Reading.{every, namedField, tupleField, variant, parameter, generics, bodyOf, item};
 ghost use Rattle.reading.specs.Answer.{readNumber};
 ghost use Rattle.parse.specs.Contract.{kindOf, InsideAt, FieldsOf, ItemOf};
-ghost use Rattle.describe.specs.Listing.{numbered, parameterLine, namedLine, tupleLine, fieldLines, variantLines, bodyLines, listing, listed, refused, itemAnswer, fitted, answer};
-ghost use Rattle.describe.specs.Contract.{StructAt, ListedAs, Reported};
-
-// The listing's length, or a refusal.
-pub enum Listed {
-    Written(usize),
-    Refused(Refusal),
-}
+ghost use Rattle.describe.specs.Listing.{numbered, parameterLine, namedLine, tupleLine, fieldLines, variantLines, bodyLines, listing, itemAnswer, answer};
+ghost use Rattle.describe.specs.Contract.{StructAt, Reported};
 
 // The lines of the named fields that are read from `from` on.
 fn named_lines(s: &[u8], from: Cursor, roles: &mut [u8], out: &mut [u8], start: usize) -> usize
@@ -242,27 +239,27 @@ fn put_listing(s: &[u8], d: ItemAt, roles: &mut [u8], out: &mut [u8]) -> usize
 }
 
 // Measures the listing, and writes it where the output is long enough.
-fn fit_listing(s: &[u8], d: ItemAt, roles: &mut [u8], out: &mut [u8]) -> Listed
+fn fit_listing(s: &[u8], d: ItemAt, roles: &mut [u8], out: &mut [u8]) -> Written
     requires { ⌜ ((x : Declaration) × ItemOf (now s) d x) ⌝ }
     ensures { λ r. ⌜ ((x : Declaration) → ItemOf (now (s .entry)) d x →
-        ListedAs (now (out .entry)) (now (out .exit)) (fitted (length (now (out .entry))) (listed (listing x))) r) ⌝ }
+        WrittenAs (now (out .entry)) (now (out .exit)) (fitted (length (now (out .entry))) (wrote (listing x))) r) ⌝ }
 {
     let mut nowhere = [0u8; 1];
     let needed = put_listing(s, d, roles, &mut nowhere);
     if out.len() < needed {
-        return Listed::Refused(Refusal {
+        return Written::Refused(Refusal {
             number: 8,
             place: END,
         });
     }
     let end = put_listing(s, d, roles, out);
-    Listed::Written(end)
+    Written::Text(end)
 }
 
 // The listing of a list that passes the check.
-fn read_listing(s: &[u8], out: &mut [u8], roles: &mut [u8]) -> Listed
+fn read_listing(s: &[u8], out: &mut [u8], roles: &mut [u8]) -> Written
     requires { ⌜ InList (now s) (record { at = FIRST-ROW; row = 0 }) ⌝ }
-    ensures { λ r. ⌜ ListedAs (now (out .entry)) (now (out .exit))
+    ensures { λ r. ⌜ WrittenAs (now (out .entry)) (now (out .exit))
         (fitted (length (now (out .entry))) (itemAnswer (item 0 (at (now (s .entry)) FIRST-ROW .here)))) r ⌝ }
 {
     let c = Cursor {
@@ -270,20 +267,20 @@ fn read_listing(s: &[u8], out: &mut [u8], roles: &mut [u8]) -> Listed
         row: 0,
     };
     match item(s, c, roles) {
-        ItemStep::Refused(r) => Listed::Refused(r),
+        ItemStep::Refused(r) => Written::Refused(r),
         ItemStep::At(d) => fit_listing(s, d, roles, out),
     }
 }
 
 // Writes the listing of the declaration at the start of the output; on a refusal nothing is written.
-pub fn write_listing(list: &[u8], out: &mut [u8]) -> Listed
-    ensures { λ r. ⌜ ListedAs (now (out .entry)) (now (out .exit))
+pub fn write_listing(list: &[u8], out: &mut [u8]) -> Written
+    ensures { λ r. ⌜ WrittenAs (now (out .entry)) (now (out .exit))
         (answer (now (list .entry)) (length (now (out .entry)))) r ⌝ }
     ensures { λ _. ⌜ ((n p : ℕ) → answer (now (list .entry)) (length (now (out .entry))) ≡ refused n p →
         OneRefusal readNumber (now (list .entry)) n p) ⌝ }
 {
     match check(list) {
-        Checked::Refused(r) => Listed::Refused(r),
+        Checked::Refused(r) => Written::Refused(r),
         Checked::Passed(_) => {
             let mut roles = [0u8; MAX_ROWS];
             read_listing(list, out, &mut roles)
@@ -295,8 +292,6 @@ pub fn write_listing(list: &[u8], out: &mut [u8]) -> Listed
 pub fn report_listing(list: &[u8], out: &mut [u8]) -> usize
     ensures { λ r. ⌜ Reported (now (list .entry)) (now (out .entry)) (now (out .exit)) r ⌝ }
 {
-    match write_listing(list, out) {
-        Listed::Written(n) => n,
-        Listed::Refused(r) => put_refusal(out, r),
-    }
+    let answer = write_listing(list, out);
+    put_answer(out, answer)
 }

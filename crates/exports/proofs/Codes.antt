@@ -1,24 +1,27 @@
 -- A number gives its case back; the cases of the answers are small enough for it.
 use mathlib.Core.Path.{_≡_, refl, ap, _∙_, sym, subst}
 use mathlib.Core.Logic.{⊎-elim}
-use mathlib.Core.Bool.{Bool, true, false, _&&_, _||_, cond, false≢true}
+use mathlib.Core.Bool.{Bool, true, false, false≢true}
 use mathlib.Core.List.{List}
-use Prim.Native.Nat.{ℕ, _+_, _*_, _/_, _%_, _≤_, _<_}
+use Prim.Native.Nat.{ℕ, zero, suc, _+_, _*_, _/_, _%_, _≤_, _<_}
 use native.Mathlib.Nat.{mul-add-div-right, mul-add-mod-self-right, div-eq-of-lt, mod-eq-of-lt}
 use native.Mathlib.Omega.{arith}
-use borrow.Author.Tests.{leb-true, lt-ltb, le-ltb, eq-eqb, ne-eqb}
-use lib.Dec.{leb}
+use borrow.Author.Tests.{lt-ltb, le-ltb, ne-eqb}
 use lib.ListN.{length}
-use Rattle.token_list.specs.Text.{between}
+use lib.Seq.{length-take-le}
 use Rattle.token_list.specs.Check as list
 use Rattle.token_list.specs.Place.{OneRefusal, checkNumber}
 use Rattle.token_list.specs.declared.check.Refusal.{Refusal}
-use Rattle.token_list.proofs.Texts.{and-parts, chosen, passed-over}
+use Rattle.token_list.proofs.Texts.{chosen, passed-over}
 use Rattle.token_list.proofs.Bounds.{bounds, check-refusal}
 use Rattle.reading.specs.Declaration.{Kind, struct, enum}
 use Rattle.reading.specs.Answer as answers
 use Rattle.reading.specs.Answer.{readNumber}
 use Rattle.reading.proofs.Places.{answer-read}
+use Rattle.output.specs.Answer as outputs
+use Rattle.output.specs.Written.{WrittenAs}
+use Rattle.output.specs.declared.written.Written.{Written}
+use Rattle.output.specs.declared.written.Written.the-variants as writtens
 use Rattle.parse.specs.Contract.{ParsedAs}
 use Rattle.parse.specs.declared.item.ItemAt.{ItemAt}
 use Rattle.parse.specs.declared.item.Parse.the-variants as parses
@@ -29,7 +32,7 @@ use Rattle.describe.specs.declared.value.ValuePlace.{ValuePlace}
 use Rattle.describe.specs.declared.value.ValuePlace.the-variants as places
 use Rattle.describe.proofs.Answers.{listing-refusal}
 use Rattle.describe.proofs.Length.{fits}
-use Rattle.exports.specs.Code.{IN-LIST, Case, accepted, refusal, REFUSED, code, decoded, Coded, checkCase, kindCode, readCase, listingCase, placeCase, decodedPlace, ValueInto}
+use Rattle.exports.specs.Code.{IN-LIST, Case, accepted, refusal, REFUSED, code, decoded, Coded, checkCase, kindCode, readCase, writtenCase, writtenCode, LowPlace, WrittenInto, placeCase, decodedPlace, ValueInto}
 
 -- ## A number gives back its case, number and place
 
@@ -89,19 +92,16 @@ place-back (places.Refused r) h = refl
 
 -- ## The cases are small
 
--- the numbers begin at 1
-from-one : (n : ℕ) → readNumber n ≡ true → 1 ≤ n
-from-one n e = go (between 1 8 n) refl e
-  where
-    go : (b : Bool) → between 1 8 n ≡ b → (b || between 11 27 n) ≡ true → 1 ≤ n
-    go true q h = leb-true 1 n (and-parts (leb 1 n) (leb n 8) q .0)
-    go false q h = omega (arith, leb-true 11 n (and-parts (leb 11 n) (leb n 27) h .0))
+-- where 0 is none of the numbers, they begin at 1
+pub from-one : (f : ℕ → Bool) → f 0 ≡ false → (n : ℕ) → f n ≡ true → 1 ≤ n
+from-one f z zero e = absurd (false≢true (sym z ∙ e))
+from-one f z (suc n) e = omega arith
 
 pub read-small : {s : List ℕ} {n p : ℕ} → OneRefusal readNumber s n p → (1 ≤ n) × (p ≤ 65535)
-read-small {n = n} o = (from-one n (o .one), place-low o)
+read-small {n = n} o = (from-one readNumber refl n (o .one), place-low o)
 
 pub check-small : {s : List ℕ} {n p : ℕ} → OneRefusal checkNumber s n p → (1 ≤ n) × (p ≤ 65535)
-check-small {n = n} o = (leb-true 1 n (and-parts (leb 1 n) (leb n 7) (o .one) .0), place-low o)
+check-small {n = n} o = (from-one checkNumber refl n (o .one), place-low o)
 
 pub checked-told : (s : List ℕ) → Told checkNumber s (checkCase (list.check s))
 checked-told s = go (list.check s) refl
@@ -121,12 +121,12 @@ answered-told s room = go (answers.answer s room) refl
     go (answers.declared d rs) e = small (kind-small (d .kind))
     go (answers.refused n p) e = let o = answer-read s room n p e in one (read-small o .0) o
 
-pub listed-told : (s : List ℕ) (room : ℕ) → Told readNumber s (listingCase (listing.answer s room))
+pub listed-told : (s : List ℕ) (room : ℕ) → Told readNumber s (writtenCase (listing.answer s room))
 listed-told s room = go (listing.answer s room) refl
   where
-    go : (a : listing.Answer) → listing.answer s room ≡ a → Told readNumber s (listingCase a)
-    go (listing.listed text) e = small {v = length text} (omega (arith, fits s room .longest text e))
-    go (listing.refused n p) e = let o = listing-refusal s room n p e in one (read-small o .0) o
+    go : (a : outputs.Answer) → listing.answer s room ≡ a → Told readNumber s (writtenCase a)
+    go (outputs.wrote text) e = small {v = length text} (omega (arith, fits s room .longest text e))
+    go (outputs.refused n p) e = let o = listing-refusal s room n p e in one (read-small o .0) o
 
 placed-told : (s : List ℕ) (a : value.Answer) → InRange (placeOf s a) →
     ((n p : ℕ) → a ≡ value.refused n p → OneRefusal readNumber s n p)
@@ -161,6 +161,24 @@ place-refused s (value.inScratch t) r e = let z : _≡_ {A = ℕ} 0 1 = cc in ab
 place-refused s (value.refused n p) r e =
     let same : record { number = n; place = p } ≡ r = cc in
     ap (λ (x : Refusal). value.refused (x .number) (x .place)) same
+
+-- ## A text that was written
+
+module _ {f : ℕ → Bool} {s x y : List ℕ} {a : outputs.Answer} (t : Told f s (writtenCase a)) where
+  pub low-place : (w : Written) → WrittenAs x y a w → LowPlace w
+  low-place (writtens.Text n) h = tt
+  low-place (writtens.Refused r) h = low (subst (λ (b : outputs.Answer). Told f s (writtenCase b)) (sym (h .answer)) t)
+    where
+      low : {n p : ℕ} → Told f s (refusal n p) → p ≤ list.END
+      low (one k o) = place-low o
+
+  pub written-into : (w : Written) {r : ℕ} → WrittenAs x y a w → r ≡ writtenCode w → WrittenInto f s x y a r
+  written-into w h e = record { coded = coded-as t (e ∙ same w h); output = h .output }
+    where
+      same : (w : Written) → WrittenAs x y a w → writtenCode w ≡ code (writtenCase a)
+      same (writtens.Text n) h =
+          sym (length-take-le n y (h .room)) ∙ ap (λ (b : outputs.Answer). code (writtenCase b)) (h .answer)
+      same (writtens.Refused r) h = ap (λ (b : outputs.Answer). code (writtenCase b)) (h .answer)
 
 -- ## A value's place
 

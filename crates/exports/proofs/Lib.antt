@@ -1,3 +1,4 @@
 -- Laws on the answers' numbers.
 pub mod Codes
 pub mod TaggedCodes
+pub mod GeneratedCodes

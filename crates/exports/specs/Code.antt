@@ -3,16 +3,19 @@
 use mathlib.Core.Path.{_≡_}
 use mathlib.Core.Bool.{Bool, cond}
 use mathlib.Core.List.{List}
-use Prim.Native.Nat.{ℕ, _+_, _*_, _/_, _%_}
+use Prim.Native.Nat.{ℕ, _+_, _*_, _/_, _%_, _≤_, min}
 use lib.Dec.{eqb, ltb}
 use lib.ListN.{length}
 use Rattle.token_list.specs.Check as list
 use Rattle.token_list.specs.Place.{OneRefusal}
 use Rattle.reading.specs.Declaration.{Kind, struct, enum}
 use Rattle.reading.specs.Answer as answers
+use Rattle.output.specs.Answer as outputs
+use Rattle.output.specs.declared.written.Written.{Written}
+use Rattle.output.specs.declared.written.Written.the-variants as writtens
 use Rattle.tagged_reading.specs.Reading as tagged
 use Rattle.tagged_reading.specs.Answer as taggedAnswers
-use Rattle.describe.specs.Listing as listing
+use Rattle.writing.specs.Answer as writing
 use Rattle.describe.specs.Value as value
 use Rattle.describe.specs.Contract.{placeOf}
 use Rattle.describe.specs.declared.value.ValuePlace.{ValuePlace}
@@ -62,15 +65,33 @@ pub record ReadInto (s before after : List ℕ) (r : ℕ) : Type 0 where
   pub coded : Coded answers.readNumber s (readCase (answers.answer s (length before))) r
   pub buffer : after ≡ answers.buffer (length before) (answers.answer s (length before))
 
--- the listing's length
-abbrev pub listingCase : listing.Answer → Case
-listingCase (listing.listed text) = accepted (length text)
-listingCase (listing.refused n p) = refusal n p
+-- the length of the text that was written
+abbrev pub writtenCase : outputs.Answer → Case
+writtenCase (outputs.wrote text) = accepted (length text)
+writtenCase (outputs.refused n p) = refusal n p
 
--- the answer for a list s, and the whole output
-pub record ListedInto (s before after : List ℕ) (r : ℕ) : Type 0 where
-  pub coded : Coded answers.readNumber s (listingCase (listing.answer s (length before))) r
-  pub output : after ≡ listing.output before (listing.answer s (length before))
+-- the same by the code's enum, whose refusals have a row or the end mark
+abbrev pub writtenCode : Written → ℕ
+writtenCode (writtens.Text n) = n
+writtenCode (writtens.Refused r) = code (refusal (r .number) (r .place))
+
+abbrev pub LowPlace : Written → Type 0
+LowPlace (writtens.Text n) = Unit
+LowPlace (writtens.Refused r) = r .place ≤ list.END
+
+-- the answer a for a list s, and the whole output
+pub record WrittenInto (numbers : ℕ → Bool) (s before after : List ℕ) (a : outputs.Answer) (r : ℕ) : Type 0 where
+  pub coded : Coded numbers s (writtenCase a) r
+  pub output : after ≡ outputs.output before a
+
+-- 2^32 - 1: no more bytes of an output are used by the writers of generics
+abbrev pub MAX-OUTPUT : ℕ
+MAX-OUTPUT = 4294967295
+
+-- the answer of a writer for a list s and the bytes of the output that are used
+abbrev pub GeneratedInto : writing.Writer → List ℕ → List ℕ → List ℕ → ℕ → Type 0
+GeneratedInto w s before after r =
+    WrittenInto writing.writeNumber s before after (writing.answer w s (min (length before) MAX-OUTPUT)) r
 
 -- 2^16: a part of the list is told from here on
 abbrev pub IN-LIST : ℕ

@@ -1,8 +1,9 @@
 // The functions that C and Rust call. Each answers one number (see include/kusthrila.h).
 use describe::listing;
-use describe::listing::Listed;
 use describe::value;
 use describe::value::ValuePlace;
+use generate::generics;
+use output::written::Written;
 use parse::item;
 use parse::item::Parse;
 use tagged_attribute::utils;
@@ -11,10 +12,14 @@ use token_list::check;
 use token_list::check::Checked;
 use token_list::check::Refusal;
 ghost use mathlib.Core.Path.{_≡_};
-ghost use Prim.Native.Nat.{_≤_};
+ghost use Prim.Native.Nat.{_≤_, min};
 ghost use Rattle.token_list.specs.Check.{END, check};
 ghost use Rattle.token_list.specs.Place.{checkNumber};
-ghost use Rattle.exports.specs.Code.{refusal, code, Coded, checkCase, ReadInto, ListedInto, ValueInto, TaggedInto};
+ghost use lib.ListN.{length};
+ghost use Rattle.reading.specs.Answer.{readNumber};
+ghost use Rattle.describe.specs.Listing as listing;
+ghost use Rattle.writing.specs.Answer.{implGenerics, typeGenerics, withAdditional};
+ghost use Rattle.exports.specs.Code.{refusal, code, Coded, checkCase, ReadInto, writtenCode, LowPlace, WrittenInto, MAX-OUTPUT, GeneratedInto, ValueInto, TaggedInto};
 
 // A number from here on tells a refusal.
 const REFUSED: u64 = 4294967296;
@@ -35,6 +40,17 @@ fn coded(r: Refusal) -> u64
     let number = wide(r.number);
     let place = r.place as u64;
     number * REFUSED + place
+}
+
+// The length of a text that was written, or the refusal.
+fn written(answer: Written) -> u64
+    requires { ⌜ LowPlace answer ⌝ }
+    ensures { λ r. ⌜ r ≡ writtenCode answer ⌝ }
+{
+    match answer {
+        Written::Text(n) => n as u64,
+        Written::Refused(r) => coded(r),
+    }
 }
 
 // Checks a list: the number of its rows, or a refusal.
@@ -63,12 +79,60 @@ pub extern "C" fn kusthrila_read(list: &[u8], roles: &mut [u8]) -> u64
 // Writes the listing at the start of the output: its length, or a refusal.
 #[no_mangle]
 pub extern "C" fn kusthrila_listing(list: &[u8], out: &mut [u8]) -> u64
-    ensures { λ r. ⌜ ListedInto (now (list .entry)) (now (out .entry)) (now (out .exit)) r ⌝ }
+    ensures { λ r. ⌜ WrittenInto readNumber (now (list .entry)) (now (out .entry)) (now (out .exit))
+        (listing.answer (now (list .entry)) (length (now (out .entry)))) r ⌝ }
 {
-    match listing::write_listing(list, out) {
-        Listed::Written(n) => n as u64,
-        Listed::Refused(r) => coded(r),
+    let answer = listing::write_listing(list, out);
+    written(answer)
+}
+
+// At most so many bytes of an output are used, so that a length is never taken for a refusal.
+const MAX_OUTPUT: usize = 4294967295;
+
+// How many bytes of an output are used.
+fn used(len: usize) -> usize
+    ensures { λ r. ⌜ r ≡ min len MAX-OUTPUT ⌝ }
+{
+    if MAX_OUTPUT < len {
+        return MAX_OUTPUT;
     }
+    len
+}
+
+// Writes the generics of the declaration for an `impl`, as a list: its length, or a refusal.
+#[no_mangle]
+pub extern "C" fn kusthrila_impl_generics(list: &[u8], out: &mut [u8]) -> u64
+    ensures { λ r. ⌜ GeneratedInto implGenerics (now (list .entry)) (now (out .entry)) (now (out .exit)) r ⌝ }
+{
+    let end = used(out.len());
+    let answer = generics::impl_generics(list, &mut out[..end]);
+    written(answer)
+}
+
+// The same with added lifetimes in front and added types behind, each the lines of a text.
+#[no_mangle]
+pub extern "C" fn kusthrila_impl_generics_with_additional(
+    list: &[u8],
+    lifetimes: &[u8],
+    types: &[u8],
+    out: &mut [u8],
+) -> u64
+    ensures { λ r. ⌜ GeneratedInto (withAdditional (now (lifetimes .entry)) (now (types .entry))) (now (list .entry))
+        (now (out .entry)) (now (out .exit)) r ⌝ }
+{
+    let end = used(out.len());
+    let answer = generics::impl_generics_with_additional(list, lifetimes, types, &mut out[..end]);
+    written(answer)
+}
+
+// The same with the names of the parameters alone, as they stand behind the type's name.
+#[no_mangle]
+pub extern "C" fn kusthrila_type_generics(list: &[u8], out: &mut [u8]) -> u64
+    ensures { λ r. ⌜ GeneratedInto typeGenerics (now (list .entry)) (now (out .entry)) (now (out .exit)) r ⌝ }
+{
+    let end = used(out.len());
+    let answer = generics::type_generics(list, &mut out[..end]);
+    written(answer)
 }
 
 // Where a variant's value stands: nowhere, in the scratch, in the list; or a refusal.

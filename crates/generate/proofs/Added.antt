@@ -98,45 +98,44 @@ module _ {k l : List ℕ} {b r : StreamBuilder} where
       subst (λ (x : Bool). Appended k l b r (parted x (p ∷ []))) (sym e)
       (subst (λ (rs : List Row). Appended k l b r (punct COMMA ∷ rs)) (sym (append-nil (parameterRows p))) h)
 
--- from the start of the text up to i: these rows were added, and the others are to follow
-pub record Adding (f : List ℕ → Parameter) (t : List ℕ) (first : Bool) (k l : List ℕ) (b r : StreamBuilder)
-    (leading : Bool)
-    (i : ℕ) : Type 0 where
+-- ## Parameters one after the other
+
+-- of all parameters some were added, with these rows, and the others are to follow
+pub record Adding (all : List Parameter) (first : Bool) (k l : List ℕ) (b r : StreamBuilder) (leading : Bool)
+    (others : List Parameter) : Type 0 where
   pub rows : List Row
   pub appended : Appended k l b r rows
-  pub rest : parted first (map f (namesOf t)) ≡ rows ++ parted leading (map f (namesOf (drop i t)))
+  pub rest : parted first all ≡ rows ++ parted leading others
 
-pub adding-start : (f : List ℕ → Parameter) (t : List ℕ) (first : Bool) (k : List ℕ) (b : StreamBuilder)
-    → length k < FAR
-    → Adding f t first k k b b first 0
-adding-start f t first k b h =
+pub adding-start : (all : List Parameter) (first : Bool) (k : List ℕ) (b : StreamBuilder) → length k < FAR
+    → Adding all first k k b b first all
+adding-start all first k b h =
     record { rows = []; appended = record { rows = omega arith; put = nothing k (b .bytes) h }; rest = refl }
 
-pub adding-more : {f : List ℕ → Parameter} {t : List ℕ} {first leading : Bool} {k l m : List ℕ}
-    {b c d : StreamBuilder} {i e : ℕ}
-    → Adding f t first k l b c leading i → NameEnd t i e → Appended l m c d (parted leading (f (slice i e t) ∷ []))
-    → Adding f t first k m b d false (e + 1)
-adding-more {f} {t} {leading = leading} {i = i} {e = e} a n p =
-    let others = map f (namesOf (drop (e + 1) t)) in
-    let one = parted leading (f (slice i e t) ∷ []) in
-    record {
-      rows = a .rows ++ one;
-      appended = then (a .appended) p;
-      rest = a .rest
-          ∙ ap (λ (xs : List (List ℕ)). a .rows ++ parted leading (map f xs)) (n .names)
-          ∙ ap (λ (rs : List Row). a .rows ++ rs) (parted-append leading (f (slice i e t) ∷ []) others)
-          ∙ sym (append-assoc (a .rows) one (parted false others));
-    }
+module _ {all : List Parameter} {first leading : Bool} {k l : List ℕ} {b c : StreamBuilder} where
+  pub adding-more : {p : Parameter} {others : List Parameter} {m : List ℕ} {d : StreamBuilder}
+      → Adding all first k l b c leading (p ∷ others) → Appended l m c d (parted leading (p ∷ []))
+      → Adding all first k m b d false others
+  adding-more {p} {others} a q =
+      let one = parted leading (p ∷ []) in
+      record {
+        rows = a .rows ++ one;
+        appended = then (a .appended) q;
+        rest = a .rest ∙ ap (λ (rs : List Row). a .rows ++ rs) (parted-append leading (p ∷ []) others)
+            ∙ sym (append-assoc (a .rows) one (parted false others));
+      }
 
-pub added-all : {f : List ℕ → Parameter} {t : List ℕ} {first leading : Bool} {k l : List ℕ}
-    {b c : StreamBuilder} {i : ℕ}
-    → Adding f t first k l b c leading i → length t ≤ i → Appended k l b c (parted first (map f (namesOf t)))
-added-all {f} {t} {leading = leading} {k} {l} {b} {c} {i} a h =
-    subst (λ (rs : List Row). Appended k l b c rs)
-    (sym (a .rest ∙ ap (λ (xs : List (List ℕ)). a .rows ++ parted leading (map f xs)) (no-names t i h)
-    ∙ append-nil (a .rows))) (a .appended)
+  -- all others at once
+  pub adding-last : {others : List Parameter} {m : List ℕ} {d : StreamBuilder}
+      → Adding all first k l b c leading others → Appended l m c d (parted leading others)
+      → Appended k m b d (parted first all)
+  adding-last {m = m} {d = d} a q =
+      subst (λ (rs : List Row). Appended k m b d rs) (sym (a .rest)) (then (a .appended) q)
 
-pub same-length : {f : List ℕ → Parameter} {t : List ℕ} {first leading : Bool} {k l : List ℕ}
-    {b c : StreamBuilder} {i : ℕ}
-    → Adding f t first k l b c leading i → length l ≡ length k
-same-length a = kept (a .appended .put)
+  -- none are left
+  pub adding-done : Adding all first k l b c leading [] → Appended k l b c (parted first all)
+  adding-done a =
+      subst (λ (rs : List Row). Appended k l b c rs) (sym (a .rest ∙ append-nil (a .rows))) (a .appended)
+
+  pub adding-kept : {others : List Parameter} → Adding all first k l b c leading others → length l ≡ length k
+  adding-kept a = kept (a .appended .put)

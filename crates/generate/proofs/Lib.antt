@@ -2,3 +2,6 @@
 pub mod Builds
 pub mod Added
 pub mod Constrained
+pub mod Parameters
+pub mod Answers
+pub mod Arguments

@@ -1,20 +1,34 @@
 -- What ties a StreamBuilder's counts and the output to the rows that were added.
 use mathlib.Core.Path.{_≡_}
-use mathlib.Core.List.{List, _∷_}
-use mathlib.Core.Bool.{Bool, true, false}
+use mathlib.Core.List.{List, [], _∷_, _++_, map}
+use mathlib.Core.Bool.{Bool, true, false, cond, _&&_}
 use Prim.Native.Nat.{ℕ, _+_, _≤_}
 use lib.ListN.{length, drop}
 use lib.Seq.{slice}
 use Rattle.token_list.specs.Row.{Row, written}
-use Rattle.token_list.specs.Check.{NAMES}
 use Rattle.token_list.specs.Stream.{Trees}
+use Rattle.token_list.specs.Place.{OneRefusal}
 use Rattle.token_list.specs.declared.check.Cursor.{Cursor}
-use Rattle.output.specs.Contract.{further, Put}
-use Rattle.writing.specs.Rows.{runRows, listOf}
-use Rattle.writing.specs.Names.{namesOf}
-use Rattle.writing.specs.Generics.{constraints, bounds, addedLifetime, addedType}
+use Rattle.token_list.specs.declared.stream.Token.{Token}
+use Rattle.output.specs.Contract.{further, Put, Printed}
+use Rattle.output.specs.Answer.{refused, answerText}
+use Rattle.output.specs.Written.{WrittenAs}
+use Rattle.output.specs.declared.written.Written.{Written}
+use Rattle.writing.specs.Rows.{ident, runRows, listOf}
+use Rattle.writing.specs.Names.{namesOf, rightNames, nameLine, quoted}
+use Rattle.writing.specs.Answer.{Writer, whole, answer, writeNumber}
+use Rattle.writing.specs.Generics.{constraints, bounds, parameterRows, named, addedLifetime, addedType}
+use Rattle.reading.specs.Token.{CONST}
 use Rattle.reading.specs.Declaration.{Parameter}
+use Rattle.parse.specs.Contract.{ParameterOf, boundOf}
+use Rattle.parse.specs.declared.generics.ParameterKind.{ParameterKind}
+use Rattle.parse.specs.declared.generics.ParameterKind.the-variants as kinds
+use Rattle.parse.specs.declared.generics.ParameterRun.{ParameterRun}
+use Rattle.parse.specs.declared.generics.ParameterRun.the-variants as runs
+use Rattle.parse.specs.declared.generics.ParameterAt.{ParameterAt}
+use Rattle.generate.specs.declared.generics.ConstraintsAt.{ConstraintsAt}
 use Rattle.generate.specs.declared.stream_builder.StreamBuilder.{StreamBuilder}
+use Rattle.generate.specs.declared.names.Gathered.{Gathered}
 
 abbrev pub row : ℕ → List ℕ → Row
 row k t = record { kind = k; text = t }
@@ -63,3 +77,78 @@ RunWritten s from to before after b r f =
 abbrev pub constrained : Bool → Trees → List Row
 constrained true ts = constraints ts
 constrained false ts = bounds ts
+
+-- a program's argument is one line more of the one text or of the other
+pub record GatheredAs (arg ls₀ ls ts₀ ts : List ℕ) (at r : Gathered) : Type 0 where
+  pub lifetimes : Put ls₀ ls (at .lifetimes) (r .lifetimes) (cond (quoted arg) (nameLine (drop 1 arg)) [])
+  pub types : Put ts₀ ts (at .types) (r .types) (cond (quoted arg) [] (nameLine arg))
+
+-- ## Parameters that were read
+
+-- where the constraints of a parameter stand that ends at `next`
+abbrev pub constraintsOf : ParameterRun → Cursor → ConstraintsAt
+constraintsOf runs.Absent next = record { from = next; to = next }
+constraintsOf (runs.Bound r) next = record { from = r .from; to = r .to }
+constraintsOf (runs.Default r) next = record { from = next; to = next }
+
+abbrev pub isConst : ParameterKind → Bool
+isConst kinds.Lifetime = false
+isConst kinds.Const = true
+isConst kinds.Type = false
+
+-- the bytes between two cursors are the lines of a run
+pub record RunIn (s : List ℕ) (at : ConstraintsAt) (ts : Trees) : Type 0 where
+  pub part : Part s (at .from) (at .to)
+  pub rows : at .from .row + length (runRows ts) ≡ at .to .row
+  pub bytes : slice (at .from .at) (at .to .at) s ≡ written (runRows ts)
+
+-- the kind and the name of a parameter
+pub record NameIn (s : List ℕ) (kind : ParameterKind) (name : Token) (a : Parameter) : Type 0 where
+  pub told : ParameterOf s kind name a
+  pub start : name .start ≤ name .end
+
+-- and its constraints
+pub record ParameterIn (s : List ℕ) (p : ParameterAt) (a : Parameter) : Type 0 where
+  pub name : NameIn s (p .kind) (p .name) a
+  pub run : RunIn s (constraintsOf (p .run) (p .next)) (boundOf a)
+
+-- a name, with the `'` of a lifetime
+abbrev pub nameRows : Parameter → List Row
+nameRows a = parameterRows (named a)
+
+abbrev pub constRows : Bool → List Row
+constRows true = ident CONST ∷ []
+constRows false = []
+
+-- a parameter as it stands, or its name alone
+abbrev pub shaped : Bool → Parameter → Parameter
+shaped true a = named a
+shaped false a = a
+
+-- ## The three writers
+
+-- the parameters that are written: the declared ones, as they stand or by their names, between the added
+abbrev pub parametersBy : Bool → List ℕ → List ℕ → List Parameter → List Parameter
+parametersBy names ls ts ps =
+    map addedLifetime (namesOf ls) ++ (map (shaped names) ps ++ map addedType (namesOf ts))
+
+-- whether all added names are right
+abbrev pub rightTexts : List ℕ → List ℕ → Bool
+rightTexts ls ts = rightNames (namesOf ls) && rightNames (namesOf ts)
+
+abbrev pub writer : Bool → List ℕ → List ℕ → Writer
+writer names ls ts = record { parameters = parametersBy names ls ts; right = rightTexts ls ts }
+
+-- the whole answer of a writer for a list s, the whole output, and what holds of a refusal
+pub record Answered (w : Writer) (s before after : List ℕ) (r : Written) : Type 0 where
+  pub answered : WrittenAs before after (answer w s (length before)) r
+  pub refusal : (n p : ℕ) → answer w s (length before) ≡ refused n p → OneRefusal writeNumber s n p
+
+-- the report: the text of the answer, in an output that was `before` and is `after`
+pub record Reported (w : Writer) (most : ℕ) (s before after : List ℕ) (r : ℕ) : Type 0 where
+  pub text : Printed before after r (answerText (answer w s (length before)))
+  -- an output of so many bytes has room for every list, so the text is never that of refusal 8
+  pub roomy : most ≤ length before → Printed before after r (answerText (whole w s))
+  pub short : r ≤ most
+  -- what holds of a refusal that is printed
+  pub refusal : (n p : ℕ) → answer w s (length before) ≡ refused n p → OneRefusal writeNumber s n p

@@ -1,8 +1,53 @@
-// The writers of virtue's parse/generics.rs, as far as they need no reader.
+// The writers of virtue's parse/generics.rs: generics as they stand, with added names, or as names
+// alone, written as a list into a lent output.
+use crate::names::add_names;
+use crate::names::right_names;
 use crate::stream_builder::StreamBuilder;
+use output::written::Written;
+use output::written::put_answer;
+use parse::generics::ParameterAt;
+use parse::generics::ParameterKind;
+use parse::generics::ParameterRun;
+use parse::generics::ParameterStep;
+use parse::generics::is_lifetime;
+use parse::generics::parameter;
+use parse::item::ItemStep;
+use parse::item::item;
+use parse::utils::is_punct;
+use parse::utils::past;
+use token_list::check::Checked;
 use token_list::check::Cursor;
-ghost use Rattle.writing.specs.Generics.{constraints};
-ghost use Rattle.generate.specs.Contract.{Part, RunWritten, constrained};
+use token_list::check::END;
+use token_list::check::Refusal;
+use token_list::check::check;
+use token_list::layout::FIRST_ROW;
+use token_list::stream::Peeked;
+use token_list::stream::Token;
+use token_list::stream::peek;
+ghost use mathlib.Core.Path.{_≡_};
+ghost use mathlib.Core.List.{List, [], _∷_, _++_, map};
+ghost use Prim.Native.Nat.{ℕ};
+ghost use lib.ListN.{length};
+ghost use Rattle.token_list.specs.Layout.{FIRST-ROW};
+ghost use Rattle.token_list.specs.Check as list;
+ghost use Rattle.token_list.specs.Stream.{at};
+ghost use Rattle.token_list.specs.Contract.{InList};
+ghost use Rattle.output.specs.Answer.{wrote, fitted};
+ghost use Rattle.output.specs.Written.{WrittenAs};
+ghost use Rattle.reading.specs.Declaration.{Parameter, Generics};
+ghost use Rattle.reading.specs.Reading.{every, parameter, generics, item};
+ghost use Rattle.parse.specs.Contract.{InsideAt};
+ghost use Rattle.writing.specs.Rows.{listOf};
+ghost use Rattle.writing.specs.Names.{namesOf};
+ghost use Rattle.writing.specs.Generics.{constraints, parameterRows, parted, angledRows, genericsRows, addedType};
+ghost use Rattle.writing.specs.Answer.{implGenerics, typeGenerics, withAdditional, itemAnswer, answer, MOST, mostAdded};
+ghost use Rattle.generate.specs.Contract.{Appended, Built, Part, RunWritten, constrained, constraintsOf, isConst, ParameterIn, NameIn, nameRows, constRows, shaped, parametersBy, rightTexts, writer, Answered, Reported};
+
+// Where constraints stand in the list that was read.
+pub struct ConstraintsAt {
+    pub from: Cursor,
+    pub to: Cursor,
+}
 
 // `:` and the run of the list s from a cursor up to another.
 fn put_run(b: StreamBuilder, out: &mut [u8], s: &[u8], from: Cursor, to: Cursor) -> StreamBuilder
@@ -14,7 +59,7 @@ fn put_run(b: StreamBuilder, out: &mut [u8], s: &[u8], from: Cursor, to: Cursor)
 }
 
 // The same where the run is not empty, or always.
-pub fn put_constraints(
+fn put_constraints(
     b: StreamBuilder,
     out: &mut [u8],
     s: &[u8],
@@ -33,4 +78,353 @@ pub fn put_constraints(
         return b;
     }
     put_run(b, out, s, from, to)
+}
+
+// virtue's Generic::constraints; a default is none of them, and where there are none an empty part
+// stands for them.
+fn constraints(run: ParameterRun, next: Cursor) -> ConstraintsAt
+    ensures { λ r. ⌜ r ≡ constraintsOf run next ⌝ }
+{
+    match run {
+        ParameterRun::Absent => ConstraintsAt {
+            from: next,
+            to: next,
+        },
+        ParameterRun::Default(_) => ConstraintsAt {
+            from: next,
+            to: next,
+        },
+        ParameterRun::Bound(r) => {
+            let from = r.from;
+            let to = r.to;
+            ConstraintsAt { from, to }
+        }
+    }
+}
+
+fn is_const(kind: ParameterKind) -> bool
+    ensures { λ r. ⌜ r ≡ isConst kind ⌝ }
+{
+    match kind {
+        ParameterKind::Lifetime => false,
+        ParameterKind::Const => true,
+        ParameterKind::Type => false,
+    }
+}
+
+// A parameter's name, with the `'` of a lifetime.
+fn append_name(
+    b: StreamBuilder,
+    out: &mut [u8],
+    s: &[u8],
+    kind: ParameterKind,
+    name: Token,
+) -> StreamBuilder
+    requires { ⌜ ((a : Parameter) × NameIn (now s) kind name a) ⌝ }
+    ensures { λ r. ⌜ ((a : Parameter) → NameIn (now (s .entry)) kind name a →
+        Appended (now (out .entry)) (now (out .exit)) b r (nameRows a)) ⌝ }
+{
+    if is_lifetime(kind) {
+        return b.lifetime(out, s, name);
+    }
+    b.ident(out, s, name)
+}
+
+// The word of a const.
+fn append_const(b: StreamBuilder, out: &mut [u8], constant: bool) -> StreamBuilder
+    ensures { λ r. ⌜ Appended (now (out .entry)) (now (out .exit)) b r (constRows constant) ⌝ }
+{
+    if constant {
+        return b.ident_str(out, b"const");
+    }
+    b
+}
+
+// virtue's Generic::append_to_result_with_constraints
+fn append_to_result_with_constraints(
+    b: StreamBuilder,
+    out: &mut [u8],
+    s: &[u8],
+    p: ParameterAt,
+) -> StreamBuilder
+    requires { ⌜ ((a : Parameter) × ParameterIn (now s) p a) ⌝ }
+    ensures { λ r. ⌜ ((a : Parameter) → ParameterIn (now (s .entry)) p a →
+        Appended (now (out .entry)) (now (out .exit)) b r (parameterRows a)) ⌝ }
+{
+    let kind = p.kind;
+    let name = p.name;
+    let run = p.run;
+    let next = p.next;
+    let constant = is_const(kind);
+    let word = append_const(b, out, constant);
+    let named = append_name(word, out, s, kind, name);
+    let c = constraints(run, next);
+    let from = c.from;
+    let to = c.to;
+    put_constraints(named, out, s, from, to, constant)
+}
+
+// A parameter, or its name alone.
+fn append_parameter(
+    b: StreamBuilder,
+    out: &mut [u8],
+    s: &[u8],
+    p: ParameterAt,
+    names: bool,
+) -> StreamBuilder
+    requires { ⌜ ((a : Parameter) × ParameterIn (now s) p a) ⌝ }
+    ensures { λ r. ⌜ ((a : Parameter) → ParameterIn (now (s .entry)) p a →
+        Appended (now (out .entry)) (now (out .exit)) b r (parameterRows (shaped names a))) ⌝ }
+{
+    if names {
+        let kind = p.kind;
+        let name = p.name;
+        return append_name(b, out, s, kind, name);
+    }
+    append_to_result_with_constraints(b, out, s, p)
+}
+
+// The same behind a `,`, the first parameter apart.
+fn add_parameter(
+    b: StreamBuilder,
+    out: &mut [u8],
+    s: &[u8],
+    p: ParameterAt,
+    names: bool,
+    first: bool,
+) -> StreamBuilder
+    requires { ⌜ ((a : Parameter) × ParameterIn (now s) p a) ⌝ }
+    ensures { λ r. ⌜ ((a : Parameter) → ParameterIn (now (s .entry)) p a →
+        Appended (now (out .entry)) (now (out .exit)) b r (parted first (shaped names a ∷ []))) ⌝ }
+{
+    if first {
+        return append_parameter(b, out, s, p, names);
+    }
+    let parting = b.punct(out, b',');
+    append_parameter(parting, out, s, p, names)
+}
+
+// The parameters that are read from `from` on, then the added types; `angle` is the row of the `<`.
+fn add_parameters(
+    b: StreamBuilder,
+    out: &mut [u8],
+    s: &[u8],
+    from: Cursor,
+    roles: &mut [u8],
+    angle: usize,
+    names: bool,
+    first: bool,
+    types: &[u8],
+) -> StreamBuilder
+    requires { ⌜ ((n : ℕ) × (list.check (now s) ≡ list.passed n)) ⌝ }
+    requires { ⌜ InList (now s) from ⌝ }
+    ensures { λ r. ⌜ ((ps : List Parameter) → InsideAt (every (parameter angle)) (now (s .entry)) from ps →
+        Appended (now (out .entry)) (now (out .exit)) b r
+        (parted first (map (shaped names) ps ++ map addedType (namesOf (now (types .entry)))))) ⌝ }
+{
+    let mut builder = b;
+    let mut leading = first;
+    let mut c = from;
+    loop {
+        match parameter(s, c, roles, angle) {
+            ParameterStep::One(p) => {
+                builder = add_parameter(builder, out, s, p, names, leading);
+                leading = false;
+                c = p.next;
+            }
+            ParameterStep::Done(_) => {
+                return add_names(builder, out, types, false, leading);
+            }
+            ParameterStep::Refused(_) => {
+                return builder;
+            }
+        }
+    }
+}
+
+// All parameters between `<` and `>`: added lifetimes first, added types last.
+fn put_angled(
+    b: StreamBuilder,
+    out: &mut [u8],
+    s: &[u8],
+    from: Cursor,
+    roles: &mut [u8],
+    angle: usize,
+    names: bool,
+    lifetimes: &[u8],
+    types: &[u8],
+) -> StreamBuilder
+    requires { ⌜ ((n : ℕ) × (list.check (now s) ≡ list.passed n)) ⌝ }
+    requires { ⌜ InList (now s) from ⌝ }
+    ensures { λ r. ⌜ ((ps : List Parameter) → InsideAt (every (parameter angle)) (now (s .entry)) from ps →
+        Appended (now (out .entry)) (now (out .exit)) b r
+        (angledRows (parametersBy names (now (lifetimes .entry)) (now (types .entry)) ps))) ⌝ }
+{
+    let open = b.punct(out, b'<');
+    let added = add_names(open, out, lifetimes, true, true);
+    let first = lifetimes.len() == 0;
+    let all = add_parameters(added, out, s, from, roles, angle, names, first, types);
+    all.punct(out, b'>')
+}
+
+// The list that is written for the generics that are read at c.
+fn put_generics(
+    s: &[u8],
+    c: Cursor,
+    roles: &mut [u8],
+    names: bool,
+    lifetimes: &[u8],
+    types: &[u8],
+    out: &mut [u8],
+) -> StreamBuilder
+    requires { ⌜ ((n : ℕ) × (list.check (now s) ≡ list.passed n)) ⌝ }
+    requires { ⌜ InList (now s) c ⌝ }
+    ensures { λ r. ⌜ ((g : Generics) → InsideAt generics (now (s .entry)) c g →
+        Built (now (out .entry)) (now (out .exit)) r
+        (genericsRows (parametersBy names (now (lifetimes .entry)) (now (types .entry))) g)) ⌝ }
+{
+    let b = StreamBuilder::new(out);
+    let row = c.row;
+    match peek(s, c) {
+        Peeked::Nothing => b,
+        Peeked::Group(_) => b,
+        Peeked::Leaf(t) => {
+            if !is_punct(t, b'<') {
+                return b;
+            }
+            let inside = past(s, c, t);
+            put_angled(b, out, s, inside, roles, row, names, lifetimes, types)
+        }
+    }
+}
+
+// Measures the list, and writes it where the output is long enough.
+fn fit_generics(
+    s: &[u8],
+    c: Cursor,
+    roles: &mut [u8],
+    names: bool,
+    lifetimes: &[u8],
+    types: &[u8],
+    out: &mut [u8],
+) -> Written
+    requires { ⌜ ((n : ℕ) × (list.check (now s) ≡ list.passed n)) ⌝ }
+    requires { ⌜ InList (now s) c ⌝ }
+    ensures { λ r. ⌜ ((g : Generics) → InsideAt generics (now (s .entry)) c g →
+        WrittenAs (now (out .entry)) (now (out .exit)) (fitted (length (now (out .entry)))
+        (wrote (listOf (genericsRows (parametersBy names (now (lifetimes .entry)) (now (types .entry))) g)))) r) ⌝ }
+{
+    let mut nowhere = [0u8; 1];
+    let needed = put_generics(s, c, roles, names, lifetimes, types, &mut nowhere);
+    if out.len() < needed.bytes {
+        return Written::Refused(Refusal {
+            number: 8,
+            place: END,
+        });
+    }
+    let b = put_generics(s, c, roles, names, lifetimes, types, out);
+    Written::Text(b.bytes)
+}
+
+// Whether every added name is right.
+fn right_texts(lifetimes: &[u8], types: &[u8]) -> bool
+    ensures { λ r. ⌜ r ≡ rightTexts (now (lifetimes .entry)) (now (types .entry)) ⌝ }
+{
+    if !right_names(lifetimes) {
+        return false;
+    }
+    right_names(types)
+}
+
+// The list for the declaration of a list that passes the check.
+fn read_generics(
+    s: &[u8],
+    names: bool,
+    lifetimes: &[u8],
+    types: &[u8],
+    out: &mut [u8],
+    roles: &mut [u8],
+) -> Written
+    requires { ⌜ ((n : ℕ) × (list.check (now s) ≡ list.passed n)) ⌝ }
+    ensures { λ r. ⌜ WrittenAs (now (out .entry)) (now (out .exit)) (fitted (length (now (out .entry)))
+        (itemAnswer (writer names (now (lifetimes .entry)) (now (types .entry)))
+        (item 0 (at (now (s .entry)) FIRST-ROW .here)))) r ⌝ }
+{
+    let first = Cursor {
+        at: FIRST_ROW,
+        row: 0,
+    };
+    match item(s, first, roles) {
+        ItemStep::Refused(r) => Written::Refused(r),
+        ItemStep::At(d) => {
+            if !right_texts(lifetimes, types) {
+                return Written::Refused(Refusal {
+                    number: 30,
+                    place: END,
+                });
+            }
+            let c = d.generics;
+            fit_generics(s, c, roles, names, lifetimes, types, out)
+        }
+    }
+}
+
+// What the three writers share: a reader's role bytes are not kept.
+fn write(list: &[u8], names: bool, lifetimes: &[u8], types: &[u8], out: &mut [u8]) -> Written
+    ensures { λ r. ⌜ WrittenAs (now (out .entry)) (now (out .exit))
+        (answer (writer names (now (lifetimes .entry)) (now (types .entry))) (now (list .entry))
+        (length (now (out .entry)))) r ⌝ }
+{
+    match check(list) {
+        Checked::Refused(r) => Written::Refused(r),
+        Checked::Passed(_) => {
+            let mut roles = [0u8; 1];
+            read_generics(list, names, lifetimes, types, out, &mut roles)
+        }
+    }
+}
+
+// virtue's Generics::impl_generics
+pub fn impl_generics(list: &[u8], out: &mut [u8]) -> Written
+    ensures { λ r. ⌜ Answered implGenerics (now (list .entry)) (now (out .entry)) (now (out .exit)) r ⌝ }
+{
+    write(list, false, b"", b"", out)
+}
+
+// virtue's Generics::impl_generics_with_additional: the added names are the lines of two texts.
+pub fn impl_generics_with_additional(
+    list: &[u8],
+    lifetimes: &[u8],
+    types: &[u8],
+    out: &mut [u8],
+) -> Written
+    ensures { λ r. ⌜ Answered (withAdditional (now (lifetimes .entry)) (now (types .entry))) (now (list .entry))
+        (now (out .entry)) (now (out .exit)) r ⌝ }
+{
+    write(list, false, lifetimes, types, out)
+}
+
+// virtue's Generics::type_generics
+pub fn type_generics(list: &[u8], out: &mut [u8]) -> Written
+    ensures { λ r. ⌜ Answered typeGenerics (now (list .entry)) (now (out .entry)) (now (out .exit)) r ⌝ }
+{
+    write(list, true, b"", b"", out)
+}
+
+// What a program prints: the list that impl_generics_with_additional writes, or the refusal.
+pub fn report_impl_generics(list: &[u8], lifetimes: &[u8], types: &[u8], out: &mut [u8]) -> usize
+    ensures { λ r. ⌜ Reported (withAdditional (now (lifetimes .entry)) (now (types .entry)))
+        (mostAdded (length (now (lifetimes .entry))) (length (now (types .entry)))) (now (list .entry))
+        (now (out .entry)) (now (out .exit)) r ⌝ }
+{
+    let answer = impl_generics_with_additional(list, lifetimes, types, out);
+    put_answer(out, answer)
+}
+
+// The same for type_generics.
+pub fn report_type_generics(list: &[u8], out: &mut [u8]) -> usize
+    ensures { λ r. ⌜ Reported typeGenerics MOST (now (list .entry)) (now (out .entry)) (now (out .exit)) r ⌝ }
+{
+    let answer = type_generics(list, out);
+    put_answer(out, answer)
 }

@@ -1,14 +1,18 @@
 // Added names: the lines of a text.
 use crate::stream_builder::StreamBuilder;
+use output::put::put_byte;
+use output::put::put_bytes;
 use token_list::layout::MAX_TEXT;
 use token_list::row::is_plain_name;
+use token_list::text::is_one_of;
 ghost use mathlib.Core.Path.{_≡_};
 ghost use mathlib.Core.List.{[], _∷_, map};
 ghost use Prim.Native.Nat.{_<_};
 ghost use lib.ListN.{length};
 ghost use Rattle.writing.specs.Generics.{parameterRows, parted};
-ghost use Rattle.writing.specs.Names.{namesOf, rightNames};
-ghost use Rattle.generate.specs.Contract.{NameEnd, Appended, added};
+ghost use Rattle.output.specs.Contract.{Put};
+ghost use Rattle.writing.specs.Names.{namesOf, rightNames, nameLine, quoted};
+ghost use Rattle.generate.specs.Contract.{NameEnd, Appended, added, GatheredAs};
 
 // Where the name at `from` ends: at an LF, or with the text.
 pub fn name_end(text: &[u8], from: usize) -> usize
@@ -93,4 +97,51 @@ pub fn add_names(
         i = end + 1;
     }
     builder
+}
+
+// How long two texts of added names are, lifetimes and types.
+pub struct Gathered {
+    pub lifetimes: usize,
+    pub types: usize,
+}
+
+// A name as the next line of a text. One with an LF would be two: an empty line, which is no right
+// name, stands for it.
+fn put_line(text: &mut [u8], at: usize, name: &[u8]) -> usize
+    ensures { λ r. ⌜ Put (now (text .entry)) (now (text .exit)) at r (nameLine (now (name .entry))) ⌝ }
+{
+    if is_one_of(b'\n', name) {
+        return put_byte(text, at, b'\n');
+    }
+    let end = put_bytes(text, at, name);
+    put_byte(text, end, b'\n')
+}
+
+// Whether a program's argument begins with `'`.
+fn is_quoted(arg: &[u8]) -> bool
+    ensures { λ r. ⌜ r ≡ quoted (now (arg .entry)) ⌝ }
+{
+    if arg.len() == 0 {
+        return false;
+    }
+    arg[0] == b'\''
+}
+
+// Adds a program's argument: one that begins with `'` is a lifetime, any other a type.
+pub fn add_argument(arg: &[u8], lifetimes: &mut [u8], types: &mut [u8], at: Gathered) -> Gathered
+    ensures { λ r. ⌜ GatheredAs (now (arg .entry)) (now (lifetimes .entry)) (now (lifetimes .exit))
+        (now (types .entry)) (now (types .exit)) at r ⌝ }
+{
+    if is_quoted(arg) {
+        let end = put_line(lifetimes, at.lifetimes, &arg[1..]);
+        return Gathered {
+            lifetimes: end,
+            types: at.types,
+        };
+    }
+    let end = put_line(types, at.types, arg);
+    Gathered {
+        lifetimes: at.lifetimes,
+        types: end,
+    }
 }

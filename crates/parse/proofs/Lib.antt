@@ -11,3 +11,4 @@ pub mod Loops
 pub mod Parameters
 pub mod Bodies
 pub mod Items
+pub mod Inside

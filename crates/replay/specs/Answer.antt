@@ -9,6 +9,7 @@ use Rattle.token_list.specs.Layout.{MAX-ROWS}
 use Rattle.token_list.specs.Text.{same, member}
 use Rattle.token_list.specs.Check.{check}
 use Rattle.output.specs.Text.{refusalText}
+use Rattle.output.specs.Answer as outputs
 use Rattle.report.specs.Text.{answerText}
 use Rattle.reading.specs.Role as role
 use Rattle.reading.specs.Answer.{Answer, declared, refused, answer}
@@ -54,9 +55,9 @@ abbrev pub everyFits : List ℕ → Answer → Bool
 everyFits t (declared d rs) = lettersFit true t rs
 everyFits t (refused n p) = false
 
-abbrev pub listingFits : List ℕ → listing.Answer → Bool
-listingFits t (listing.listed text) = same t text
-listingFits t (listing.refused n p) = same t (refusalText n p)
+-- a text that is written, or the refusal
+abbrev pub writtenFits : List ℕ → outputs.Answer → Bool
+writtenFits t a = same t (outputs.answerText a)
 
 -- the bytes of the output that a listing is written to: room for every one
 abbrev pub OUTPUT : ℕ
@@ -76,5 +77,5 @@ abbrev pub right : Topic → List ℕ → List ℕ → Bool
 right Check l t = same t (answerText (check l))
 right Roles l t = rolesFit t (answer l MAX-ROWS)
 right Every l t = everyFits t (answer l MAX-ROWS)
-right Listing l t = listingFits t (listing.answer l OUTPUT)
+right Listing l t = writtenFits t (listing.answer l OUTPUT)
 right Tagged l t = taggedFits t (taggedAnswer PREFIX l MAX-ROWS)

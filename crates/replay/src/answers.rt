@@ -1,8 +1,8 @@
 // This repository's own answers, compared with recorded ones: one function for each section.
 use crate::header::Topic;
-use describe::listing::Listed;
 use describe::listing::write_listing;
 use output::put::put_refusal;
+use output::written::Written;
 use parse::role::BOUND;
 use parse::role::FIELD_NAME;
 use parse::role::PARAMETER_NAME;
@@ -29,7 +29,7 @@ ghost use Rattle.report.specs.Text.{answerText};
 ghost use Rattle.reading.specs.Answer.{answer};
 ghost use Rattle.describe.specs.Listing as listing;
 ghost use Rattle.tagged_reading.specs.Answer as tagged;
-ghost use Rattle.replay.specs.Answer.{OUTPUT, letterFits, lettersFit, acceptedFits, rolesFit, everyFits, listingFits, PREFIX, taggedFits, right};
+ghost use Rattle.replay.specs.Answer.{OUTPUT, letterFits, lettersFit, acceptedFits, rolesFit, everyFits, writtenFits, PREFIX, taggedFits, right};
 
 // Whether the bytes from start to end are the report of the list check.
 fn is_check(list: &[u8], s: &[u8], start: usize, end: usize) -> bool
@@ -150,12 +150,12 @@ fn listing_buffer() -> [u8; OUTPUT]
 // Whether the bytes from start to end are the listing, or the refusal.
 fn is_listing(list: &[u8], s: &[u8], start: usize, end: usize) -> bool
     requires { ⌜ end ≤ length (now s) ⌝ }
-    ensures { λ r. ⌜ r ≡ listingFits (slice start end (now (s .entry))) (listing.answer (now (list .entry)) OUTPUT) ⌝ }
+    ensures { λ r. ⌜ r ≡ writtenFits (slice start end (now (s .entry))) (listing.answer (now (list .entry)) OUTPUT) ⌝ }
 {
     let mut out = listing_buffer();
     match write_listing(list, &mut out) {
-        Listed::Refused(r) => is_refusal(r, s, start, end),
-        Listed::Written(n) => text_is(s, start, end, &out[..n]),
+        Written::Refused(r) => is_refusal(r, s, start, end),
+        Written::Text(n) => text_is(s, start, end, &out[..n]),
     }
 }
 

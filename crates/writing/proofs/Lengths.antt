@@ -4,7 +4,6 @@ use mathlib.Core.Bool.{Bool, true, false, cond}
 use mathlib.Core.List.{List, [], _∷_, _++_, map}
 use Prim.Native.Nat.{ℕ, suc, _+_, _*_, _≤_}
 use native.Mathlib.Omega.{arith}
-use borrow.Author.Tests.{le-ltb}
 use lib.Dec.{eqb}
 use lib.ListN.{length, length-take, length-drop}
 use Rattle.token_list.specs.Byte.{GREATER, LF}
@@ -12,7 +11,6 @@ use Rattle.token_list.specs.Layout.{FIRST-ROW}
 use Rattle.token_list.specs.Row.{Row, written, Lines, tail, line, lines, byte}
 use Rattle.token_list.specs.Check as list
 use Rattle.token_list.specs.Stream.{Trees, size, at}
-use Rattle.token_list.proofs.Texts.{passed-over}
 use Rattle.token_list.proofs.Passed.{passed-list}
 use Rattle.token_list.proofs.Bounds.{bounds}
 use Rattle.reading.specs.Declaration.{Parameter, lifetime, constant, type, Generics, without, angled, Declaration}
@@ -23,7 +21,9 @@ use Rattle.writing.specs.Rows.{ident, punct, listOf}
 use Rattle.writing.specs.Generics as generics
 use Rattle.writing.specs.Generics.{parameterRows, parted, angledRows, genericsRows, named, names, addedLifetime, addedType, additional}
 use Rattle.writing.specs.Names.{lineNames, namesOf}
-use Rattle.writing.specs.Answer.{Answer, wrote, refused, Writer, implGenerics, typeGenerics, withAdditional, text, itemAnswer, whole, fitted, answer, MOST, addedBytes, mostWith, Fits}
+use Rattle.output.specs.Answer.{Answer, wrote, refused}
+use Rattle.output.proofs.Answers.{Within, fitted-same}
+use Rattle.writing.specs.Answer.{Writer, implGenerics, typeGenerics, withAdditional, text, itemAnswer, whole, answer, MOST, addedBytes, mostWith, mostAdded, Fits}
 use Rattle.writing.proofs.Balanced.{list-stream}
 use Rattle.writing.proofs.Declared.{row-bytes, rows-bytes, cost, total, declared-of}
 
@@ -77,6 +77,17 @@ names-bytes (b ∷ bs) = go (eqb b LF) (lines bs) (names-bytes bs)
   where
     go : (lf : Bool) (ls : Lines) → textBytes (lineNames ls) ≤ length bs
         → textBytes (lineNames (byte lf b ls)) ≤ suc (length bs)
+    go true ls h = omega arith
+    go false (tail []) h = omega arith
+    go false (tail (x ∷ xs)) h = omega arith
+    go false (line l ls) h = omega arith
+
+names-count : (t : List ℕ) → length (namesOf t) ≤ length t
+names-count [] = omega arith
+names-count (b ∷ bs) = go (eqb b LF) (lines bs) (names-count bs)
+  where
+    go : (lf : Bool) (ls : Lines) → length (lineNames ls) ≤ length bs
+        → length (lineNames (byte lf b ls)) ≤ suc (length bs)
     go true ls h = omega arith
     go false (tail []) h = omega arith
     go false (tail (x ∷ xs)) h = omega arith
@@ -137,11 +148,12 @@ module _ (w : Writer) (more : ℕ) (adds : (ps : List Parameter) → total (w .p
 
   fits-by : (n : ℕ) → Fits w (MOST + more) s n
   unfolding answer
-  fits-by n = record { longest = whole-short; room = λ h. room (whole w s) whole-short h }
+  fits-by n =
+      record { longest = whole-short; room = λ h. fitted-same n (whole w s) (within (whole w s) whole-short) h }
     where
-      room : (a : Answer) → Short a → MOST + more ≤ n → fitted n a ≡ a
-      room (wrote t) k h = passed-over _ _ _ (le-ltb n (length t) (omega (arith, k t refl)))
-      room (refused m p) k h = refl
+      within : (a : Answer) → Short a → Within (MOST + more) a
+      within (wrote t) k = k t refl
+      within (refused m p) k = tt
 
 pub impl-fits : (s : List ℕ) (n : ℕ) → Fits implGenerics MOST s n
 impl-fits s n = fits-by implGenerics 0 (λ ps. omega arith) s n
@@ -166,3 +178,7 @@ added-total ls ts ps =
 
 pub additional-fits : (ls ts s : List ℕ) (n : ℕ) → Fits (withAdditional ls ts) (mostWith ls ts) s n
 additional-fits ls ts s n = fits-by (withAdditional ls ts) (addedBytes ls ts) (added-total ls ts) s n
+
+-- by the bytes of the texts alone
+pub added-most : (ls ts : List ℕ) → mostWith ls ts ≤ mostAdded (length ls) (length ts)
+added-most ls ts = omega (arith, names-count ls, names-count ts)

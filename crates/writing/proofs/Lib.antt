@@ -13,3 +13,4 @@ pub mod Passes
 pub mod Lists
 pub mod Copied
 pub mod Refusals
+pub mod Names

@@ -66,18 +66,31 @@ weaken : {A : Type 0} {N M : A → List ℕ → Trees → Type 0} {t : Took A} �
 weaken (met rs us h) k = met rs us (k _ rs us h)
 weaken refused k = refused
 
-pub run-read : (row : ℕ) (ts : Trees) → Sound (λ b rs us. RunAt ts b us) (r.run parameterStops role.bound row ts)
-run-read row ts =
+-- a run by its roles, one for each of its rows
+run-held : (row : ℕ) (ts : Trees)
+    → Sound (λ b rs us. RunAt ts b us × (length rs ≡ size b)) (r.run parameterStops role.bound row ts)
+run-held row ts =
     go (r.runFrom parameterStops role.bound 0 false row ts) (runFrom-sound parameterStops role.bound 0 false row ts)
   where
     go : (t : Took RunEnd) → Sound (λ x rs us. g.Run everything parameterStops role.bound 0 false ts us rs) t
-        → Sound (λ b rs us. RunAt ts b us) (r.kept ts t)
+        → Sound (λ b rs us. RunAt ts b us × (length rs ≡ size b)) (r.kept ts t)
     go t refused = refused
     go t (met rs us h) =
         let i = held h in
         let b = ap (λ (t : Trees). r.firstRows t (length rs)) (i .cut)
         ∙ front-joined (i .tokens) us (length rs) (i .counted) in
-        met rs us (subst (λ (t : Trees). RunAt ts t us) (sym b) (record { cut = i .cut; roles = rs; alone = i .alone }))
+        met rs us (subst (λ (t : Trees). RunAt ts t us × (length rs ≡ size t)) (sym b)
+        (record { cut = i .cut; roles = rs; alone = i .alone }, i .counted))
+
+pub run-read : (row : ℕ) (ts : Trees) → Sound (λ b rs us. RunAt ts b us) (r.run parameterStops role.bound row ts)
+run-read row ts = weaken (run-held row ts) (λ b rs us h. h .0)
+
+-- where a run is cut off, and that it has a role for each row
+abbrev pub CutBy : Trees → Took Trees → Type 0
+CutBy ts t = Sound (λ b rs us. (ts ≡ joined b us) × (length rs ≡ size b)) t
+
+pub run-cut : (row : ℕ) (ts : Trees) → CutBy ts (r.run parameterStops role.bound row ts)
+run-cut row ts = weaken (run-held row ts) (λ b rs us h. (h .0 .cut, h .1))
 
 marked-read : (m row : ℕ) (ts : Trees) → Sound (λ b rs us. MarkedAt m ts b us) (r.marked-run m row ts)
 marked-read m row ts = after-met row (punctIf-sound m row ts) go

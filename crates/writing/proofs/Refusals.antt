@@ -1,12 +1,11 @@
 -- The answer of a writer by the steps of its frame; what every refusal is: one number, with a row or the end mark.
-use mathlib.Core.Path.{_≡_, refl, ap, sym, subst}
-use mathlib.Core.Logic.{inl}
+use mathlib.Core.Path.{_≡_, refl, ap, subst}
+use mathlib.Core.Logic.{⊎-elim, inl}
 use mathlib.Core.Bool.{Bool, true, false, cond, _||_}
 use mathlib.Core.List.{List}
 use Prim.Native.Nat.{ℕ}
 use native.Mathlib.Omega.{arith}
-use lib.Dec.{ltb, eqb}
-use lib.ListN.{length}
+use lib.Dec.{eqb}
 use Rattle.token_list.specs.Check as list
 use Rattle.token_list.specs.Layout.{FIRST-ROW}
 use Rattle.token_list.specs.Place.{OneRefusal}
@@ -17,7 +16,9 @@ use Rattle.reading.specs.Reading.{item}
 use Rattle.reading.specs.Answer.{framed, readNumber}
 use Rattle.reading.proofs.Frame.{framed-cases}
 use Rattle.reading.proofs.Places.{check-read, item-read}
-use Rattle.writing.specs.Answer.{Answer, wrote, refused, Writer, text, itemAnswer, whole, fitted, answer, writeNumber}
+use Rattle.output.specs.Answer.{Answer, wrote, refused, fitted}
+use Rattle.output.proofs.Answers.{fitted-refused}
+use Rattle.writing.specs.Answer.{Writer, text, itemAnswer, whole, answer, writeNumber}
 
 -- ## By the list check
 
@@ -66,12 +67,7 @@ module _ (w : Writer) (s : List ℕ) where
   item-told rows c (stopped k m o) e = read-told m o (item-read s rows m o c e)
 
   fitted-told : (n : ℕ) (a : Answer) → Told a → Told (fitted n a)
-  fitted-told n (refused m o) h = h
-  fitted-told n (wrote t) h = room (ltb n (length t))
-    where
-      room : (b : Bool) → Told (cond b (refused 8 list.END) (wrote t))
-      room true = at-end 8 refl
-      room false = wrote-told t
+  fitted-told n a h m p e = ⊎-elim (h m p) (at-end 8 refl m p) (fitted-refused n a e)
 
   -- in an output of n bytes
   pub write-refusal : (n : ℕ) → Told (answer w s n)

@@ -1,26 +1,20 @@
--- The whole answer of each writer, and the whole output (document 01, "What the reader hands back": the list check, the
+-- The whole answer of each writer (document 01, "What the reader hands back": the list check, the
 -- reading left to right, then 30, and the output's length last).
 use mathlib.Core.Path.{_≡_}
 use mathlib.Core.Bool.{Bool, true, false, cond, _&&_, _||_}
-use mathlib.Core.List.{List, []}
+use mathlib.Core.List.{List}
 use Prim.Native.Nat.{ℕ, _+_, _*_, _≤_}
-use lib.Dec.{ltb, eqb}
+use lib.Dec.{eqb}
 use lib.ListN.{length}
-use lib.Seq.{sets}
 use Rattle.token_list.specs.Layout.{MAX-BYTES, MAX-ROWS}
 use Rattle.token_list.specs.Check as list
 use Rattle.reading.specs.Declaration.{Parameter, Declaration}
 use Rattle.reading.specs.Took.{Took, took, stopped}
 use Rattle.reading.specs.Answer.{framed, readNumber}
+use Rattle.output.specs.Answer.{Answer, wrote, refused, fitted}
 use Rattle.writing.specs.Rows.{listOf}
 use Rattle.writing.specs.Generics as generics
 use Rattle.writing.specs.Names.{namesOf, rightNames}
-
-pub data Answer : Type 0 where
-  -- the list
-  wrote : List ℕ → Answer
-  -- the refusal's number and place
-  refused : ℕ → ℕ → Answer
 
 -- a writer, by what it makes of the declared parameters, and whether every added name is right
 pub record Writer : Type 0 where
@@ -54,19 +48,9 @@ itemAnswer w (stopped c n p) = refused n p
 unfoldable pub whole : Writer → List ℕ → Answer
 whole w s = framed refused (λ rows. false) (itemAnswer w) s (list.check s)
 
--- in an output of n bytes
-abbrev pub fitted : ℕ → Answer → Answer
-fitted n (wrote t) = cond (ltb n (length t)) (refused 8 list.END) (wrote t)
-fitted n (refused m p) = refused m p
-
 -- for a list and an output of n bytes
 unfoldable pub answer : Writer → List ℕ → ℕ → Answer
 answer w s n = fitted n (whole w s)
-
--- the output: the list, and past it the bytes that stood there; after a refusal all stay
-abbrev pub output : List ℕ → Answer → List ℕ
-output x (wrote t) = sets x 0 t
-output x (refused n p) = x
 
 -- the numbers of a writer's refusals
 abbrev pub writeNumber : ℕ → Bool
@@ -84,6 +68,10 @@ addedBytes ls ts = (length ls + 11 * length (namesOf ls)) + (length ts + 7 * len
 
 abbrev pub mostWith : List ℕ → List ℕ → ℕ
 mostWith ls ts = MOST + addedBytes ls ts
+
+-- the same by the bytes of the texts alone: a name has at least one of them, its LF or its own
+abbrev pub mostAdded : ℕ → ℕ → ℕ
+mostAdded l t = MOST + (12 * l + 8 * t)
 
 -- a writer that never needs more than `most` bytes, of a list s and an output of n bytes
 pub record Fits (w : Writer) (most : ℕ) (s : List ℕ) (n : ℕ) : Type 0 where

@@ -7,7 +7,8 @@ use lib.Dec.{eqb}
 use Rattle.token_list.specs.Byte.{bytes}
 use Rattle.token_list.specs.Check.{END}
 use Rattle.token_list.specs.Text.{same}
-use Rattle.writing.specs.Answer.{Answer, wrote, refused, Writer, implGenerics, typeGenerics, withAdditional, whole}
+use Rattle.output.specs.Answer.{Answer, wrote, refused}
+use Rattle.writing.specs.Answer.{Writer, implGenerics, typeGenerics, withAdditional, whole}
 
 pub record Example : Type 0 where
   pub writer : Writer

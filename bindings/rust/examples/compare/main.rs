@@ -6,7 +6,7 @@ mod reader;
 
 use kusthrila::{check, Place, Refusal, MOST_LISTING, MOST_ROWS, SCRATCH};
 use random::{Random, KINDS};
-use reader::Reader;
+use reader::{Reader, Writer};
 use std::collections::BTreeMap;
 use std::io::{BufRead, BufReader};
 
@@ -115,6 +115,7 @@ fn main() {
     let mut input = BufReader::new(std::fs::File::open(&path).expect("the file"));
     let (mut reader, mut counts) = (Reader::new(), Counts::default());
     let (mut list, mut every, mut lists) = (Vec::new(), Vec::new(), Vec::new());
+    let (mut lifetimes, mut types) = (Vec::new(), Vec::new());
     while let Some((name, body)) = section(&mut input) {
         let fill = counts.cases as u8;
         match name.as_str() {
@@ -149,6 +150,25 @@ fn main() {
                 counts.compare("listing", &ours, &body);
                 counts.values(&mut reader, &list, &every, &body);
             }
+            "impl" | "type" | "additional" | "added" => {
+                let writer = match name.as_str() {
+                    "impl" => Writer::Impl,
+                    "type" => Writer::Type,
+                    "additional" => Writer::Additional(b"x\n", b"Y\nZ"),
+                    _ => Writer::Additional(&lifetimes, &types),
+                };
+                let ours = match reader.generics(&list, writer, writer.most()) {
+                    Ok(list) => list,
+                    Err(refusal) => {
+                        *counts.refusals.entry(refusal.number).or_default() += 1;
+                        refused(&refusal)
+                    }
+                };
+                counts.compare(&name, &ours, &body);
+            }
+            // The texts of the names that `added` was asked with.
+            "lifetimes" => lifetimes = body,
+            "types" => types = body,
             "tagged" => {
                 let ours = match reader.tagged(&list, PREFIX, MOST_ROWS, fill) {
                     Ok(Some(roles)) => [b"accepted\n".to_vec(), letters(roles)].concat(),

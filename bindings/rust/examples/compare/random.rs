@@ -23,6 +23,29 @@ impl Random {
         from[self.below(from.len())]
     }
 
+    /// Two texts of added names: most of them right, some of them not.
+    pub fn names(&mut self) -> [Vec<u8>; 2] {
+        const NAMES: [&[u8]; 16] = [
+            b"a", b"T", b"_", b"const", b"self", b"Valve_2", b"x", b"Y", b"Z", b"in", b"r#a", b"9", b"a b", b"", b"a\0", b"\xC3\xA9",
+        ];
+        [(); 2].map(|()| {
+            let mut text = Vec::new();
+            for _ in 0..self.below(4) {
+                match self.below(24) {
+                    0 => text.resize(text.len() + 255, b'n'),
+                    1 => text.resize(text.len() + 256, b'n'),
+                    2 => text.extend_from_slice(self.pick(&NAMES)),
+                    _ => text.extend_from_slice(self.pick(&NAMES[..10])),
+                }
+                text.push(b'\n');
+            }
+            if self.below(2) == 0 {
+                text.pop();
+            }
+            text
+        })
+    }
+
     /// A copy with a byte changed, dropped or put in, up to three times over.
     pub fn damaged(&mut self, list: &[u8]) -> Vec<u8> {
         let mut bytes = list.to_vec();

@@ -1,10 +1,13 @@
 //! The functions of the reader, called with buffers between guard bytes, and what holds of every answer.
 use crate::random::Random;
-use kusthrila::{check, listing, read, refusal, role, tagged, tagged_role, value};
-use kusthrila::{Entry, Place, Refusal, MOST_LISTING, MOST_ROWS, NO_ROLE, SCRATCH};
+use kusthrila::{check, impl_generics, impl_generics_with_additional, listing, most_added, read, refusal, role, tagged};
+use kusthrila::{tagged_role, type_generics, value};
+use kusthrila::{Entry, Place, Refusal, MOST_GENERICS, MOST_LISTING, MOST_ROWS, NO_ROLE, SCRATCH};
 
 const GUARD: u8 = 0xA5;
 const MARGIN: usize = 8;
+/// No text of added names is longer.
+pub const MOST_NAMES: usize = 4096;
 const SHORT: Refusal = Refusal { number: refusal::SHORT_BUFFER, place: Place::End };
 
 // The bytes of a buffer with its margins, and what they are to be again after each call.
@@ -34,6 +37,24 @@ fn cleared(roles: &[u8]) {
     assert!(roles.iter().all(|role| *role == NO_ROLE), "a role byte where nothing was read");
 }
 
+/// A writer of generics, with the texts of its added names.
+#[derive(Clone, Copy)]
+pub enum Writer<'a> {
+    Impl,
+    Type,
+    Additional(&'a [u8], &'a [u8]),
+}
+
+impl Writer<'_> {
+    /// So many bytes of output are always enough.
+    pub fn most(self) -> usize {
+        match self {
+            Writer::Impl | Writer::Type => MOST_GENERICS,
+            Writer::Additional(lifetimes, types) => most_added(lifetimes.len(), types.len()),
+        }
+    }
+}
+
 pub struct Reader {
     roles: Buffer,
     out: Buffer,
@@ -42,7 +63,7 @@ pub struct Reader {
 
 impl Reader {
     pub fn new() -> Self {
-        Reader { roles: Buffer::new(MOST_ROWS), out: Buffer::new(MOST_LISTING), scratch: Buffer::new(64) }
+        Reader { roles: Buffer::new(MOST_ROWS), out: Buffer::new(MOST_LISTING.max(most_added(MOST_NAMES, MOST_NAMES))), scratch: Buffer::new(64) }
     }
 
     /// The role of each row, with so many role bytes lent, which hold `fill`.
@@ -90,6 +111,19 @@ impl Reader {
         answer
     }
 
+    /// What a writer of generics writes. After a refusal the whole output is as it was, else the bytes after the list are.
+    pub fn generics(&mut self, list: &[u8], writer: Writer, lent: usize) -> Result<Vec<u8>, Refusal> {
+        let out = self.out.lend(lent);
+        let answer = match writer {
+            Writer::Impl => impl_generics(list, out),
+            Writer::Type => type_generics(list, out),
+            Writer::Additional(lifetimes, types) => impl_generics_with_additional(list, lifetimes, types, out),
+        };
+        let answer = answer.map(<[u8]>::to_vec);
+        self.out.restore(answer.as_ref().map_or(0, Vec::len));
+        answer
+    }
+
     /// A variant's value. The scratch is written only where the text is a part of it.
     pub fn value(&mut self, list: &[u8], position: usize, lent: usize) -> Result<Option<Vec<u8>>, Refusal> {
         let scratch = self.scratch.lend(lent);
@@ -125,6 +159,24 @@ impl Reader {
         let right = if lines.as_ref().is_ok_and(|lines| lent < lines.len()) { Err(SHORT) } else { lines };
         assert_eq!(self.listing(list, lent), right, "with {lent} bytes of output");
 
+        // The writers refuse as the reader does, then a wrong name, then a short output.
+        let names = random.names();
+        let right_names = names.iter().all(|text| right_names(text));
+        let wrong = Refusal { number: refusal::ADDED_NAME, place: Place::End };
+        for writer in [Writer::Impl, Writer::Type, Writer::Additional(&names[0], &names[1])] {
+            let written = self.generics(list, writer, writer.most());
+            let refused = match writer {
+                Writer::Additional(..) if refusal.is_none() && !right_names => Some(&wrong),
+                _ => refusal,
+            };
+            assert_eq!(written.as_ref().err(), refused, "the writer and the reader");
+            if let Ok(list) = &written {
+                assert!(list.len() > 65_536 || matches!(check(list), Ok(_) | Err(Refusal { number: 4, .. })), "a list again");
+            }
+            let right = if written.as_ref().is_ok_and(|list| lent < list.len()) { Err(SHORT) } else { written };
+            assert_eq!(self.generics(list, writer, lent), right, "with {lent} bytes of output");
+        }
+
         let prefix = [&b"p"[..], b"", b"result", &[b'p'; 300]][random.below(4)];
         let parts = self.tagged(list, prefix, MOST_ROWS, fill);
         assert!(checked.is_ok() || checked.as_ref().err() == parts.as_ref().err(), "the check and the tagged attribute");
@@ -132,4 +184,15 @@ impl Reader {
         assert_eq!(self.tagged(list, prefix, lent, !fill), right, "with {lent} role bytes");
         roles.is_ok()
     }
+}
+
+/// Whether every line of a text is a name of at most 255 bytes without `r#`.
+pub fn right_names(text: &[u8]) -> bool {
+    let right = |name: &[u8]| {
+        let mut bytes = name.iter();
+        bytes.next().is_some_and(|b| b.is_ascii_alphabetic() || *b == b'_')
+            && bytes.all(|b| b.is_ascii_alphanumeric() || *b == b'_')
+            && name.len() <= 255
+    };
+    text.is_empty() || text.strip_suffix(b"\n").unwrap_or(text).split(|b| *b == b'\n').all(right)
 }

@@ -1,5 +1,5 @@
 use native.Mathlib.Omega.{arith}
-use Rattle.describe.proofs.Answers.{put-listing, fits-not, fits}
+use Rattle.output.proofs.Answers.{fits-not, fits}
 use Rattle.describe.specs.Listing.{listing}
 use borrow.Author.Needs.{needs}
 use Rattle.describe.proofs.listing.fit_listing.Statement.{statement}
@@ -16,7 +16,8 @@ same-length c = search needs
 
 returns : tie.Need-returns
 returns c =
-    let put-listing = c .before .before .before .before .put-listing in
+    let put-listing-2 = c .before .before .before .before .put-listing in
+    let put-listing = put-listing-2 in
     λ x k. fits-not (listing x) (put-listing .result) (put-listing .ensures x k .next) (omega arith)
 
 put-listing-requires-2 : tie.Need-put-listing-requires-2
@@ -30,9 +31,11 @@ same-length-3 c = search needs
 
 returns-2 : tie.Need-returns-2
 returns-2 c =
+    let put-listing-2 = c .before .before .before .before .before .before .before .before .before .before .before .put-listing in
+    let put-listing2-2 = c .before .before .before .before .put-listing2 in
     let put-listing =
-    c .before .before .before .before .before .before .before .before .before .before .before .put-listing in
-    let put-listing2 = c .before .before .before .before .put-listing2 in
+    put-listing-2 in
+    let put-listing2 = put-listing2-2 in
     λ x k.
     fits (listing x) (put-listing .result) (put-listing .ensures x k .next) (omega arith)
     (put-listing2 .ensures x k)

@@ -30,23 +30,30 @@ put-unnamed-requires c κs = search needs
 
 add-count : tie.Need-add-count Inv-loop μ-loop
 add-count c =
-    let back8 = c .before .before .before .before .before .before .before .before in
+    let before = c .before .before .before .before .before .before .before .before in
+    let back8 = before in
     let good = back8 .before .before .before .before .before .before .before .good in
     let loop = back8 .before .before .before .loop in
     omega (arith, loop .inv .few, loop .inv .inList .within, good)
 
 loop-less : tie.Need-loop-less Inv-loop μ-loop
 loop-less c =
-    let loop = c .before .before .before .before .before .before .before .before .before .before .before .loop in
-    let tuple-field = c .before .before .before .before .before .before .before .before .before .tuple-field in
-    let next = c .before .before .before .before .before .next in
+    let loop-2 = c .before .before .before .before .before .before .before .before .before .before .before .loop in
+    let tuple-field-2 = c .before .before .before .before .before .before .before .before .before .tuple-field in
+    let next-2 = c .before .before .before .before .before .next in
+    let loop = loop-2 in
+    let tuple-field = tuple-field-2 in
+    let next = next-2 in
     lined-less tuple (loop .inv) (turn tuple (next .given .1) (tuple-field .ensures)) (λ v h. (h .0, h .1, tt {0}))
 
 loop-again : tie.Need-loop-again Inv-loop μ-loop
 loop-again c =
-    let loop = c .before .before .before .before .before .before .before .before .before .before .before .loop in
-    let tuple-field = c .before .before .before .before .before .before .before .before .before .tuple-field in
-    let next = c .before .before .before .before .before .next in
+    let loop-2 = c .before .before .before .before .before .before .before .before .before .before .before .loop in
+    let tuple-field-2 = c .before .before .before .before .before .before .before .before .before .tuple-field in
+    let next-2 = c .before .before .before .before .before .next in
+    let loop = loop-2 in
+    let tuple-field = tuple-field-2 in
+    let next = next-2 in
     let put-unnamed = c .before .before .put-unnamed in
     lined-more tuple (loop .inv) (turn tuple (next .given .1) (tuple-field .ensures)) (λ v h. (h .0, h .1, tt {0}))
     (λ a t. put-unnamed .ensures) (tuple-field .kept .1 .1 .0) (put-unnamed .kept .0)
@@ -56,19 +63,24 @@ enum-told c = search needs
 
 same-length : tie.Need-same-length Inv-loop μ-loop
 same-length c =
-    let loop = c .before .before .before .before .before .before .loop in
-    let tuple-field = c .before .before .before .before .tuple-field in
+    let loop-2 = c .before .before .before .before .before .before .loop in
+    let tuple-field-2 = c .before .before .before .before .tuple-field in
+    let loop = loop-2 in
+    let tuple-field = tuple-field-2 in
     tuple-field .kept .1 .1 .0 ∙ loop .inv .rolesKept
 
 same-length-2 : tie.Need-same-length-2 Inv-loop μ-loop
 same-length-2 c =
-    let loop = c .before .before .before .before .before .before .loop in
+    let loop-2 = c .before .before .before .before .before .before .loop in
+    let loop = loop-2 in
     loop .inv .outKept
 
 returns : tie.Need-returns Inv-loop μ-loop
 returns c =
-    let loop = c .before .before .before .before .before .before .loop in
-    let tuple-field = c .before .before .before .before .tuple-field in
+    let loop-2 = c .before .before .before .before .before .before .loop in
+    let tuple-field-2 = c .before .before .before .before .tuple-field in
+    let loop = loop-2 in
+    let tuple-field = tuple-field-2 in
     λ xs k. lined-done tuple (loop .inv) (turn tuple (c .enum-told .given .1) (tuple-field .ensures)) (λ v h. h) xs k
 
 enum-told-2 : tie.Need-enum-told-2 Inv-loop μ-loop
@@ -76,19 +88,24 @@ enum-told-2 c = search needs
 
 same-length-3 : tie.Need-same-length-3 Inv-loop μ-loop
 same-length-3 c =
-    let loop = c .before .before .before .before .before .before .loop in
-    let tuple-field = c .before .before .before .before .tuple-field in
+    let loop-2 = c .before .before .before .before .before .before .loop in
+    let tuple-field-2 = c .before .before .before .before .tuple-field in
+    let loop = loop-2 in
+    let tuple-field = tuple-field-2 in
     tuple-field .kept .1 .1 .0 ∙ loop .inv .rolesKept
 
 same-length-4 : tie.Need-same-length-4 Inv-loop μ-loop
 same-length-4 c =
-    let loop = c .before .before .before .before .before .before .loop in
+    let loop-2 = c .before .before .before .before .before .before .loop in
+    let loop = loop-2 in
     loop .inv .outKept
 
 returns-2 : tie.Need-returns-2 Inv-loop μ-loop
 returns-2 c =
-    let loop = c .before .before .before .before .before .before .loop in
-    let tuple-field = c .before .before .before .before .tuple-field in
+    let loop-2 = c .before .before .before .before .before .before .loop in
+    let tuple-field-2 = c .before .before .before .before .tuple-field in
+    let loop = loop-2 in
+    let tuple-field = tuple-field-2 in
     λ xs k. lined-refused tuple (loop .inv) (turn tuple (c .enum-told2 .given .1) (tuple-field .ensures)) xs k
 
 pub tuple-lines-spec : {M : Type 1} → statement M

@@ -2,8 +2,8 @@ use Rattle.parse.proofs.Items.{first-in}
 use Rattle.token_list.specs.Contract.{checked}
 use lib.ListN.{length}
 use mathlib.Core.Path.{sym, _∙_, ap}
-use Rattle.describe.proofs.Answers.{listed-as, listed-refused, listing-checked, listing-read, listing-refusal}
-use Rattle.describe.specs.Listing.{output}
+use Rattle.output.proofs.Answers.{written-as, written-refused}
+use Rattle.describe.proofs.Answers.{listing-checked, listing-read, listing-refusal}
 use borrow.Author.Needs.{needs}
 use Rattle.describe.proofs.listing.write_listing.Statement.{statement}
 use Rattle.describe.proofs.listing.write_listing.Tie as tie
@@ -22,16 +22,18 @@ slice-aggregate-read-listing c = search needs
 
 read-listing-requires : tie.Need-read-listing-requires
 read-listing-requires c κs =
-    let check = c .before .before .before .before .check in
+    let check-2 = c .before .before .before .before .check in
+    let check = check-2 in
     let enum-told = c .before .before .enum-told in
     first-in _ _ (sym (check .ensures .answer) ∙ ap checked (enum-told .given .1))
 
 returns : tie.Need-returns
 returns c =
-    let args = c .before .before .before .before .before .before .args in
+    let args-2 = c .before .before .before .before .before .before .args in
+    let args = args-2 in
     let e = listing-checked (args .list .now) (length (args .out .now))
     (sym (c .before .before .before .check .ensures .answer) ∙ ap checked ((c .before .r) .given .1)) in (
-      listed-refused (sym e) (sym (ap (output (args .out .now)) e)),
+      written-refused e,
       listing-refusal (args .list .now) (length (args .out .now)),
     )
 
@@ -40,10 +42,13 @@ same-length c = search needs
 
 returns-2 : tie.Need-returns-2
 returns-2 c =
-    let args = c .before .before .before .before .before .before .before .before .before .before .before .args in
-    let check = c .before .before .before .before .before .before .before .before .check in
-    let enum-told = c .before .before .before .before .before .before .enum-told in (
-      listed-as
+    let args-2 = c .before .before .before .before .before .before .before .before .before .before .before .args in
+    let check-2 = c .before .before .before .before .before .before .before .before .check in
+    let enum-told-2 = c .before .before .before .before .before .before .enum-told in
+    let args = args-2 in
+    let check = check-2 in
+    let enum-told = enum-told-2 in (
+      written-as
           (listing-read (args .list .now) (length (args .out .now))
           (sym (check .ensures .answer) ∙ ap checked (enum-told .given .1)))
           ((c .before .before .before .read-listing) .ensures),

@@ -11,7 +11,7 @@ use Rattle.parse.specs.Contract as contract
 use Rattle.reading.specs.Reading as reading
 use Rattle.reading.specs.Declaration as declaration
 use Rattle.describe.specs.Value.{valueAt}
-use Rattle.describe.proofs.Inside.{inside-more, inside-done, inside-refused, forward}
+use Rattle.parse.proofs.Inside.{inside-more, inside-done, inside-refused, forward}
 use Rattle.describe.proofs.Worths.{value-first, value-later, variant-first, variant-later}
 use Rattle.parse.proofs.Places.{meets-beyond}
 use Rattle.parse.specs.declared.variants.ValueAt.{ValueAt}

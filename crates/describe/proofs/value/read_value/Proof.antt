@@ -3,7 +3,8 @@ use Rattle.reading.specs.Took.{Point}
 use Rattle.reading.specs.Place.{start, inside, variantAt}
 use Rattle.describe.specs.Contract.{ValueAs}
 use Rattle.parse.proofs.Meeting as meeting
-use Rattle.describe.proofs.Answers.{meets-tells, meets-refusal, placed-as, placed-refused}
+use Rattle.parse.proofs.Inside.{meets-tells, meets-refusal}
+use Rattle.describe.proofs.Answers.{placed-as, placed-refused}
 use Rattle.parse.specs.Contract.{itemShown, itemSaid}
 use Rattle.parse.specs.Contract.{first}
 use Rattle.describe.specs.Value.{itemAnswer, bodyValue}

@@ -1,18 +1,20 @@
-use mathlib.Core.List.{List, [], _∷_}
+use mathlib.Core.List.{List, [], _∷_, map}
 use Rattle.writing.specs.Generics.{parted}
 use Rattle.token_list.specs.Row.{Row}
 use Prim.Native.Nat.{ℕ, _+_, _-_, _≤_}
 use native.Mathlib.Omega.{arith}
-use lib.ListN.{length}
+use lib.ListN.{length, drop}
 use Rattle.generate.specs.Contract.{added}
 use Rattle.generate.proofs.Builds.{of-part}
-use Rattle.generate.proofs.Added.{Adding, adding-start, adding-more, added-all, same-length as kept-length}
+use Rattle.writing.specs.Names.{namesOf}
+use Rattle.generate.proofs.Added.{no-names, Adding, adding-start, adding-more, adding-done, adding-kept}
 use Rattle.generate.proofs.names.add_names.Statement.{statement}
 use Rattle.generate.proofs.names.add_names.Tie as tie
 
 abbrev Inv-loop : tie.InvT-loop
 Inv-loop out₀ text lifetimes first builder₀ leading₀ i₀ out builder leading i =
-    (i ≤ length text + 1) × Adding (added lifetimes) text first out₀ out builder₀ builder leading i
+    (i ≤ length text + 1) × Adding (map (added lifetimes) (namesOf text)) first out₀ out builder₀ builder leading
+    (map (added lifetimes) (namesOf (drop i text)))
 
 abbrev μ-loop : tie.MeasureT-loop
 μ-loop out₀ text lifetimes first builder₀ leading₀ i₀ out builder leading i = length text + 1 - i
@@ -21,7 +23,7 @@ loop-holds : tie.Need-loop-holds Inv-loop μ-loop
 loop-holds c =
     let args = c .before .before .args in (
       omega arith,
-      adding-start (added (args .lifetimes)) (args .text .now) (args .first) (args .out .now) (args .b)
+      adding-start (map (added (args .lifetimes)) (namesOf (args .text .now))) (args .first) (args .out .now) (args .b)
           (omega (arith, c .before .before .good)),
     )
 
@@ -61,15 +63,18 @@ loop-again c =
     let name = end .name-end in
     let rows : List ℕ → List Row = λ t. parted (turn .loop .leading) (added (args .lifetimes) t ∷ []) in (
       omega (arith, name .ensures .within),
-      adding-more (turn .loop .inv .1) (name .ensures)
+      adding-more (rw (name .ensures .names) at (turn .loop .inv .1))
           (of-part rows (turn .loop .i) (name .result) text (c .before .before .add-name .ensures)),
     )
 
 same-length : tie.Need-same-length Inv-loop μ-loop
-same-length c = kept-length (c .before .loop .inv .1)
+same-length c = adding-kept (c .before .loop .inv .1)
 
 returns : tie.Need-returns Inv-loop μ-loop
-returns c = added-all (c .before .loop .inv .1) (omega arith)
+returns c =
+    let text = c .before .before .before .before .args .text .now in
+    let loop = c .before .loop in
+    adding-done (rw (no-names text (loop .i) (omega arith)) at (loop .inv .1))
 
 pub add-names-spec : {M : Type 1} → statement M
 add-names-spec =

@@ -1,8 +1,8 @@
 use mathlib.Core.Path.{sym, ap, _∙_}
 use lib.Seq.{slice, length-take-le}
 use Rattle.describe.specs.Listing.{answer}
-use Rattle.describe.specs.Contract.{listedAs}
-use Rattle.replay.specs.Answer.{listingFits}
+use Rattle.output.specs.Written.{answerOf}
+use Rattle.replay.specs.Answer.{writtenFits}
 use borrow.Author.Needs.{needs}
 use Rattle.replay.proofs.answers.is_listing.Statement.{statement}
 use Rattle.replay.proofs.answers.is_listing.Tie as tie
@@ -45,8 +45,8 @@ returns c =
     let b = c .before .before .before .before .before in
     let a = b .before .before .before .before .before .args in
     let d = b .write-listing in
-    let e = sym (ap (listedAs (d .last .1 .0)) (c .before .before .r .given .1)) ∙ d .ensures .0 .answer in
-    c .is-refusal .ensures ∙ ap (listingFits (slice (a .start) (a .end) (a .s .now)))
+    let e = sym (ap (answerOf (d .last .1 .0)) (c .before .before .r .given .1)) ∙ d .ensures .0 .answer in
+    c .is-refusal .ensures ∙ ap (writtenFits (slice (a .start) (a .end) (a .s .now)))
     (e ∙ sym (ap (answer (a .list .now)) (b .before .before .listing-buffer .ensures)))
 
 returns-2 : tie.Need-returns-2
@@ -54,8 +54,8 @@ returns-2 c =
     let b = c .before .before .before .before .before .before in
     let a = b .before .before .before .before .before .args in
     let d = b .write-listing in
-    let e = sym (ap (listedAs (d .last .1 .0)) (c .before .before .before .n .given .1)) ∙ d .ensures .0 .answer in
-    c .text-is .ensures ∙ ap (listingFits (slice (a .start) (a .end) (a .s .now)))
+    let e = sym (ap (answerOf (d .last .1 .0)) (c .before .before .before .n .given .1)) ∙ d .ensures .0 .answer in
+    c .text-is .ensures ∙ ap (writtenFits (slice (a .start) (a .end) (a .s .now)))
     (e ∙ sym (ap (answer (a .list .now)) (b .before .before .listing-buffer .ensures)))
 
 pub is-listing-spec : {M : Type 1} → statement M

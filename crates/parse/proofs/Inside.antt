@@ -1,18 +1,34 @@
 -- Laws on what a reader gives at a cursor, and on reading it there again.
 use mathlib.Core.Path.{_≡_, refl, ap, _∙_, sym, subst, subst⁻¹}
+use mathlib.Core.Bool.{true, false}
 use mathlib.Core.List.{List, [], _∷_}
-use Prim.Native.Nat.{ℕ, _<_}
+use Prim.Native.Nat.{ℕ, _+_, _<_}
 use native.Mathlib.Omega.{arith}
 use lib.ListN.{length}
-use Rattle.token_list.specs.Stream.{Trees, at}
-use Rattle.token_list.specs.Contract.{InList}
+use Rattle.token_list.specs.Byte.{LESS}
+use Rattle.token_list.specs.Stream.{Trees, end, at}
+use Rattle.token_list.specs.Contract.{InList, LeafAt, GroupAt, rowOf}
 use Rattle.token_list.specs.declared.check.Cursor.{Cursor}
+use Rattle.token_list.specs.declared.stream.Token.{Token}
+use Rattle.token_list.proofs.Texts.{chosen, passed-over}
+use Rattle.reading.specs.Role as role
+use Rattle.reading.specs.Declaration.{Parameter, Generics, without, angled, parametersOf}
 use Rattle.reading.specs.Took.{Took, took, Cause, stopped, Reader, onward, after, pure}
-use Rattle.reading.specs.Reading.{Maybe, done, one, more, every}
-use Rattle.parse.specs.Contract.{Moved, on, no, Meets, stands, refuses, stream, InsideAt}
+use Rattle.reading.specs.Reading.{Maybe, done, one, more, every, isPunct, parameter, generics}
 use Rattle.reading.proofs.Rounds.{Rounding, Round, another, every-step}
+use Rattle.parse.specs.Contract.{Moved, on, no, Meets, stands, refuses, stream, pastOf, InsideAt}
+use Rattle.parse.proofs.Meeting.{past-in}
 
 -- ## What an answer tells
+
+pub meets-tells : {A : Type 0} {s : List ℕ} {c d : Cursor} {b0 b1 : List ℕ} {sh : A → Type 0} {t : Took A} →
+    Meets s c b0 b1 sh (on d) t
+    → (a : A) × (rs : List ℕ) × (us : Trees) × (t ≡ took a rs us) × sh a
+meets-tells (stands {a = a} {rs = rs} {us = us} m h) = (a, rs, us, refl, h)
+
+pub meets-refusal : {A : Type 0} {s : List ℕ} {c : Cursor} {b0 b1 : List ℕ} {sh : A → Type 0} {n p : ℕ} {t : Took A} →
+    Meets s c b0 b1 sh (no n p) t → (w : Cause) × (t ≡ stopped w n p)
+meets-refusal (refuses {w = w} qs q) = (w, refl)
 
 abbrev value : {A : Type 0} → A → Took A → A
 value a (took b rs us) = b
@@ -120,3 +136,43 @@ forward {A} m rd {s} {c} {d} {b0} {b1} {sh} w f = go refl w
         let p = progress (subst (Round (stream s c)) (e ∙ ap (λ (w : Maybe A). took w rs us) (o .1))
         (rd (c .row) (stream s c))) in
         (omega (arith, mv .forth, p), mv .inList)
+
+-- ## Generics
+
+module _ {s : List ℕ} {c : Cursor} {v : Generics} (i : InsideAt generics s c v) where
+  -- the parameters after a `<`
+  pub generics-angle : (t : Token) (d : Cursor) → LeafAt s (c .at) t → d ≡ pastOf c t →
+      isPunct LESS (rowOf s t) ≡ true
+      → (v ≡ angled (parametersOf v)) × InsideAt (every (parameter (c .row))) s d (parametersOf v)
+  generics-angle t d l e p =
+      go (inside (c .row + 1) (at s (t .next) .here)) refl
+      (sym (chosen _ _ _ p) ∙ ap (generics (c .row)) (sym (l .here)) ∙ i .gives)
+    where
+      inside : Reader (List Parameter)
+      inside = every (parameter (c .row))
+
+      go : (x : Took (List Parameter)) → inside (c .row + 1) (at s (t .next) .here) ≡ x
+          → onward (role.angle ∷ []) (after (c .row + 1) x (λ ps. pure (angled ps))) ≡ took v (i .roles) (i .rest)
+          → (v ≡ angled (parametersOf v)) × InsideAt inside s d (parametersOf v)
+      go (took ys qs ws) g h =
+          let same : angled ys ≡ v = took-value h in (
+            sym same ∙ ap (λ (x : Generics). angled (parametersOf x)) same,
+            subst⁻¹ (λ (x : Cursor). InsideAt inside s x (parametersOf v)) e
+                (record {
+                  inList = past-in s c t (i .inList) (l .token);
+                  roles = qs;
+                  rest = ws;
+                  gives = g ∙ ap (λ (zs : List Parameter). took zs qs ws) (ap parametersOf same);
+                }),
+          )
+      go (stopped w n p) g h = took-not-refuse h
+
+  pub generics-other : (t : Token) → LeafAt s (c .at) t → isPunct LESS (rowOf s t) ≡ false → v ≡ without
+  generics-other t l p = sym
+      (took-value (sym (passed-over _ _ _ p) ∙ ap (generics (c .row)) (sym (l .here)) ∙ i .gives))
+
+  pub generics-group : (t : Token) → GroupAt s (c .at) t → v ≡ without
+  generics-group t g = sym (took-value (ap (generics (c .row)) (sym (g .here)) ∙ i .gives))
+
+  pub generics-end : stream s c ≡ end → v ≡ without
+  generics-end e = sym (took-value (ap (generics (c .row)) (sym e) ∙ i .gives))

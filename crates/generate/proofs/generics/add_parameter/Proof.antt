@@ -1,0 +1,43 @@
+use Rattle.generate.specs.Contract.{shaped}
+use Rattle.generate.proofs.Builds.{then}
+use Rattle.generate.proofs.Added.{as-first, as-next}
+use borrow.Author.Needs.{needs}
+use Rattle.generate.proofs.generics.add_parameter.Statement.{statement}
+use Rattle.generate.proofs.generics.add_parameter.Tie as tie
+
+append-parameter-requires : tie.Need-append-parameter-requires
+append-parameter-requires c κs = search needs
+
+same-length : tie.Need-same-length
+same-length c = search needs
+
+returns : tie.Need-returns
+returns c =
+    let args = c .before .before .before .before .before .before .before .args in
+    λ a i. as-first (shaped (args .names) a) (c .before .before .before .before .if1 .taken) (c .before .before .append-parameter .ensures a i)
+
+punct-requires : tie.Need-punct-requires
+punct-requires c κs = search needs
+
+append-parameter-requires-2 : tie.Need-append-parameter-requires-2
+append-parameter-requires-2 c κs = search needs
+
+same-length-2 : tie.Need-same-length-2
+same-length-2 c = search needs
+
+returns-2 : tie.Need-returns-2
+returns-2 c =
+    let args = c .before .before .before .before .before .before .before .before .before .before .before .args in
+    λ a i. as-next (shaped (args .names) a) (c .before .before .before .before .before .before .before .before .if1 .left) (then (c .before .before .before .before .before .before .punct .ensures) (c .before .before .append-parameter2 .ensures a i))
+
+pub add-parameter-spec : {M : Type 1} → statement M
+add-parameter-spec =
+    tie.close
+    (tie.spec
+    append-parameter-requires
+    same-length
+    returns
+    punct-requires
+    append-parameter-requires-2
+    same-length-2
+    returns-2)

@@ -1,0 +1,99 @@
+use mathlib.Core.List.{map}
+use Prim.Native.Nat.{_-_}
+use native.Mathlib.Omega.{arith}
+use borrow.Author.Needs.{needs}
+use lib.ListN.{length}
+use Rattle.writing.specs.Names.{namesOf}
+use Rattle.writing.specs.Generics.{addedType}
+use Rattle.generate.specs.Contract.{shaped}
+use Rattle.generate.proofs.Parameters.{Turned, turn, turned-start, turned-less, turned-in, turned-more, turned-done, turned-refused}
+use Rattle.generate.proofs.generics.add_parameters.Statement.{statement}
+use Rattle.generate.proofs.generics.add_parameters.Tie as tie
+
+abbrev Inv-loop : tie.InvT-loop
+Inv-loop out₀ s roles₀ angle names first types builder₀ leading₀ c₀ out roles builder leading c =
+    Turned (shaped names) (map addedType (namesOf types)) angle s c₀ c first roles₀ roles out₀ out builder₀ builder
+    leading
+
+abbrev μ-loop : tie.MeasureT-loop
+μ-loop out₀ s roles₀ angle names first types builder₀ leading₀ c₀ out roles builder leading c = length s - c .at
+
+loop-holds : tie.Need-loop-holds Inv-loop μ-loop
+loop-holds c =
+    let start = c .before .before .before .before in
+    turned-start (start .pre .1) (omega (arith, start .good))
+
+parameter-requires : tie.Need-parameter-requires Inv-loop μ-loop
+parameter-requires c κs = c .before .loop .inv .inList
+
+enum-known-p : tie.Need-enum-known-p Inv-loop μ-loop
+enum-known-p c = search needs
+
+add-parameter-requires : tie.Need-add-parameter-requires Inv-loop μ-loop
+add-parameter-requires c κs =
+    let passes = c .before .before .before .before .before .before .before .before .before .before .before .before .before .pre .0 .1 in
+    turned-in (c .before .before .before .before .before .before .before .before .loop .inv) _ (turn (c .before .before .p .given .1) (c .before .before .before .before .before .before .parameter .ensures)) passes
+
+loop-less : tie.Need-loop-less Inv-loop μ-loop
+loop-less c =
+    let p = c .before .before .before .before .before .before .p .given in
+    turned-less (c .before .before .before .before .before .before .before .before .before .before .before .before .loop .inv) (p .0 .0) (turn (p .1) (c .before .before .before .before .before .before .before .before .before .before .parameter .ensures))
+
+loop-again : tie.Need-loop-again Inv-loop μ-loop
+loop-again c =
+    let passes = c .before .before .before .before .before .before .before .before .before .before .before .before .before .before .before .before .before .pre .0 .1 in
+    let parameter = c .before .before .before .before .before .before .before .before .before .before .parameter in
+    let add = c .before .before .before .add-parameter in
+    turned-more (c .before .before .before .before .before .before .before .before .before .before .before .before .loop .inv) _ (turn (c .before .before .before .before .before .before .p .given .1) (parameter .ensures)) passes (add .ensures)
+    (parameter .kept .1 .1 .0) (add .kept .1 .0)
+
+enum-told : tie.Need-enum-told Inv-loop μ-loop
+enum-told c = search needs
+
+add-names-requires : tie.Need-add-names-requires Inv-loop μ-loop
+add-names-requires c κs = search needs
+
+same-length : tie.Need-same-length Inv-loop μ-loop
+same-length c = search needs
+
+same-length-2 : tie.Need-same-length-2 Inv-loop μ-loop
+same-length-2 c = search needs
+
+returns : tie.Need-returns Inv-loop μ-loop
+returns c =
+    turned-done (c .before .before .before .before .before .before .before .before .before .before .loop .inv) (turn (c .before .before .before .before .enum-told .given .1) (c .before .before .before .before .before .before .before .before .parameter .ensures)) (c .before .before .add-names .ensures)
+
+enum-told-2 : tie.Need-enum-told-2 Inv-loop μ-loop
+enum-told-2 c = search needs
+
+same-length-3 : tie.Need-same-length-3 Inv-loop μ-loop
+same-length-3 c = search needs
+
+same-length-4 : tie.Need-same-length-4 Inv-loop μ-loop
+same-length-4 c = search needs
+
+returns-2 : tie.Need-returns-2 Inv-loop μ-loop
+returns-2 c ps inside =
+    turned-refused (c .before .before .before .before .before .before .loop .inv) (turn (c .enum-told2 .given .1) (c .before .before .before .before .parameter .ensures)) ps inside
+
+pub add-parameters-spec : {M : Type 1} → statement M
+add-parameters-spec =
+    tie.close
+    (tie.spec
+    Inv-loop
+    μ-loop
+    loop-holds
+    parameter-requires
+    enum-known-p
+    add-parameter-requires
+    loop-less
+    loop-again
+    enum-told
+    add-names-requires
+    same-length
+    same-length-2
+    returns
+    enum-told-2
+    same-length-3
+    same-length-4
+    returns-2)

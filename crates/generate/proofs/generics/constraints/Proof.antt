@@ -1,0 +1,28 @@
+use mathlib.Core.Path.{sym, ap}
+use Rattle.parse.specs.declared.generics.ParameterRun.{ParameterRun}
+use Rattle.generate.specs.Contract.{constraintsOf}
+use borrow.Author.Needs.{needs}
+use Rattle.generate.proofs.generics.constraints.Statement.{statement}
+use Rattle.generate.proofs.generics.constraints.Tie as tie
+
+enum-told : tie.Need-enum-told
+enum-told c = search needs
+
+enum-told-2 : tie.Need-enum-told-2
+enum-told-2 c = search needs
+
+enum-known-run : tie.Need-enum-known-run
+enum-known-run c = search needs
+
+returns : tie.Need-returns
+returns c = sym (ap (λ (r : ParameterRun). constraintsOf r (c .before .before .args .next)) (c .enum-told .given .1))
+
+returns-2 : tie.Need-returns-2
+returns-2 c = sym (ap (λ (r : ParameterRun). constraintsOf r (c .before .before .args .next)) (c .enum-told2 .given .1))
+
+returns-3 : tie.Need-returns-3
+returns-3 c = sym (ap (λ (r : ParameterRun). constraintsOf r (c .before .before .before .before .before .args .next)) (c .before .before .before .run .given .1))
+
+pub constraints-spec : {M : Type 1} → statement M
+constraints-spec =
+    tie.close (tie.spec enum-told enum-told-2 enum-known-run returns returns-2 returns-3)

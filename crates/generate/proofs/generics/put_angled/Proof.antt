@@ -1,0 +1,42 @@
+use mathlib.Core.Path.{refl}
+use Rattle.generate.proofs.Answers.{angled}
+use borrow.Author.Needs.{needs}
+use Rattle.generate.proofs.generics.put_angled.Statement.{statement}
+use Rattle.generate.proofs.generics.put_angled.Tie as tie
+
+punct-requires : tie.Need-punct-requires
+punct-requires c κs = search needs
+
+add-names-requires : tie.Need-add-names-requires
+add-names-requires c κs = search needs
+
+add-parameters-requires : tie.Need-add-parameters-requires
+add-parameters-requires c κs = search needs
+
+punct-requires-2 : tie.Need-punct-requires-2
+punct-requires-2 c κs = search needs
+
+same-length : tie.Need-same-length
+same-length c = search needs
+
+same-length-2 : tie.Need-same-length-2
+same-length-2 c = search needs
+
+returns : tie.Need-returns
+returns c =
+    let args = c .before .before .before .before .before .before .before .before .before .before .before .before .before .before .before .before .before .before .before .before .before .before .before .before .args in
+    λ ps inside.
+    angled (args .names) (args .lifetimes .now) (args .types .now) ps refl (c .before .before .before .before .before .before .before .before .before .before .before .before .before .before .before .before .before .punct .ensures) (c .before .before .before .before .before .before .before .before .before .before .before .before .before .add-names .ensures)
+    (c .before .before .before .before .before .before .before .before .add-parameters .ensures ps inside) (c .before .before .punct2 .ensures)
+
+pub put-angled-spec : {M : Type 1} → statement M
+put-angled-spec =
+    tie.close
+    (tie.spec
+    punct-requires
+    add-names-requires
+    add-parameters-requires
+    punct-requires-2
+    same-length
+    same-length-2
+    returns)

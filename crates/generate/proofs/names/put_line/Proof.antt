@@ -1,0 +1,43 @@
+use mathlib.Core.Path.{sym, _∙_}
+use Rattle.output.proofs.Texts.{joined}
+use borrow.Author.Needs.{needs}
+use Rattle.generate.proofs.names.put_line.Statement.{statement}
+use Rattle.generate.proofs.names.put_line.Tie as tie
+
+is-one-of-requires : tie.Need-is-one-of-requires
+is-one-of-requires c κs = search needs
+
+put-byte-requires : tie.Need-put-byte-requires
+put-byte-requires c κs = search needs
+
+same-length : tie.Need-same-length
+same-length c = search needs
+
+returns : tie.Need-returns
+returns c = rw (sym (c .before .before .before .before .before .is-one-of .ensures) ∙ c .before .before .before .before .if1 .taken) (c .before .before .put-byte .ensures)
+
+put-bytes-requires : tie.Need-put-bytes-requires
+put-bytes-requires c κs = search needs
+
+put-byte-requires-2 : tie.Need-put-byte-requires-2
+put-byte-requires-2 c κs = search needs
+
+same-length-2 : tie.Need-same-length-2
+same-length-2 c = search needs
+
+returns-2 : tie.Need-returns-2
+returns-2 c =
+    rw (sym (c .before .before .before .before .before .before .before .before .before .is-one-of .ensures) ∙ c .before .before .before .before .before .before .before .before .if1 .left) (joined (c .before .before .before .before .before .before .put-bytes .ensures) (c .before .before .put-byte2 .ensures))
+
+pub put-line-spec : {M : Type 1} → statement M
+put-line-spec =
+    tie.close
+    (tie.spec
+    is-one-of-requires
+    put-byte-requires
+    same-length
+    returns
+    put-bytes-requires
+    put-byte-requires-2
+    same-length-2
+    returns-2)
