@@ -1,5 +1,5 @@
 -- Laws on what a punctuation is to a run, by the byte.
-use mathlib.Core.Path.{_≡_, ap, _∙_}
+use mathlib.Core.Path.{_≡_, refl, ap, _∙_}
 use mathlib.Core.Bool.{Bool, true, false, cond, _&&_}
 use Prim.Native.Nat.{ℕ, _+_, _-_}
 use borrow.Author.Tests.{eq-eqb, ne-eqb}
@@ -11,8 +11,16 @@ module _ (st : Stops) (d : ℕ) (m : Bool) (b : ℕ) where
   pub arrow : (m && eqb b 62) ≡ true → judgePunct st d m b ≡ belongs d false
   arrow e = chosen _ _ _ e
 
-  pub opening : b ≡ 60 → (m && eqb b 62) ≡ false → judgePunct st d m b ≡ belongs (d + 1) false
-  opening e a = passed-over _ _ _ a ∙ chosen _ _ _ (eq-eqb _ _ e)
+  -- no `>`, so no arrow
+  no-arrow : eqb b 62 ≡ false → (m && eqb b 62) ≡ false
+  no-arrow e = ap (λ (x : Bool). m && x) e ∙ never m
+    where
+      never : (x : Bool) → (x && false) ≡ false
+      never true = refl
+      never false = refl
+
+  pub opening : b ≡ 60 → judgePunct st d m b ≡ belongs (d + 1) false
+  opening e = passed-over _ _ _ (no-arrow (ap (λ (x : ℕ). eqb x 62) e)) ∙ chosen _ _ _ (eq-eqb _ _ e)
 
   pub closing : b ≡ 62 → (m && eqb b 62) ≡ false
       → judgePunct st d m b ≡ cond (eqb d 0) (cond (st .angle) (ends atAngle) unopened) (belongs (d - 1) false)
@@ -20,16 +28,14 @@ module _ (st : Stops) (d : ℕ) (m : Bool) (b : ℕ) where
       (cond (eqb x 62) (cond (eqb d 0) (cond (st .angle) (ends atAngle) unopened) (belongs (d - 1) false))
       (cond (eqb x 44 && (eqb d 0 && st .comma)) (ends atComma) (belongs d (eqb x 45))))) e
 
-  pub comma : b ≡ 44 → (m && eqb b 62) ≡ false → judgePunct st d m b ≡
-      cond (eqb d 0 && st .comma) (ends atComma) (belongs d false)
-  comma e a = passed-over _ _ _ a ∙ ap (λ (x : ℕ). cond (eqb x 60) (belongs (d + 1) false)
+  pub comma : b ≡ 44 → judgePunct st d m b ≡ cond (eqb d 0 && st .comma) (ends atComma) (belongs d false)
+  comma e = passed-over _ _ _ (no-arrow (ap (λ (x : ℕ). eqb x 62) e)) ∙ ap (λ (x : ℕ). cond (eqb x 60) (belongs (d + 1) false)
       (cond (eqb x 62) (cond (eqb d 0) (cond (st .angle) (ends atAngle) unopened) (belongs (d - 1) false))
       (cond (eqb x 44 && (eqb d 0 && st .comma)) (ends atComma) (belongs d (eqb x 45))))) e
 
-  pub other : (m && eqb b 62) ≡ false → (b ≡ 60 → ⊥) → (b ≡ 62 → ⊥) → (b ≡ 44 → ⊥) →
-      judgePunct st d m b ≡ belongs d (eqb b 45)
-  other a o c k =
-      passed-over _ _ _ a
+  pub other : (b ≡ 60 → ⊥) → (b ≡ 62 → ⊥) → (b ≡ 44 → ⊥) → judgePunct st d m b ≡ belongs d (eqb b 45)
+  other o c k =
+      passed-over _ _ _ (no-arrow (ne-eqb _ _ c))
       ∙ passed-over _ _ _ (ne-eqb _ _ o)
       ∙ passed-over _ _ _ (ne-eqb _ _ c)
       ∙ passed-over _ _ _ (and-fails _ _ (ne-eqb _ _ k))

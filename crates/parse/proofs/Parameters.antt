@@ -9,7 +9,7 @@ use Rattle.token_list.proofs.Texts.{chosen}
 use Rattle.reading.specs.Token.{starts, isPunct}
 use Rattle.reading.specs.Role as role
 use Rattle.reading.specs.Declaration.{Parameter, type}
-use Rattle.reading.specs.Took.{Took, took, Reader, after, _>>=_, pure}
+use Rattle.reading.specs.Took.{took, Reader, after, _>>=_, pure}
 use Rattle.reading.specs.Reading.{punctIf, runIf, parameterStops, marked-run, typeRuns, typeAfter}
 use Rattle.reading.specs.Took.{Point}
 use Rattle.token_list.specs.declared.stream.Token.{Token}
@@ -59,5 +59,5 @@ module _ (s : List ℕ) (n : List ℕ) (b : Trees) where
 -- a type with this bound
 pub type-shown : (s : List ℕ) (x : Point) (n : List ℕ) (r : ParameterRunStep) (b : Trees) → boundShown s x r b →
     typeShown s x n r (type n b end)
-type-shown s x n (runSteps.At r d) b h = (refl, refl, h)
+type-shown s x n (runSteps.At m r) b h = (refl, refl, h)
 type-shown s x n (runSteps.Refused r) b h = h

@@ -15,7 +15,7 @@ use Rattle.reading.specs.Role as role
 use Rattle.reading.specs.Declaration as declaration
 use Rattle.reading.specs.Took.{took, Cause, stopped, refuse, Reader, pure, _>>=_, Point, beyond}
 use Rattle.reading.specs.Reading as reading
-use Rattle.reading.specs.Place.{wordRow, pastToken, runEnd, markAt}
+use Rattle.reading.specs.Place.{wordRow, pastToken, runEnd}
 use Rattle.parse.specs.Meets.{Said, on, refusal, stream, point, CursorAt, TokenIn, TextOf, InsideAt, Belonged, Gained}
 use Rattle.parse.specs.declared.utils.Step.{Step}
 use Rattle.parse.specs.declared.utils.Step.the-variants as steps
@@ -54,7 +54,8 @@ use Rattle.parse.specs.declared.generics.ParameterKind.{ParameterKind}
 use Rattle.parse.specs.declared.generics.ParameterKind.the-variants as parameterKinds
 use Rattle.parse.specs.declared.generics.ParameterRun.{ParameterRun}
 use Rattle.parse.specs.declared.generics.ParameterRun.the-variants as parameterRuns
-use Rattle.parse.specs.declared.generics.ParameterAt.{ParameterAt}
+use Rattle.parse.specs.declared.generics.ParameterMark.{ParameterMark}
+use Rattle.parse.specs.declared.generics.ParameterMark.the-variants as marks
 use Rattle.parse.specs.declared.generics.ParameterStep.{ParameterStep}
 use Rattle.parse.specs.declared.generics.ParameterStep.the-variants as parameters
 use Rattle.parse.specs.declared.generics.MarkedRunStep.{MarkedRunStep}
@@ -267,6 +268,16 @@ MarkedRunAt s mark x r tokens =
     (starts (reading.isPunct mark) (x .stream) ≡ true) ×
     RunAt s reading.parameterStops role.bound (pastToken x) r tokens
 
+-- a run without tokens
+abbrev pub emptyRun : Cursor → Run
+emptyRun c = record { from = c; to = c; ending = endings.End; unclosed = false }
+
+-- a parameter's run, by the mark before it
+abbrev pub parameterRun : ParameterMark → Run → ParameterRun
+parameterRun marks.Absent r = parameterRuns.Absent
+parameterRun marks.Bound r = parameterRuns.Bound r
+parameterRun marks.Default r = parameterRuns.Default r
+
 -- of a parameter with these bounds, or const type, and default, whose name ends at x: its run
 abbrev pub ParameterRunAt : List ℕ → Point → Trees → Trees → ParameterRun → Type 0
 ParameterRunAt s x bound default parameterRuns.Absent =
@@ -306,18 +317,19 @@ markedRunShown s mark x (markedRuns.Refused r) v = ⊥
 
 -- the bound or const type of a parameter whose name ends at x
 abbrev pub parameterRunSaid : ParameterRunStep → Said
-parameterRunSaid (parameterRunSteps.At r d) = on d
+parameterRunSaid (parameterRunSteps.At m r) = on (r .to)
 parameterRunSaid (parameterRunSteps.Refused r) = refusal r
 
 abbrev pub boundShown : List ℕ → Point → ParameterRunStep → Trees → Type 0
-boundShown s x (parameterRunSteps.At r d) v = ParameterRunAt s x v end r
+boundShown s x (parameterRunSteps.At m r) v = ParameterRunAt s x v end (parameterRun m r)
 boundShown s x (parameterRunSteps.Refused r) v = ⊥
 
 -- a type of this name, which ends at x
 
 abbrev pub typeShown : List ℕ → Point → List ℕ → ParameterRunStep → declaration.Parameter → Type 0
-typeShown s x n (parameterRunSteps.At r d) a =
-    (parameterKinds.Type ≡ parameterKind a) × (parameterText a ≡ n) × ParameterRunAt s x (boundOf a) (defaultOf a) r
+typeShown s x n (parameterRunSteps.At m r) a =
+    (parameterKinds.Type ≡ parameterKind a) × (parameterText a ≡ n) ×
+    ParameterRunAt s x (boundOf a) (defaultOf a) (parameterRun m r)
 typeShown s x n (parameterRunSteps.Refused r) a = ⊥
 
 -- a parameter of this kind without a default

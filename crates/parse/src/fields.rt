@@ -284,8 +284,11 @@ fn parse(s: &[u8], from: Cursor, roles: &mut [u8]) -> CountStep
     let mut count = 0;
     loop {
         match tuple_field(s, c, roles) {
+            // Made anew from its two numbers, as in visibility::try_take.
             NextStep::One(next) => {
-                c = next;
+                let at = next.at;
+                let row = next.row;
+                c = Cursor { at, row };
                 count += 1;
             }
             NextStep::Done(end) => {

@@ -1,5 +1,6 @@
 // Generics and the where clause (virtue's parse/generics.rs, its readers).
 use crate::role;
+use crate::runs::Ending;
 use crate::runs::Run;
 use crate::runs::RunStep;
 use crate::runs::Stops;
@@ -25,7 +26,7 @@ ghost use Rattle.reading.specs.Declaration.{Parameter};
 ghost use Rattle.reading.specs.Took.{Point};
 ghost use Rattle.reading.specs.Reading.{parameterName, marked-run, typeAfter, comma, parameter, every, generics, clause};
 ghost use Rattle.reading.specs.Place.{pastToken, parameterNameAt};
-ghost use Rattle.parse.specs.Contract.{isLifetime, Meets, stream, point, TokenIn, TextOf, nameShown, nameSaid, markedRunShown, markedRunSaid, boundShown, parameterRunSaid, boundOf, defaultOf, ParameterRunAt, ParameterOf, typeShown, parameterShown, parameterSaid, namedParameter, afterQuote, afterConst, afterName, countShown, countSaid, genericsShown, clauseShown, clauseSaid};
+ghost use Rattle.parse.specs.Contract.{isLifetime, Meets, stream, point, TokenIn, TextOf, nameShown, nameSaid, markedRunShown, markedRunSaid, boundShown, parameterRunSaid, boundOf, defaultOf, emptyRun, parameterRun, ParameterRunAt, ParameterOf, typeShown, parameterShown, parameterSaid, namedParameter, afterQuote, afterConst, afterName, countShown, countSaid, genericsShown, clauseShown, clauseSaid};
 
 pub enum ParameterKind {
     Lifetime,
@@ -51,6 +52,13 @@ pub enum ParameterRun {
     Default(Run),
 }
 
+// Which of them stands after a parameter's name.
+pub enum ParameterMark {
+    Absent,
+    Bound,
+    Default,
+}
+
 // Where a parameter's name and run stand, and the cursor after the parameter.
 pub struct ParameterAt {
     pub kind: ParameterKind,
@@ -73,9 +81,10 @@ pub enum MarkedRunStep {
     Refused(Refusal),
 }
 
-// A parameter's run, and the cursor after it.
+// A parameter's mark and run, which without a mark is empty. They stay apart until the parameter's record is
+// made: an enum that holds a run was copied from step to step, and its padding too (docs/PERFORMANCE.md).
 pub enum ParameterRunStep {
-    At(ParameterRun, Cursor),
+    At(ParameterMark, Run),
     Refused(Refusal),
 }
 
@@ -150,6 +159,18 @@ fn marked_run(s: &[u8], c: Cursor, roles: &mut [u8], punct: u8) -> MarkedRunStep
     }
 }
 
+// A run without tokens at c.
+fn empty_run(c: Cursor) -> Run
+    ensures { λ r. ⌜ r ≡ emptyRun c ⌝ }
+{
+    Run {
+        from: c,
+        to: c,
+        ending: Ending::End,
+        unclosed: false,
+    }
+}
+
 // The bound or const type that may follow a parameter's name.
 fn bounds(s: &[u8], c: Cursor, roles: &mut [u8]) -> ParameterRunStep
     requires { ⌜ InList (now s) c ⌝ }
@@ -159,36 +180,47 @@ fn bounds(s: &[u8], c: Cursor, roles: &mut [u8]) -> ParameterRunStep
 {
     match marked_run(s, c, roles, b':') {
         MarkedRunStep::Refused(r) => ParameterRunStep::Refused(r),
-        MarkedRunStep::Absent => ParameterRunStep::At(ParameterRun::Absent, c),
-        MarkedRunStep::At(r) => {
-            let to = r.to;
-            ParameterRunStep::At(ParameterRun::Bound(r), to)
-        }
+        MarkedRunStep::Absent => ParameterRunStep::At(ParameterMark::Absent, empty_run(c)),
+        MarkedRunStep::At(r) => ParameterRunStep::At(ParameterMark::Bound, r),
     }
 }
 
-// A parameter ends with the `,` that may follow.
+// A parameter's run, by the mark before it.
+fn parameter_run(mark: ParameterMark, run: Run) -> ParameterRun
+    ensures { λ r. ⌜ r ≡ parameterRun mark run ⌝ }
+{
+    match mark {
+        ParameterMark::Absent => ParameterRun::Absent,
+        ParameterMark::Bound => ParameterRun::Bound(run),
+        ParameterMark::Default => ParameterRun::Default(run),
+    }
+}
+
+// A parameter ends with the `,` that may follow its run.
 fn parameter_end(
     s: &[u8],
-    c: Cursor,
     roles: &mut [u8],
     kind: ParameterKind,
     name: Token,
-    run: ParameterRun,
+    mark: ParameterMark,
+    run: Run,
 ) -> ParameterStep
-    requires { ⌜ InList (now s) c ⌝ }
+    requires { ⌜ InList (now s) (run .to) ⌝ }
     ensures { λ r. ⌜ ((a : Parameter) (x : Point) → ParameterOf (now (s .entry)) kind name a →
         TokenIn (now (s .entry)) (x .row) name →
-        ParameterRunAt (now (s .entry)) (pastToken x) (boundOf a) (defaultOf a) run →
-        Meets (now (s .entry)) c (now (roles .entry)) (now (roles .exit)) (parameterShown (now (s .entry)) x r)
-        (parameterSaid r) (comma a (c .row) (stream (now (s .entry)) c))) ⌝ }
+        ParameterRunAt (now (s .entry)) (pastToken x) (boundOf a) (defaultOf a) (parameterRun mark run) →
+        Meets (now (s .entry)) (run .to) (now (roles .entry)) (now (roles .exit))
+        (parameterShown (now (s .entry)) x r) (parameterSaid r)
+        (comma a (run .to .row) (stream (now (s .entry)) (run .to)))) ⌝ }
 {
+    let marked = parameter_run(mark, run);
+    let c = run.to;
     let p = consume_punct_if(s, c, roles, b',', role::SEPARATOR);
     let next = p.next;
     ParameterStep::One(ParameterAt {
         kind,
         name,
-        run,
+        run: marked,
         next,
     })
 }
@@ -211,7 +243,7 @@ fn named_parameter(
         NameStep::Refused(r) => ParameterStep::Refused(r),
         NameStep::At(name, d) => match bounds(s, d, roles) {
             ParameterRunStep::Refused(r) => ParameterStep::Refused(r),
-            ParameterRunStep::At(run, e) => parameter_end(s, e, roles, kind, name, run),
+            ParameterRunStep::At(mark, run) => parameter_end(s, roles, kind, name, mark, run),
         },
     }
 }
@@ -248,11 +280,8 @@ fn bounds_or_default(s: &[u8], c: Cursor, roles: &mut [u8]) -> ParameterRunStep
     }
     match marked_run(s, c, roles, b'=') {
         MarkedRunStep::Refused(r) => ParameterRunStep::Refused(r),
-        MarkedRunStep::Absent => ParameterRunStep::At(ParameterRun::Absent, c),
-        MarkedRunStep::At(r) => {
-            let to = r.to;
-            ParameterRunStep::At(ParameterRun::Default(r), to)
-        }
+        MarkedRunStep::Absent => ParameterRunStep::At(ParameterMark::Absent, empty_run(c)),
+        MarkedRunStep::At(r) => ParameterRunStep::At(ParameterMark::Default, r),
     }
 }
 
@@ -266,8 +295,8 @@ fn simple_generic(s: &[u8], c: Cursor, roles: &mut [u8], name: Token) -> Paramet
 {
     match bounds_or_default(s, c, roles) {
         ParameterRunStep::Refused(r) => ParameterStep::Refused(r),
-        ParameterRunStep::At(run, d) => {
-            parameter_end(s, d, roles, ParameterKind::Type, name, run)
+        ParameterRunStep::At(mark, run) => {
+            parameter_end(s, roles, ParameterKind::Type, name, mark, run)
         }
     }
 }

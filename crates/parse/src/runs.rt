@@ -89,14 +89,14 @@ fn judge_punct(stops: Stops, depth: usize, minus: bool, b: u8) -> Verdict
     requires { ⌜ depth + 1 < 2 ^ 64 ⌝ }
     ensures { λ r. ⌜ verdictOf r ≡ judgePunct (stopsOf stops) depth minus b ⌝ }
 {
-    if check_if_arrow(minus, b) {
-        return Verdict::Belongs(depth, false);
-    }
     if b == b'<' {
         let deeper = depth + 1;
         return Verdict::Belongs(deeper, false);
     }
     if b == b'>' {
+        if check_if_arrow(minus, b) {
+            return Verdict::Belongs(depth, false);
+        }
         if depth == 0 {
             if stops.angle {
                 return Verdict::Ends(Ending::Angle);

@@ -31,8 +31,10 @@ enum-known-name c = search needs
 
 bounds-requires : tie.Need-bounds-requires
 bounds-requires c κs =
-    let args = c .before .before .before .before .before .before .before .before .before .before .args in
-    let parameter-name = c .before .before .before .before .before .before .parameter-name in
+    let args-2 = c .before .before .before .before .before .before .before .before .before .before .args in
+    let parameter-name-2 = c .before .before .before .before .before .before .parameter-name in
+    let args = args-2 in
+    let parameter-name = parameter-name-2 in
     let name = c .before .before .name in
     meeting.landed (meeting.say (contract.nameShown (args .s .now) (contract.point (args .s .now) (args .c)))
     contract.nameSaid (name .given .1) (parameter-name .ensures))
@@ -40,27 +42,31 @@ bounds-requires c κs =
 enum-known-r-2 : tie.Need-enum-known-r-2
 enum-known-r-2 c = search needs
 
-enum-known-run : tie.Need-enum-known-run
-enum-known-run c = search needs
+enum-known-mark : tie.Need-enum-known-mark
+enum-known-mark c = search needs
 
 parameter-end-requires : tie.Need-parameter-end-requires
 parameter-end-requires c κs =
-    let back8 = c .before .before .before .before .before .before .before .before in
+    let before = c .before .before .before .before .before .before .before .before in
+    let bounds-2 = c .before .before .before .before .before .before .bounds in
+    let back8 = before in
     let back16 = back8 .before .before .before .before .before .before .before .before in
     let args = back16 .before .args in
     let name = back8 .before .name in
-    let bounds = c .before .before .before .before .before .before .bounds in
-    let run = c .before .before .run in
+    let bounds = bounds-2 in
+    let mark = c .before .before .mark in
     meeting.landed (meeting.say (contract.boundShown (args .s .now) (contract.point (args .s .now)
-    (name .given .0 .1 .0))) contract.parameterRunSaid (run .given .1) (bounds .ensures))
+    (name .given .0 .1 .0))) contract.parameterRunSaid (mark .given .1) (bounds .ensures))
 
 same-length : tie.Need-same-length
 same-length c = search needs
 
 returns : tie.Need-returns
 returns c =
-    let args = c .before .before .before .before .before .before .before .before .before .args in
-    let parameter-name = c .before .before .before .before .before .parameter-name in
+    let args-2 = c .before .before .before .before .before .before .before .before .before .args in
+    let parameter-name-2 = c .before .before .before .before .before .parameter-name in
+    let args = args-2 in
+    let parameter-name = parameter-name-2 in
     let r = c .before .r in
     let named = meeting.say (contract.nameShown (args .s .now) (contract.point (args .s .now) (args .c)))
     contract.nameSaid (r .given .1) (parameter-name .ensures) in
@@ -74,12 +80,14 @@ same-length-2 c = search needs
 
 returns-2 : tie.Need-returns-2
 returns-2 c =
-    let back8 = c .before .before .before .before .before .before .before .before in
+    let before = c .before .before .before .before .before .before .before .before in
+    let bounds-2 = c .before .before .before .before .before .bounds in
+    let back8 = before in
     let back16 = back8 .before .before .before .before .before .before .before .before in
     let args = back16 .args in
     let parameter-name = back8 .before .before .before .before .parameter-name in
     let name = back8 .name in
-    let bounds = c .before .before .before .before .before .bounds in
+    let bounds = bounds-2 in
     let r2 = c .before .r2 in
     let named = meeting.say (contract.nameShown (args .s .now) (contract.point (args .s .now) (args .c)))
     contract.nameSaid (name .given .1) (parameter-name .ensures) in
@@ -100,20 +108,23 @@ same-length-3 c = search needs
 
 returns-3 : tie.Need-returns-3
 returns-3 c =
-    let back8 = c .before .before .before .before .before .before .before .before in
+    let before = c .before .before .before .before .before .before .before .before in
+    let mark-2 = c .before .before .before .before .before .mark in
+    let back8 = before in
     let back16 = back8 .before .before .before .before .before .before .before .before in
     let args = back16 .before .before .before .before .args in
     let parameter-name = back16 .parameter-name in
     let name = back8 .before .before .before .before .name in
     let bounds = back8 .before .bounds in
-    let run = c .before .before .before .before .before .run in
+    let mark = mark-2 in
     let parameter-end = c .before .before .parameter-end in
     let named = meeting.say (contract.nameShown (args .s .now) (contract.point (args .s .now) (args .c)))
     contract.nameSaid (name .given .1) (parameter-name .ensures) in
     let d = name .given .0 .1 .0 in
     let kind = args .kind in
+    let read = contract.parameterRun (mark .given .0 .0) (mark .given .0 .1 .0) in
     let bound = meeting.say (contract.boundShown (args .s .now) (contract.point (args .s .now) d))
-    contract.parameterRunSaid (run .given .1) (bounds .ensures) in
+    contract.parameterRunSaid (mark .given .1) (bounds .ensures) in
     meeting.meets-as (meeting.after-assoc (args .c .row)
     (reading.parameterName (args .number) (args .or) (args .c .row) (contract.stream (args .s .now) (args .c)))
     (made kind) reading.comma)
@@ -123,9 +134,9 @@ returns-3 c =
     (contract.parameterMade kind x) reading.comma)
     (meeting.meets-then (λ b. reading.comma (contract.parameterMade kind x b)) bound
     (λ b u.
-    let here = subst (λ (p : Point). contract.ParameterRunAt (args .s .now) p b end (run .given .0 .0)) (h .2 .here) u in
+    let here = subst (λ (p : Point). contract.ParameterRunAt (args .s .now) p b end read) (h .2 .here) u in
     parameter-end .ensures (contract.parameterMade kind x b) (contract.point (args .s .now) (args .c))
-    (made-of (args .s .now) x b kind (h .0)) (h .1) (made-run (args .s .now) x b kind _ (run .given .0 .0) here)))))
+    (made-of (args .s .now) x b kind (h .0)) (h .1) (made-run (args .s .now) x b kind _ read here)))))
 
 pub named-parameter-spec : {M : Type 1} → statement M
 named-parameter-spec =
@@ -136,7 +147,7 @@ named-parameter-spec =
     enum-known-name
     bounds-requires
     enum-known-r-2
-    enum-known-run
+    enum-known-mark
     parameter-end-requires
     same-length
     returns

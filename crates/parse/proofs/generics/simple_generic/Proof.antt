@@ -14,24 +14,28 @@ bounds-or-default-requires c κs = search needs
 enum-known-r : tie.Need-enum-known-r
 enum-known-r c = search needs
 
-enum-known-run : tie.Need-enum-known-run
-enum-known-run c = search needs
+enum-known-mark : tie.Need-enum-known-mark
+enum-known-mark c = search needs
 
 parameter-end-requires : tie.Need-parameter-end-requires
 parameter-end-requires c κs =
-    let args = c .before .before .before .before .before .before .before .before .before .before .args in
-    let bounds-or-default = c .before .before .before .before .before .before .bounds-or-default in
-    let run = c .before .before .run in
+    let args-2 = c .before .before .before .before .before .before .before .before .before .before .args in
+    let bounds-or-default-2 = c .before .before .before .before .before .before .bounds-or-default in
+    let args = args-2 in
+    let bounds-or-default = bounds-or-default-2 in
+    let mark = c .before .before .mark in
     meeting.landed (meeting.say (contract.typeShown (args .s .now) (contract.point (args .s .now) (args .c)) [])
-    contract.parameterRunSaid (run .given .1) (bounds-or-default .ensures []))
+    contract.parameterRunSaid (mark .given .1) (bounds-or-default .ensures []))
 
 same-length : tie.Need-same-length
 same-length c = search needs
 
 returns : tie.Need-returns
 returns c =
-    let args = c .before .before .before .before .before .before .before .before .before .args in
-    let bounds-or-default = c .before .before .before .before .before .bounds-or-default in
+    let args-2 = c .before .before .before .before .before .before .before .before .before .args in
+    let bounds-or-default-2 = c .before .before .before .before .before .bounds-or-default in
+    let args = args-2 in
+    let bounds-or-default = bounds-or-default-2 in
     let r = c .before .r in
     λ n x h place past.
     meeting.meets-no reading.comma
@@ -43,18 +47,21 @@ same-length-2 c = search needs
 
 returns-2 : tie.Need-returns-2
 returns-2 c =
-    let back8 = c .before .before .before .before .before .before .before .before in
+    let before = c .before .before .before .before .before .before .before .before in
+    let mark-2 = c .before .before .before .before .before .mark in
+    let back8 = before in
     let args = back8 .before .before .before .before .before .args in
     let bounds-or-default = back8 .before .bounds-or-default in
-    let run = c .before .before .before .before .before .run in
+    let mark = mark-2 in
     let parameter-end = c .before .before .parameter-end in
+    let read = contract.parameterRun (mark .given .0 .0) (mark .given .0 .1 .0) in
     λ n x h place past.
     meeting.meets-then reading.comma
     (meeting.say (contract.typeShown (args .s .now) (contract.point (args .s .now) (args .c)) n)
-    contract.parameterRunSaid (run .given .1) (bounds-or-default .ensures n))
+    contract.parameterRunSaid (mark .given .1) (bounds-or-default .ensures n))
     (λ a k. parameter-end .ensures a x
     (record { kind = k .0; text = subst⁻¹ (contract.TextOf (args .s .now) (args .name)) (k .1) h }) place
-    (subst (λ (p : Point). contract.ParameterRunAt (args .s .now) p (contract.boundOf a) (contract.defaultOf a) (run .given .0 .0)) past (k .2)))
+    (subst (λ (p : Point). contract.ParameterRunAt (args .s .now) p (contract.boundOf a) (contract.defaultOf a) read) past (k .2)))
 
 pub simple-generic-spec : {M : Type 1} → statement M
 simple-generic-spec =
@@ -62,7 +69,7 @@ simple-generic-spec =
     (tie.spec
     bounds-or-default-requires
     enum-known-r
-    enum-known-run
+    enum-known-mark
     parameter-end-requires
     same-length
     returns
