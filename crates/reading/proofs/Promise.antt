@@ -1,14 +1,14 @@
 -- The answer of the reader of declarations keeps the promise on roles.
 use mathlib.Core.Path.{_≡_, refl, ap, _∙_, sym, subst}
-use mathlib.Core.Bool.{Bool, true, false, cond, true≢false, false≢true}
-use mathlib.Core.List.{List, [], _∷_, _++_}
-use Prim.Native.Nat.{ℕ, _+_, _-_, _≤_, _<_}
+use mathlib.Core.Bool.{Bool, true≢false, false≢true}
+use mathlib.Core.List.{List, _++_}
+use Prim.Native.Nat.{ℕ, _-_, _≤_}
 use native.Mathlib.Omega.{arith}
 use borrow.Author.Tests.{ltb-true, ltb-false}
 use lib.Dec.{ltb}
 use lib.ListN.{length, replicate, length-append, length-replicate}
 use Rattle.token_list.specs.Check as list
-use Rattle.token_list.specs.Stream.{Trees, size, at}
+use Rattle.token_list.specs.Stream.{Trees, size}
 use Rattle.token_list.proofs.Passed.{passed-list}
 use Rattle.reading.specs.Role as role
 use Rattle.reading.specs.Grammar.{Obeys, everything}
@@ -18,10 +18,10 @@ use Rattle.reading.specs.Reading.{item}
 use Rattle.reading.specs.Answer.{Answer, declared, refused, itemAnswer, answer, buffer, accepts}
 use Rattle.reading.proofs.Frame.{framed-cases}
 use Rattle.reading.specs.Promise.{stream, Assignment, OneEach, SingleAssignment}
-use Rattle.reading.proofs.Conserved.{conserved, Conserved, item-conserving}
+use Rattle.reading.proofs.Rounds.{both-roles, same-roles}
+use Rattle.reading.proofs.Conserved.{conserved, item-conserved}
 use Rattle.reading.proofs.GrammarSound.{obeys-sound}
 use Rattle.reading.proofs.GrammarComplete.{Read, obeys-complete}
-use Rattle.reading.proofs.GrammarRoles.{obeys-roles}
 
 -- ## Assignments of a stream
 
@@ -36,15 +36,20 @@ obeys-unique rs qs h k = go (obeys-complete h) (obeys-complete k)
         let u : a .rest ≡ b .rest = cc same in
         a .roles ∙ (λ i. t i ++ replicate (size (u i)) role.left-over) ∙ sym (b .roles)
 
-pub obeys-length : {ts : Trees} (rs : List ℕ) → Obeys everything ts rs → length rs ≡ size ts
-obeys-length {ts} rs h =
+pub obeys-each : {ts : Trees} (rs : List ℕ) → Obeys everything ts rs → OneEach (size ts) rs
+obeys-each {ts} rs h =
     let a = obeys-complete h in
-    let k = conserved (subst (Conserved ts) (a .reading) (item-conserving 0 ts)) in
-    ap length (a .roles) ∙ omega (
-      arith,
-      length-append (a .taken) (replicate (size (a .rest)) role.left-over),
-      length-replicate (size (a .rest)) role.left-over,
-    )
+    let k = conserved (item-conserved ts (a .reading)) in
+    let left = replicate (size (a .rest)) role.left-over in
+    record {
+      counted = ap length (a .roles) ∙ omega (
+        arith,
+        k .rows,
+        length-append (a .taken) left,
+        length-replicate (size (a .rest)) role.left-over,
+      );
+      named = rw (a .roles) (both-roles (a .taken) left (k .roles) (same-roles (size (a .rest)) role.left-over refl));
+    }
 
 never : {d : Declaration} {rs : List ℕ} {us : Trees} {w : Cause} {n p : ℕ} → took d rs us ≡ stopped w n p → ⊥
 never e = let z : _≡_ {A = ℕ} 0 1 = cc in omega arith
@@ -53,8 +58,7 @@ never e = let z : _≡_ {A = ℕ} 0 1 = cc in omega arith
 
 module _ (s : List ℕ) where
   one-each : (k : ℕ) → list.check s ≡ list.Answer.passed k → (roles : List ℕ) → Assignment s roles → OneEach k roles
-  one-each k e roles o =
-      record { counted = obeys-length roles o ∙ passed-list s k e .size; named = obeys-roles everything o }
+  one-each k e roles o = subst (λ (n : ℕ). OneEach n roles) (passed-list s k e .size) (obeys-each roles o)
 
   module _ (n : ℕ) where
     -- nothing is accepted
