@@ -15,8 +15,8 @@ use Rattle.reading.specs.Declaration.{Visibility, Kind, struct, enum, Fi
 use Rattle.reading.specs.Took.{Took, took, Reader, onward, after, _>>=_, pure, wrong}
 use Rattle.reading.specs.Reading as r
 use Rattle.reading.specs.Reading.{Maybe, done, one, Word, missing, found, Stops, Ending, RunEnd, Verdict, belongs, ends, unopened}
-pub use Rattle.reading.proofs.Rounds.{Conserved, Keeping, Conserving, Any, Role, ownNumber, conserved, refusal-number, refusal-place, Rounding, rounding, Turn, Turning, turn-round, every-step, every-conserving, Ended, every-ended}
-use Rattle.reading.proofs.Rounds.{taken, refused, past-none, past-leaf, past-group, past-both, onward-conserved, after-conserved, looser, bind, choice, reader-choice, nothing-taken, pure-conserving, one-row, copied-alone, copied-conserved, from-conserved, told-end, told-row, closing-conserved, Place, at-end, at-row, bind-pure, turn-wider, bind-turning, AnyRest, Empty}
+pub use Rattle.reading.proofs.Rounds.{Conserved, Keeping, Conserving, Any, IsRole, ownNumber, conserved, refusal-number, refusal-place, Rounding, rounding, Turn, Turning, turn-round, every-step, every-conserving, Ended, every-ended}
+use Rattle.reading.proofs.Rounds.{taken, refused, past-none, past-leaf, past-group, past-both, onward-conserved, after-conserved, looser, bind, choice, reader-choice, nothing-taken, pure-conserving, one-row, copied-alone, copied-conserved, from-conserved, told-end, told-row, closing-conserved, PlaceBelow, at-end, at-row, bind-pure, turn-wider, bind-turning, AnyRest, Empty}
 
 -- a field's run ends at a comma or at the end
 judge-comma : (q : Row) (e : Ending) → r.judge r.fieldStops 0 false q ≡ ends e → r.isPunct 44 q ≡ true
@@ -58,7 +58,7 @@ module _ (b : ℕ) where
   WordIn ts missing us = Unit {0}
   WordIn ts (found t p) us = (p < b) × (size us < size ts)
 
-  word-in : (n : ℕ) → Role n → (row : ℕ) (ts : Trees) → row + size ts ≤ b → Conserved b (WordIn ts) ts (r.word n row ts)
+  word-in : (n : ℕ) → IsRole n → (row : ℕ) (ts : Trees) → row + size ts ≤ b → Conserved b (WordIn ts) ts (r.word n row ts)
   word-in n e row end l = taken [] end (past-none end) tt
   word-in n e row (leaf q us) l = choice (r.isIdent q)
       (taken (n ∷ []) us (past-leaf n e q us) (omega arith, omega arith))
@@ -67,10 +67,10 @@ module _ (b : ℕ) where
       (taken (r.copied n ts) us (past-group n e d ts us) (omega arith, omega arith))
       (taken [] (group d ts us) (past-none (group d ts us)) tt)
 
-  pub word-conserving : (n : ℕ) → Role n → Conserving b (r.word n)
+  pub word-conserving : (n : ℕ) → IsRole n → Conserving b (r.word n)
   word-conserving n e row ts l = looser (word-in n e row ts l) (λ w us s h. tt)
 
-  pub punctIf-conserving : (x n : ℕ) → Role n → Conserving b (r.punctIf x n)
+  pub punctIf-conserving : (x n : ℕ) → IsRole n → Conserving b (r.punctIf x n)
   punctIf-conserving x n e row end l = nothing-taken
   punctIf-conserving x n e row (leaf q us) l = choice (r.isPunct x q) (one-row n e q us) nothing-taken
   punctIf-conserving x n e row (group d ts us) l = nothing-taken
@@ -81,7 +81,7 @@ module _ (b : ℕ) where
   judged-conserved depth (ends e) ts row l c = nothing-taken
   judged-conserved depth unopened ts row l c = told-row row refl l
 
-  runFrom-conserving : (st : Stops) (n depth : ℕ) (minus : Bool) → Role n → Conserving b (r.runFrom st n depth minus)
+  runFrom-conserving : (st : Stops) (n depth : ℕ) (minus : Bool) → IsRole n → Conserving b (r.runFrom st n depth minus)
   runFrom-conserving st n depth minus k row end l = nothing-taken
   runFrom-conserving st n depth minus k row (leaf q us) l =
       judged-conserved depth (r.judge st depth minus q) (leaf q us) row (omega arith)
@@ -95,10 +95,10 @@ module _ (b : ℕ) where
   kept-conserved us (taken rs vs e h) = taken rs vs e h
   kept-conserved us (refused n p) = refused n p
 
-  pub run-conserving : (st : Stops) (n : ℕ) → Role n → Conserving b (r.run st n)
+  pub run-conserving : (st : Stops) (n : ℕ) → IsRole n → Conserving b (r.run st n)
   run-conserving st n k row ts l = kept-conserved ts (runFrom-conserving st n 0 false k row ts l)
 
-  pub runIf-conserving : (t : Bool) (st : Stops) (n : ℕ) → Role n → Conserving b (r.runIf t st n)
+  runIf-conserving : (t : Bool) (st : Stops) (n : ℕ) → IsRole n → Conserving b (r.runIf t st n)
   runIf-conserving true st n k = run-conserving st n k
   runIf-conserving false st n k = pure-conserving end
 
@@ -125,13 +125,13 @@ module _ (b : ℕ) where
         choice (r.isPunct 35 p) (onward-conserved (role.idle-mark ∷ []) (past-leaf role.idle-mark refl q (leaf p us))
         (marked-conserved (row + 1) p us (omega arith))) (told-row (row + 1) refl (omega arith))
 
-  pub scopeAfter-conserving : Conserving b r.scopeAfter
+  scopeAfter-conserving : Conserving b r.scopeAfter
   scopeAfter-conserving row end l = nothing-taken
   scopeAfter-conserving row (leaf q us) l = nothing-taken
   scopeAfter-conserving row (group d ts us) l =
       choice (eqb d 40 && r.scoped ts) (copied-alone role.scope refl d ts us) nothing-taken
 
-  pub anyScope-conserving : Conserving b r.anyScope
+  anyScope-conserving : Conserving b r.anyScope
   anyScope-conserving row end l = nothing-taken
   anyScope-conserving row (leaf q us) l = nothing-taken
   anyScope-conserving row (group d ts us) l = copied-alone role.scope refl d ts us
@@ -144,7 +144,7 @@ module _ (b : ℕ) where
       choice (r.lone (r.isWord r.PUB) ts) (copied-conserved role.visibility refl d ts us
       (anyScope-conserving (row + r.whole ts) us (omega arith))) nothing-taken
 
-  pub named!-conserving : (w : Word) → Conserving b (r.named! w)
+  named!-conserving : (w : Word) → Conserving b (r.named! w)
   named!-conserving missing = wrong-conserved 11 refl
   named!-conserving (found t p) = pure-conserving t
 
@@ -155,7 +155,7 @@ module _ (b : ℕ) where
   namedKind-conserved (found t p) ts us h row l = reader-choice (same t r.STRUCT) (pure-conserving struct)
       (reader-choice (same t r.ENUM) (pure-conserving enum) (λ row us l. told-row p refl (h .0))) row us l
 
-  pub dataType-conserving : Conserving b r.dataType
+  dataType-conserving : Conserving b r.dataType
   dataType-conserving row ts l = after-conserved row l (word-in role.item-word refl row ts l)
       (λ w us h s row l. after-conserved row l (namedKind-conserved w ts us h row l)
       (λ k us h s row l. bind (word-conserving role.item-name refl)
@@ -163,7 +163,7 @@ module _ (b : ℕ) where
 
   -- ## Parameters: at the end 14 is told at the `<` and 24 at the `'`, which were taken
 
-  parameterName-conserving : (n p : ℕ) → ownNumber n ≡ true → Place b p → Conserving b (r.parameterName n p)
+  parameterName-conserving : (n p : ℕ) → ownNumber n ≡ true → PlaceBelow b p → Conserving b (r.parameterName n p)
   parameterName-conserving n p own k row end l = refused own k
   parameterName-conserving n p own k row (leaf q us) l =
       choice (r.isIdent q) (one-row role.parameter-name refl q us) (told-row row own (omega arith))
@@ -205,7 +205,7 @@ module _ (b : ℕ) where
       first c = onward-conserved (role.parameter-name ∷ []) (past-leaf role.parameter-name refl q us)
           (turned (omega arith) (bind c comma-another (row + 1) us (omega arith)))
 
-  pub generics-conserving : Conserving b r.generics
+  generics-conserving : Conserving b r.generics
   generics-conserving row end l = nothing-taken
   generics-conserving row (group d ts us) l = nothing-taken
   generics-conserving row (leaf q us) l =
@@ -300,10 +300,10 @@ module _ (b : ℕ) where
   tupleField-turning row (leaf q us) l = turn-wider (omega arith) (tupleType-turn row (leaf q us) l)
   tupleField-turning row (group d ts us) l = turn-wider (omega arith) (tupleType-turn row (group d ts us) l)
 
-  pub namedFields-ended : Keeping b (λ f. Empty) r.namedFields
+  namedFields-ended : Keeping b (λ f. Empty) r.namedFields
   namedFields-ended = bind-pure {E = Empty} Fields.named (every-conserving namedField-turning)
 
-  pub tupleFields-ended : Keeping b (λ f. Empty) r.tupleFields
+  tupleFields-ended : Keeping b (λ f. Empty) r.tupleFields
   tupleFields-ended = bind-pure {E = Empty} Fields.tuple (every-conserving tupleField-turning)
 
   -- the inside of a group, to its end
@@ -313,7 +313,7 @@ module _ (b : ℕ) where
 
   -- ## Variants and bodies
 
-  pub variantFields-conserving : Conserving b r.variantFields
+  variantFields-conserving : Conserving b r.variantFields
   variantFields-conserving row end l = nothing-taken
   variantFields-conserving row (leaf q us) l = nothing-taken
   variantFields-conserving row (group d ts us) l =
@@ -335,7 +335,7 @@ module _ (b : ℕ) where
       (choice (r.isPunct 45 q) (from-conserved role.value refl row q us l negativeValue-conserving)
       (told-row row refl (omega arith)))
 
-  pub valueIf-conserving : Conserving b r.valueIf
+  valueIf-conserving : Conserving b r.valueIf
   valueIf-conserving row end l = nothing-taken
   valueIf-conserving row (group d ts us) l = told-row row refl (omega arith)
   valueIf-conserving row (leaf q us) l =
@@ -385,7 +385,7 @@ module _ (b : ℕ) where
 
   -- ## The item
 
-  pub item-conserving : Conserving b r.item
+  item-conserving : Conserving b r.item
   item-conserving =
       bind attributes-conserving
       (λ a. bind visibility-conserving

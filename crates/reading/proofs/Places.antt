@@ -21,7 +21,7 @@ use Rattle.reading.specs.Answer.{framed, answer, itemAnswer, readNumber}
 use Rattle.reading.specs.Answer.{refused as refused-at}
 use Rattle.reading.specs.Reading as r
 use Rattle.reading.proofs.Frame.{framed-cases}
-use Rattle.reading.proofs.Rounds.{Place, at-end, at-row}
+use Rattle.reading.proofs.Rounds.{PlaceBelow, at-end, at-row}
 use Rattle.reading.proofs.Conserved.{item-conserved, refusal-number, refusal-place}
 
 or-second : (t : Bool) {u : Bool} → u ≡ true → (t || u) ≡ true
@@ -46,7 +46,7 @@ module _ (s : List ℕ) where
       let told = item-conserved (at s 10 .here) q in
       record { one = or-second (between 1 8 n) (refusal-number told); stands = standing (refusal-place told) }
     where
-      standing : {p : ℕ} → Place (size (at s 10 .here)) p → (p ≡ END) ⊎ RowOf s p
+      standing : {p : ℕ} → PlaceBelow (size (at s 10 .here)) p → (p ≡ END) ⊎ RowOf s p
       standing at-end = inl refl
       standing (at-row l) = let k = bounds s e in let m = passed-list s rows e .size in
           inr (record { begins = omega (arith, m, k .begun, l); low = omega (arith, m, k .rows, l) })

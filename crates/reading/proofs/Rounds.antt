@@ -22,37 +22,37 @@ use Rattle.reading.specs.Reading.{Maybe, done, one, rounds, every, more}
 
 -- ## Rows that are taken
 
-abbrev pub Role : ℕ → Type 0
-Role n = ltb n role.count ≡ true
+abbrev pub IsRole : ℕ → Type 0
+IsRole n = ltb n role.count ≡ true
 
-abbrev pub Roles : List ℕ → Type 0
-Roles rs = all (λ n. ltb n role.count) rs ≡ true
+abbrev pub AreRoles : List ℕ → Type 0
+AreRoles rs = all (λ n. ltb n role.count) rs ≡ true
 
-pub both-roles : (rs qs : List ℕ) → Roles rs → Roles qs → Roles (rs ++ qs)
+pub both-roles : (rs qs : List ℕ) → AreRoles rs → AreRoles qs → AreRoles (rs ++ qs)
 both-roles [] qs h k = k
 both-roles (n ∷ rs) qs h k = let p = and-parts (ltb n role.count) _ h in
     and-both _ _ (p .0) (both-roles rs qs (p .1) k)
 
-pub same-roles : (k n : ℕ) → Role n → Roles (replicate k n)
+pub same-roles : (k n : ℕ) → IsRole n → AreRoles (replicate k n)
 same-roles zero n e = refl
 same-roles (suc k) n e = and-both _ _ e (same-roles k n e)
 
 -- rows with the roles rs are taken from ts, and us is left
 pub record Parted (rs : List ℕ) (us ts : Trees) : Type 0 where
-  pub roles : Roles rs
+  pub roles : AreRoles rs
   pub rows : length rs + size us ≡ size ts
   pub lighter : texts us ≤ texts ts
 
 pub past-none : (ts : Trees) → Parted [] ts ts
 past-none ts = record { roles = refl; rows = omega arith; lighter = omega arith }
 
-pub past-leaf : (n : ℕ) → Role n → (q : Row) (us : Trees) → Parted (n ∷ []) us (leaf q us)
+pub past-leaf : (n : ℕ) → IsRole n → (q : Row) (us : Trees) → Parted (n ∷ []) us (leaf q us)
 past-leaf n e q us = record { roles = and-both _ _ e refl; rows = omega arith; lighter = omega arith }
 
 pub copied-length : (n : ℕ) (ts : Trees) → length (r.copied n ts) ≡ 1 + size ts + 1
 copied-length n ts = length-replicate (1 + size ts + 1) n
 
-pub past-group : (n : ℕ) → Role n → (d : ℕ) (ts us : Trees) → Parted (r.copied n ts) us (group d ts us)
+pub past-group : (n : ℕ) → IsRole n → (d : ℕ) (ts us : Trees) → Parted (r.copied n ts) us (group d ts us)
 past-group n e d ts us = record {
   roles = same-roles (r.whole ts) n e;
   rows = omega (arith, copied-length n ts);
@@ -73,14 +73,14 @@ abbrev pub ownNumber : ℕ → Bool
 ownNumber n = leb 11 n && leb n 27
 
 -- the end mark, or a row below b
-pub data Place (b : ℕ) : ℕ → Type 0 where
-  at-end : Place b END
-  at-row : {p : ℕ} → p < b → Place b p
+pub data PlaceBelow (b : ℕ) : ℕ → Type 0 where
+  at-end : PlaceBelow b END
+  at-row : {p : ℕ} → p < b → PlaceBelow b p
 
 -- where rows of ts are taken, T holds of the value and of what is left
 pub data Conserved {A : Type 0} (b : ℕ) (T : A → Trees → Type 0) (ts : Trees) : Took A → Type 0 where
   taken : {a : A} (rs : List ℕ) (us : Trees) → Parted rs us ts → T a us → Conserved b T ts (took a rs us)
-  refused : {w : Cause} {n p : ℕ} → ownNumber n ≡ true → Place b p → Conserved b T ts (stopped w n p)
+  refused : {w : Cause} {n p : ℕ} → ownNumber n ≡ true → PlaceBelow b p → Conserved b T ts (stopped w n p)
 
 pub conserved : {A : Type 0} {b : ℕ} {T : A → Trees → Type 0} {ts : Trees} {a : A} {rs : List ℕ} {us : Trees} →
     Conserved b T ts (took a rs us) → Parted rs us ts
@@ -91,7 +91,7 @@ pub refusal-number : {A : Type 0} {b : ℕ} {T : A → Trees → Type 0} {ts : T
 refusal-number (refused n p) = n
 
 pub refusal-place : {A : Type 0} {b : ℕ} {T : A → Trees → Type 0} {ts : Trees} {w : Cause} {n p : ℕ} →
-    Conserved b T ts (stopped w n p) → Place b p
+    Conserved b T ts (stopped w n p) → PlaceBelow b p
 refusal-place (refused n p) = p
 
 -- what is left: whatever it is, or nothing
@@ -161,20 +161,20 @@ module _ {b : ℕ} where
   pub pure-conserving : {A : Type 0} (a : A) → Conserving b (pure a)
   pure-conserving a row ts l = nothing-taken
 
-  pub one-row : {A : Type 0} {a : A} (n : ℕ) → Role n → (q : Row) (us : Trees) →
+  pub one-row : {A : Type 0} {a : A} (n : ℕ) → IsRole n → (q : Row) (us : Trees) →
       Conserved b Any (leaf q us) (took a (n ∷ []) us)
   one-row n e q us = taken (n ∷ []) us (past-leaf n e q us) tt
 
-  pub copied-alone : {A : Type 0} {a : A} (n : ℕ) → Role n → (d : ℕ) (ts us : Trees) →
+  pub copied-alone : {A : Type 0} {a : A} (n : ℕ) → IsRole n → (d : ℕ) (ts us : Trees) →
       Conserved b Any (group d ts us) (took a (r.copied n ts) us)
   copied-alone n e d ts us = taken (r.copied n ts) us (past-group n e d ts us) tt
 
-  pub copied-conserved : {A : Type 0} {T : A → Trees → Type 0} {t : Took A} (n : ℕ) → Role n → (d : ℕ) (ts us : Trees) →
+  pub copied-conserved : {A : Type 0} {T : A → Trees → Type 0} {t : Took A} (n : ℕ) → IsRole n → (d : ℕ) (ts us : Trees) →
       Conserved b T us t → Conserved b T (group d ts us) (onward (r.copied n ts) t)
   copied-conserved n e d ts us c = onward-conserved (r.copied n ts) (past-group n e d ts us) c
 
   -- the first token is taken, and a reader goes on
-  pub from-conserved : {A : Type 0} {T : A → Trees → Type 0} {m : Reader A} (n : ℕ) → Role n → (row : ℕ) (q : Row)
+  pub from-conserved : {A : Type 0} {T : A → Trees → Type 0} {m : Reader A} (n : ℕ) → IsRole n → (row : ℕ) (q : Row)
       (us : Trees) → row + size (leaf q us) ≤ b → Keeping b T m → Conserved b T (leaf q us) (r.from n row us m)
   from-conserved n e row q us l k = onward-conserved (n ∷ []) (past-leaf n e q us) (k (row + 1) us (omega arith))
 
