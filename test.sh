@@ -25,6 +25,9 @@ for program in rows roles listing; do
 done
 sed -n '/^    part name number$/,/^$/s/^    //p' README.md | cmp - examples/controller.listing
 cmp examples/tagged.tokens crates/tagged/stdin
+for program in impl_generics type_generics; do
+    cmp examples/generics.tokens crates/$program/stdin
+done
 sed -n '/^    part name value$/,/^$/s/^    //p' README.md | cmp - crates/tagged/stdout
 
 # The names of roles and refusals are those of the header, with the same numbers.
@@ -68,8 +71,21 @@ example() { # COMMAND FILE: the command prints FILE of the first example, and re
     fi
     cmp target/bindings/refused.out bindings/refused.roles
 }
+# Added names as a program's arguments: what is no name is refused, and never two names.
+rt check impl_generics >/dev/null
+added() { target/bin/impl_generics "$@" <examples/generics.tokens 2>target/bindings/added.err; }
+long=$(printf 'n%.0s' $(seq 255))
+added "'$long" "$long" _ | grep -qx "i $long"
+for name in "" "'" 9 r#a 'a b' $'a\nb' "'"$'a\nb' "${long}n" "'${long}n" "$long$long$long"; do
+    added "$name" | cmp - <(printf 'refused place\n30 -\n')
+done
+many=()
+for n in $(seq 17); do many+=("$long"); done
+added "${many[@]}" | cmp - /dev/null
+grep -q 'more than 4096 bytes of added types' target/bindings/added.err
+
 if have gcc "the C examples and the stack that a call needs"; then
-    for program in roles listing stack; do
+    for program in roles listing generics stack; do
         gcc -std=c11 -Wall -Wextra -Werror -Iinclude -o target/bindings/$program bindings/c/$program.c target/staticlib/libexports.a
     done
     example target/bindings/roles bindings/valve.roles
@@ -78,6 +94,7 @@ if have gcc "the C examples and the stack that a call needs"; then
     target/bindings/listing examples/valve.tokens 0 | grep -qx 'value 14'
     target/bindings/listing examples/valve.tokens 1 | grep -qx 'no value'
     target/bindings/listing examples/valve.tokens 2 | grep -qx 'value -2'
+    target/bindings/generics examples/generics.tokens "'b" Drain | cmp - <(cat crates/{impl,type}_generics/stdout)
     target/bindings/stack recorded/*.txt
     # It has no data but constants, and calls nothing but memset and its like.
     size target/staticlib/libexports.a | awk 'NR > 1 && $2 + $3 > 0 { print; bad = 1 } END { exit bad }'
@@ -93,6 +110,7 @@ if have cargo "the Rust wrapper"; then
     wrapper test --lib
     wrapper build --examples
     example target/cargo/release/examples/roles bindings/valve.roles
+    target/cargo/release/examples/generics examples/generics.tokens "'b" Drain | cmp - <(cat crates/{impl,type}_generics/stdout)
     for file in "${answers[@]}"; do
         target/cargo/release/examples/compare "$file" 100000
     done

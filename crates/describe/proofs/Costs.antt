@@ -7,6 +7,7 @@ use Prim.Native.Nat.{ℕ, zero, suc, _+_, _*_, _≤_}
 use native.Mathlib.Omega.{arith}
 use lib.Dec.{eqb}
 use lib.ListN.{length}
+use Rattle.token_list.specs.Text.{same}
 use Rattle.token_list.specs.Row.{Row}
 use Rattle.token_list.specs.Stream.{Trees, end, leaf, group, size}
 use Rattle.token_list.proofs.Bounds.{texts}
@@ -15,7 +16,7 @@ use Rattle.reading.specs.Declaration.{Kind, struct, enum, Parameter, lifetime, 
 use Rattle.reading.specs.Took.{Took, took, Cause, stopped, refuse, Reader, onward, after, _>>=_, pure}
 use Rattle.reading.specs.Reading as r
 use Rattle.reading.specs.Reading.{Maybe, done, one, Word, missing, found, rounds, every, more}
-use Rattle.reading.proofs.Rounds.{Round, another, finished, refused, Conserved, taken}
+use Rattle.reading.proofs.Rounds.{Conserved, taken, refused, Any, Turn, Empty}
 use Rattle.reading.proofs.Conserved as conserved
 use Rattle.reading.proofs.Conserved.{Conserving}
 use Rattle.describe.specs.Value.{negativeText}
@@ -115,12 +116,12 @@ besides {A} {cost} {m} d w row ts = go (w row ts)
     go refuses = refuses
 
 -- what is read has no line
-keeps : {A : Type 0} {m : Reader A} (d : ℕ) → Conserving m → Covering (λ a. d) d m
-keeps {A} {m} d k row ts = go (k row ts)
+keeps : {A : Type 0} {m : Reader A} (d : ℕ) → ((b : ℕ) → Conserving b m) → Covering (λ a. d) d m
+keeps {A} {m} d k row ts = go (k (row + size ts) row ts (omega arith))
   where
-    go : {t : Took A} → Conserved ts t → Covered (λ a. d) d ts t
-    go (taken {a = a} rs us e) = covers a rs us (omega arith)
-    go (refused n) = refuses
+    go : {b : ℕ} {t : Took A} → Conserved b Any ts t → Covered (λ a. d) d ts t
+    go (taken {a = a} rs us e h) = covers a rs us (omega arith)
+    go (refused n p) = refuses
 
 from-covered : {A : Type 0} {cost : A → ℕ} {c : ℕ} {m : Reader A} (n row : ℕ) (q : Row) (us : Trees) →
     c ≤ nameCost (q .text) → Covering cost c m
@@ -153,7 +154,7 @@ every-covering {A} {cost} {m} w row ts = again (suc (size ts)) row ts
     again (suc n) row ts = after-covered row (more (rounds n m)) (w row ts) (goes-on (again n))
 
 comma-covering : {A : Type 0} {cost : A → ℕ} (a : A) → Covering (maybe cost) (cost a) (r.comma a)
-comma-covering {cost = cost} a = bind (keeps (cost a) (conserved.punctIf-conserving 44 role.separator))
+comma-covering {cost = cost} a = bind (keeps (cost a) (λ b. conserved.punctIf-conserving b 44 role.separator refl))
     (λ t. returned (one a))
 
 -- ## Words and the item's name
@@ -177,13 +178,22 @@ named!-covering : (w : Word) → Covering nameCost (wordCost w) (r.named! w)
 named!-covering missing row ts = refuses
 named!-covering (found t p) row ts = covers t [] ts (omega arith)
 
+namedKind-covering : (w : Word) → Covering (λ k. 0) 0 (r.namedKind w)
+namedKind-covering missing = λ row ts. refuses
+namedKind-covering (found t p) = go (same t r.STRUCT) (same t r.ENUM)
+  where
+    go : (s e : Bool) → Covering (λ k. 0) 0 (cond s (pure struct) (cond e (pure enum) (λ row ts. refuse 25 p)))
+    go true e = returned struct
+    go false true = returned enum
+    go false false = λ row ts. refuses
+
 abbrev headCost : r.Head → ℕ
 headCost h = nameCost (h .name)
 
 dataType-covering : Covering headCost 0 r.dataType
 dataType-covering =
-    bind (keeps 0 (conserved.word-conserving role.item-word))
-    (λ w. bind (keeps 0 (conserved.namedKind-conserving w))
+    bind (keeps 0 (λ b. conserved.word-conserving b role.item-word refl))
+    (λ w. bind (namedKind-covering w)
     (λ k. bind (word-covering role.item-name)
     (λ v. bind (named!-covering v)
     (λ n. returned _))))
@@ -200,18 +210,18 @@ parameterName-covering n p row (group d ts us) = refuses
 lifetimeAfter-covering : (q : ℕ) → Covering parameterCost 1 (r.lifetimeAfter q)
 lifetimeAfter-covering q =
     bind (besides 1 (parameterName-covering 24 q))
-    (λ n. bind (keeps _ (conserved.marked-run-conserving 58)) (λ b row ts. covers (lifetime n b) [] ts (omega arith)))
+    (λ n. bind (keeps _ (λ b. conserved.marked-run-conserving b 58)) (λ b row ts. covers (lifetime n b) [] ts (omega arith)))
 
 constantAfter-covering : Covering parameterCost 0 r.constantAfter
 constantAfter-covering =
-    bind (parameterName-covering 27 65535) (λ n. bind (keeps _ (conserved.marked-run-conserving 58)) (λ b. returned _))
+    bind (parameterName-covering 27 65535) (λ n. bind (keeps _ (λ b. conserved.marked-run-conserving b 58)) (λ b. returned _))
 
 typeAfter-covering : (n : List ℕ) → Covering parameterCost (nameCost n) (r.typeAfter n)
-typeAfter-covering n = bind (keeps _ (conserved.punctIf-conserving 58 role.separator)) runs
+typeAfter-covering n = bind (keeps _ (λ b. conserved.punctIf-conserving b 58 role.separator refl)) runs
   where
     runs : (t : Bool) → Covering parameterCost (nameCost n) (r.typeRuns n t)
-    runs true = bind (keeps _ (conserved.run-conserving r.parameterStops role.bound)) (λ b. returned _)
-    runs false = bind (keeps _ (conserved.marked-run-conserving 61)) (λ d. returned _)
+    runs true = bind (keeps _ (λ b. conserved.run-conserving b r.parameterStops role.bound refl)) (λ b. returned _)
+    runs false = bind (keeps _ (λ b. conserved.marked-run-conserving b 61)) (λ d. returned _)
 
 parameter-covering : (angle : ℕ) → Covering (maybe parameterCost) 0 (r.parameter angle)
 parameter-covering angle row end = refuses
@@ -244,9 +254,9 @@ fieldStart-covering a v row (leaf q us) =
   where
     rest : (n : List ℕ) → Covering (maybe fieldCost) (nameCost n) (r.fieldAfter a v n)
     rest n =
-        bind (keeps _ (conserved.punctIf-conserving 58 role.separator))
-        (λ t. bind (keeps _ (conserved.must-conserving 23 t refl))
-        (λ u. bind (keeps _ (conserved.run-conserving r.fieldStops role.type))
+        bind (keeps _ (λ b. conserved.punctIf-conserving b 58 role.separator refl))
+        (λ t. bind (keeps _ (λ b. conserved.must-conserving b 23 t refl))
+        (λ u. bind (keeps _ (λ b. conserved.run-conserving b r.fieldStops role.type refl))
         (λ f. comma-covering _)))
 
 namedField-covering : Covering (maybe fieldCost) 0 r.namedField
@@ -256,12 +266,13 @@ namedField-covering =
 
 -- a row at least is taken
 tupleField-covering : Covering (maybe typeCost) 0 r.tupleField
-tupleField-covering row ts = go (conserved.tupleField-round row ts)
+tupleField-covering row ts = go (conserved.tupleField-turning (row + size ts) row ts (omega arith))
   where
-    go : {t : Took (Maybe UnnamedField)} → Round ts t → Covered (maybe typeCost) 0 ts t
-    go (another {a = a} rs us e h) = covers (one a) rs us (omega arith)
-    go (finished rs us e) = covers done rs us (omega arith)
-    go (refused n) = refuses
+    go : {b : ℕ} {t : Took (Maybe UnnamedField)} → Conserved b (Turn Empty (size ts)) ts t →
+        Covered (maybe typeCost) 0 ts t
+    go (taken {a = one a} rs us e h) = covers (one a) rs us (omega arith)
+    go (taken {a = done} rs us e h) = covers done rs us (omega arith)
+    go (refused n p) = refuses
 
 namedFields-covering : Covering fieldsCost 0 r.namedFields
 namedFields-covering = bind (every-covering namedField-covering) (λ fs. returned _)

@@ -27,7 +27,7 @@ use Rattle.reading.specs.Declaration.{Kind, struct, enum, Fields, unit, named, 
 use Rattle.reading.specs.Took.{Took, took, stopped}
 use Rattle.reading.specs.Reading.{item}
 use Rattle.reading.proofs.Frame.{framed-cases}
-use Rattle.reading.proofs.Conserved.{Conserved, ownNumber, refusal-number, item-conserving}
+use Rattle.reading.proofs.Conserved.{ownNumber, refusal-number, item-conserved}
 use Rattle.describe.specs.Listing.{line, numbered, parameterLine, namedLine, tupleLine, fieldLines, number, variantLines, bodyLines, kindText, listing, itemAnswer, whole, answer, MOST, Fits}
 use Rattle.describe.specs.Contract.{Reported}
 use Rattle.describe.proofs.Costs.{total, parameterCost, fieldCost, typeCost, fieldsCost, valueCost, variantCost, bodyCost, itemCost, item-cost}
@@ -132,7 +132,7 @@ module _ (s : List ℕ) where
       let c : itemCost d ≤ 147456 = omega (arith, item-cost 0 (at s 10 .here) f, passed-list s n e .size) in
       omega (arith, listing-length d (omega arith))
   by-item e (stopped w n p) f = λ q. true≢false
-      (sym (refusal-number (subst (Conserved (at s 10 .here)) f (item-conserving 0 (at s 10 .here)))) ∙ ap ownNumber q)
+      (sym (refusal-number (item-conserved (at s 10 .here) f)) ∙ ap ownNumber q)
 
   right : Right (whole s)
   unfolding whole

@@ -1,5 +1,5 @@
 -- Laws on fields, groups and values.
-use mathlib.Core.Path.{_≡_, refl, ap, _∙_, sym, subst, subst⁻¹, fun-ext}
+use mathlib.Core.Path.{_≡_, refl, ap, _∙_, sym, subst⁻¹, fun-ext}
 use mathlib.Core.Bool.{Bool, true, false, _&&_}
 use mathlib.Core.List.{List, [], _∷_, _++_, append-nil}
 use Prim.Native.Nat.{ℕ, suc, _+_, _-_, _*_, _≤_, _<_}
@@ -26,7 +26,7 @@ use Rattle.parse.proofs.Meeting.{past-fits, past-in-of, meets-as, meets
 use Rattle.parse.proofs.Places.{meets-beyond, cursor-at}
 use Rattle.reading.specs.Took.{beyond}
 use Rattle.reading.specs.Place.{startAt}
-use Rattle.reading.proofs.Conserved.{Ended, ended-at}
+use Rattle.reading.proofs.Conserved.{Ended}
 
 -- ## What stands before an item or a field, and then its other parts
 
@@ -106,7 +106,7 @@ module _ (s : List ℕ) (c inside : Cursor) (t : Token) (i : InList s c) (g : Gr
   meets-closing {b2 = b2} {b3 = b3} {sh = sh} {d = d} {e = e} (stands {rs = rs} {us = us} m h) z q k =
       let o : at s (e .at) .here ∷ at s (e .at) .outer ≡ g .after ∷ at s (c .at) .outer = sym (k .streams) ∙ m .outer ∙
       inside-outer in
-      let n : size (stream s d) ≡ 0 = ap size (m .here ∙ ended-at z) in
+      let n : size (stream s d) ≡ 0 = ap size (m .here ∙ z) in
       let r = ap (λ (y : Cursor). y .row) p in
       let y = ap (λ (y : Cursor). y .at) p in
       let l : length (14 ∷ rs ++ 14 ∷ []) ≡ 1 + length rs + 1 = omega (arith, length-append rs (14 ∷ [])) in

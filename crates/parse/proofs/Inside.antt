@@ -4,7 +4,6 @@ use mathlib.Core.Bool.{true, false}
 use mathlib.Core.List.{List, [], _∷_}
 use Prim.Native.Nat.{ℕ, _+_, _<_}
 use native.Mathlib.Omega.{arith}
-use lib.ListN.{length}
 use Rattle.token_list.specs.Byte.{LESS}
 use Rattle.token_list.specs.Stream.{Trees, end, at}
 use Rattle.token_list.specs.Contract.{InList, LeafAt, GroupAt, rowOf}
@@ -15,7 +14,7 @@ use Rattle.reading.specs.Role as role
 use Rattle.reading.specs.Declaration.{Parameter, Generics, without, angled, parametersOf}
 use Rattle.reading.specs.Took.{Took, took, Cause, stopped, Reader, onward, after, pure}
 use Rattle.reading.specs.Reading.{Maybe, done, one, more, every, isPunct, parameter, generics}
-use Rattle.reading.proofs.Rounds.{Rounding, Round, another, every-step}
+use Rattle.reading.proofs.Rounds.{Rounding, Round, every-step}
 use Rattle.parse.specs.Contract.{Moved, on, no, Meets, stands, refuses, stream, pastOf, InsideAt}
 use Rattle.parse.proofs.Meeting.{past-in}
 
@@ -121,9 +120,6 @@ module _ {A : Type 0} (m : Reader (Maybe A)) (rd : Rounding m) {s : List ℕ} {c
       go e (refuses qs q) = took-not-refuse (again k e)
 
 -- a step goes forward
-progress : {A : Type 0} {ts us : Trees} {a : A} {rs : List ℕ} → Round ts (took (one a) rs us) → 0 < length rs
-progress (another rs us e l) = omega arith
-
 pub forward : {A : Type 0} (m : Reader (Maybe A)) (rd : Rounding m) {s : List ℕ} {c d : Cursor} {b0 b1 : List ℕ}
     {sh : Maybe A → Type 0} {told : A → Type 0}
     → Meets s c b0 b1 sh (on d) (m (c .row) (stream s c)) → ((v : Maybe A) → sh v → (a : A) × (v ≡ one a) × told a) →
@@ -133,8 +129,8 @@ forward {A} m rd {s} {c} {d} {b0} {b1} {sh} w f = go refl w
     go : {t : Took (Maybe A)} → m (c .row) (stream s c) ≡ t → Meets s c b0 b1 sh (on d) t → (c .at < d .at) × InList s d
     go e (stands {a = v} {rs = rs} {us = us} mv h) =
         let o = f v h in
-        let p = progress (subst (Round (stream s c)) (e ∙ ap (λ (w : Maybe A). took w rs us) (o .1))
-        (rd (c .row) (stream s c))) in
+        let p = subst (Round (stream s c)) (e ∙ ap (λ (w : Maybe A). took w rs us) (o .1))
+        (rd (c .row) (stream s c)) .1 in
         (omega (arith, mv .forth, p), mv .inList)
 
 -- ## Generics

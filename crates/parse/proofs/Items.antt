@@ -1,5 +1,5 @@
 -- Laws on the item and on the whole answer.
-use mathlib.Core.Path.{_≡_, refl, ap, _∙_, sym, subst, subst⁻¹}
+use mathlib.Core.Path.{_≡_, refl, ap, _∙_, sym, subst⁻¹}
 use mathlib.Core.List.{List, _++_, append-nil}
 use Prim.Native.Nat.{ℕ, _+_, _-_, _≤_, _<_}
 use native.Mathlib.Omega.{arith}
@@ -30,7 +30,7 @@ use Rattle.parse.proofs.Buffer.{sets-append}
 use Rattle.parse.proofs.Meeting.{meets-show, meets-none}
 use Rattle.parse.proofs.Places.{meets-beyond}
 use Rattle.reading.proofs.Places as places
-use Rattle.reading.proofs.Conserved.{Conserved, conserved, item-conserving}
+use Rattle.reading.proofs.Conserved.{conserved, item-conserved}
 
 -- ## The role buffer
 
@@ -150,7 +150,7 @@ module _ (s : List ℕ) (rows : ℕ) (e : list.check s ≡ list.passed rows) (b0
           Meets s first b0 b1 (itemShown s first (itemSteps.At i)) (on (i .next)) t → Answered s (parsedOf i) b0 b2
       go f (stands {a = d} {rs = rs} {us = us} mv o) =
           let a = answer-read s (length b0) rows e room ∙ ap itemAnswer f in
-          let c = conserved (subst (Conserved (at s 10 .here)) f (item-conserving 0 (at s 10 .here))) in
+          let c = conserved (item-conserved (at s 10 .here) f) in
           let n : i .next .row ≡ length rs = omega (arith, mv .row) in
           record {
             answer = subst⁻¹ (ParsedAs s (parsedOf i)) a

@@ -12,7 +12,7 @@ use Rattle.reading.specs.Took.{Took, took, stopped, Reader, onward, gathered, a
 use Rattle.reading.specs.Reading.{Maybe, done, one, more, every}
 use Rattle.parse.specs.Contract.{Moved, Said, on, no, any, Meets, stands, refuses, stream, Gained}
 use Rattle.parse.proofs.Meeting.{marked-on, moved-none, moved-on}
-use Rattle.reading.proofs.Rounds.{Round, another, Rounding, every-step}
+use Rattle.reading.proofs.Rounds.{Round, Rounding, every-step}
 
 -- what was read from `from` on up to c, and what is left there
 pub record Gathering {A : Type 0} (s : List ℕ) (from : Cursor) (before : List ℕ) (c : Cursor) (now : List ℕ)
@@ -83,9 +83,6 @@ pub rounds-start : {A : Type 0} (s : List ℕ) (c : Cursor) (b : List ℕ) (t : 
 unfolding gathering-start
 rounds-start s c b t i = record { gathering = gathering-start s c b t i; counted = refl; few = omega arith }
 
-progress : {A : Type 0} {ts us : Trees} {a : A} {rs : List ℕ} → Round ts (took (one a) rs us) → 0 < length rs
-progress (another rs us e l) = omega arith
-
 module _ {A : Type 0} (m : Reader (Maybe A)) (rd : Rounding m) {s : List ℕ} {from c : Cursor} {b0 b1 : List ℕ}
     {count : ℕ} {was : Took (List A)}
     (k : Rounded s from b0 c b1 count was (every m (c .row) (stream s c))) where
@@ -99,7 +96,7 @@ module _ {A : Type 0} (m : Reader (Maybe A)) (rd : Rounding m) {s : List ℕ} {f
       → Rounded s from b0 d b2 (count + 1) was (every m (d .row) (stream s d)) × (c .at < d .at)
   unfolding gathering-more
   another-one {b2} d a rs us e mv =
-      let p = progress (subst (Round (stream s c)) e (rd (c .row) (stream s c))) in
+      let p = subst (Round (stream s c)) e (rd (c .row) (stream s c)) .1 in
       let gained : Gained s c d b1 b2 (a ∷ []) (every m (c .row) (stream s c)) (every m (d .row) (stream s d)) =
       record {
         roles = rs;

@@ -7,7 +7,6 @@ pub mod SoundTokens
 pub mod GrammarSound
 pub mod CompleteTokens
 pub mod GrammarComplete
-pub mod GrammarRoles
 pub mod Promise
 pub mod GrammarWider
 pub mod Examples

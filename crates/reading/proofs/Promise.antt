@@ -1,8 +1,9 @@
 -- The answer of the reader of declarations keeps the promise on roles.
 use mathlib.Core.Path.{_≡_, refl, ap, _∙_, sym, subst}
-use mathlib.Core.Bool.{Bool, true, false, cond, true≢false, false≢true}
-use mathlib.Core.List.{List, [], _∷_, _++_}
-use Prim.Native.Nat.{ℕ, _+_, _-_, _≤_, _<_}
+use mathlib.Core.Logic.{_↔_}
+use mathlib.Core.Bool.{Bool, true, false, true≢false, false≢true}
+use mathlib.Core.List.{List, _++_}
+use Prim.Native.Nat.{ℕ, _-_, _≤_}
 use native.Mathlib.Omega.{arith}
 use borrow.Author.Tests.{ltb-true, ltb-false}
 use lib.Dec.{ltb}
@@ -16,12 +17,53 @@ use Rattle.reading.specs.Declaration.{Declaration}
 use Rattle.reading.specs.Took.{Took, took, Cause, stopped}
 use Rattle.reading.specs.Reading.{item}
 use Rattle.reading.specs.Answer.{Answer, declared, refused, itemAnswer, answer, buffer, accepts}
+use Rattle.reading.specs.Promise.{OneEach, Assigns, Assignment, SingleAssignment}
 use Rattle.reading.proofs.Frame.{framed-cases}
-use Rattle.reading.specs.Promise.{stream, Assignment, OneEach, SingleAssignment}
-use Rattle.reading.proofs.Conserved.{conserved, Conserved, item-conserving}
+use Rattle.reading.proofs.Rounds.{both-roles, same-roles}
+use Rattle.reading.proofs.Conserved.{conserved, item-conserved}
 use Rattle.reading.proofs.GrammarSound.{obeys-sound}
 use Rattle.reading.proofs.GrammarComplete.{Read, obeys-complete}
-use Rattle.reading.proofs.GrammarRoles.{obeys-roles}
+
+-- ## The promise of any grammar
+
+module _ {isRole : ℕ → Bool} {Obeying : List ℕ → Type 0} {s : List ℕ} {room : ℕ} where
+  -- accepted exactly when there is an assignment that obeys
+  pub exactly : {accepted : Bool} {buffer : List ℕ} → Assigns isRole Obeying s room accepted buffer → (rows : ℕ) →
+      list.check s ≡ list.Answer.passed rows → rows ≤ room → (accepted ≡ true) ↔ ((roles : List ℕ) × Obeying roles)
+  exactly a rows e l = ((λ t. (a .sound t .3, a .sound t .4)), (λ o. a .complete rows e l (o .0) (o .1)))
+
+  module _ (each : (rows : ℕ) → list.check s ≡ list.Answer.passed rows → (roles : List ℕ) → Obeying roles →
+      OneEach isRole rows roles)
+      (unambiguous : (roles others : List ℕ) → Obeying roles → Obeying others → roles ≡ others)
+      {accepted : Bool} {buffer : List ℕ} where
+    pub assigns-none : accepted ≡ false → buffer ≡ replicate room role.none →
+        ((rows : ℕ) → list.check s ≡ list.Answer.passed rows → rows ≤ room → (roles : List ℕ) → Obeying roles → ⊥)
+        → Assigns isRole Obeying s room accepted buffer
+    assigns-none f c h = record {
+      sound = λ t. absurd (false≢true (sym f ∙ t));
+      complete = λ rows e l roles o. absurd (h rows e l roles o);
+      unambiguous = unambiguous;
+      each = each;
+      cleared = λ t. c;
+    }
+
+    pub assigns-one : (rows : ℕ) (roles : List ℕ) → list.check s ≡ list.Answer.passed rows → rows ≤ room →
+        Obeying roles → accepted ≡ true → buffer ≡ roles ++ replicate (room - length roles) role.none
+        → Assigns isRole Obeying s room accepted buffer
+    assigns-one rows roles e l o f b = record {
+      sound = λ t. (
+        rows,
+        e,
+        l,
+        roles,
+        o,
+        b ∙ ap (λ (m : ℕ). roles ++ replicate (room - m) role.none) (each rows e roles o .counted),
+      );
+      complete = λ k q i rs p. f;
+      unambiguous = unambiguous;
+      each = each;
+      cleared = λ t. absurd (true≢false (sym f ∙ t));
+    }
 
 -- ## Assignments of a stream
 
@@ -36,70 +78,56 @@ obeys-unique rs qs h k = go (obeys-complete h) (obeys-complete k)
         let u : a .rest ≡ b .rest = cc same in
         a .roles ∙ (λ i. t i ++ replicate (size (u i)) role.left-over) ∙ sym (b .roles)
 
-pub obeys-length : {ts : Trees} (rs : List ℕ) → Obeys everything ts rs → length rs ≡ size ts
-obeys-length {ts} rs h =
+pub obeys-each : {ts : Trees} (rs : List ℕ) → Obeys everything ts rs → OneEach (λ r. ltb r role.count) (size ts) rs
+obeys-each {ts} rs h =
     let a = obeys-complete h in
-    let k = conserved (subst (Conserved ts) (a .reading) (item-conserving 0 ts)) in
-    ap length (a .roles) ∙ omega (
-      arith,
-      length-append (a .taken) (replicate (size (a .rest)) role.left-over),
-      length-replicate (size (a .rest)) role.left-over,
-    )
+    let k = conserved (item-conserved ts (a .reading)) in
+    let left = replicate (size (a .rest)) role.left-over in
+    record {
+      counted = ap length (a .roles) ∙ omega (
+        arith,
+        k .rows,
+        length-append (a .taken) left,
+        length-replicate (size (a .rest)) role.left-over,
+      );
+      named = rw (a .roles) (both-roles (a .taken) left (k .roles) (same-roles (size (a .rest)) role.left-over refl));
+    }
 
 never : {d : Declaration} {rs : List ℕ} {us : Trees} {w : Cause} {n p : ℕ} → took d rs us ≡ stopped w n p → ⊥
 never e = let z : _≡_ {A = ℕ} 0 1 = cc in omega arith
 
 -- ## Lists
 
-module _ (s : List ℕ) where
-  one-each : (k : ℕ) → list.check s ≡ list.Answer.passed k → (roles : List ℕ) → Assignment s roles → OneEach k roles
+module _ (s : List ℕ) (n : ℕ) where
+  one-each : (k : ℕ) → list.check s ≡ list.Answer.passed k → (roles : List ℕ) → Assignment s roles →
+      OneEach (λ r. ltb r role.count) k roles
   one-each k e roles o =
-      record { counted = obeys-length roles o ∙ passed-list s k e .size; named = obeys-roles everything o }
+      subst (λ (n : ℕ). OneEach (λ r. ltb r role.count) n roles) (passed-list s k e .size) (obeys-each roles o)
 
-  module _ (n : ℕ) where
-    -- nothing is accepted
-    refusing : (m p : ℕ) → ((k : ℕ) → list.check s ≡ list.Answer.passed k → k ≤ n → (roles : List ℕ) →
-        Assignment s roles → ⊥)
-        → SingleAssignment s n (accepts (refused m p)) (buffer n (refused m p))
-    refusing m p h =
-        record {
-          exactly = λ k e l. ((λ f. absurd (false≢true f)), (λ o. absurd (h k e l (o .0) (o .1))));
-          unique = obeys-unique;
-          each = one-each;
-          filled = λ f. absurd (false≢true f);
-          cleared = λ f. refl;
-        }
+  refusing : (m p : ℕ) →
+      ((k : ℕ) → list.check s ≡ list.Answer.passed k → k ≤ n → (roles : List ℕ) → Assignment s roles → ⊥)
+      → SingleAssignment s n (accepts (refused m p)) (buffer n (refused m p))
+  refusing m p = assigns-none one-each obeys-unique refl refl
 
-    accepting : (k : ℕ) (d : Declaration) (rs : List ℕ) → list.check s ≡ list.Answer.passed k → k ≤ n → Assignment s rs
-        → SingleAssignment s n (accepts (declared d rs)) (buffer n (declared d rs))
-    accepting k d rs e l o =
-        let c = one-each k e rs o in
-        record {
-          exactly = λ j f i. ((λ t. (rs, o)), (λ t. refl));
-          unique = obeys-unique;
-          each = one-each;
-          filled = λ f. (k, e, l, rs, o, c, ap (λ (m : ℕ). rs ++ replicate (n - m) 255) (c .counted));
-          cleared = λ f. absurd (true≢false f);
-        }
+  by-item : (k : ℕ) → list.check s ≡ list.Answer.passed k → k ≤ n → (t : Took Declaration) →
+      item 0 (at s 10 .here) ≡ t → SingleAssignment s n (accepts (itemAnswer t)) (buffer n (itemAnswer t))
+  by-item k e l (took d rs us) i =
+      assigns-one one-each obeys-unique k (rs ++ replicate (size us) role.left-over) e l (obeys-sound i) refl refl
+  by-item k e l (stopped w m p) i =
+      refusing m p (λ j f g roles o. let a = obeys-complete o in never (sym (a .reading) ∙ i))
 
-    by-item : (k : ℕ) → list.check s ≡ list.Answer.passed k → k ≤ n → (t : Took Declaration) → item 0 (stream s) ≡ t
-        → SingleAssignment s n (accepts (itemAnswer t)) (buffer n (itemAnswer t))
-    by-item k e l (took d rs us) i = accepting k d (rs ++ replicate (size us) role.left-over) e l (obeys-sound i)
-    by-item k e l (stopped w m p) i =
-        refusing m p (λ j f g roles o. let a = obeys-complete o in never (sym (a .reading) ∙ i))
+  -- the whole answer and the whole buffer, as they are defined
+  pub promise : SingleAssignment s n (accepts (answer s n)) (buffer n (answer s n))
+  unfolding answer
+  promise =
+      framed-cases (λ (a : Answer). SingleAssignment s n (accepts a) (buffer n a)) refused (λ rows. ltb n rows)
+      itemAnswer s
+      (λ m p e. refusing m p (λ j f i roles o. let q = sym f ∙ e in let z : _≡_ {A = ℕ} 0 1 = cc in omega arith))
+      (λ k e l. refusing 8 list.END (λ j f i roles o. let q : j ≡ k =
+      cc (sym f ∙ e) in omega (arith, ltb-true n k l)))
+      (λ k e l. by-item k e (ltb-false n k l))
 
-    -- the whole answer and the whole buffer, as they are defined
-    pub promise : SingleAssignment s n (accepts (answer s n)) (buffer n (answer s n))
-    unfolding answer
-    promise =
-        framed-cases (λ (a : Answer). SingleAssignment s n (accepts a) (buffer n a)) refused (λ rows. ltb n rows)
-        itemAnswer s
-        (λ m p e. refusing m p (λ j f i roles o. let q = sym f ∙ e in let z : _≡_ {A = ℕ} 0 1 = cc in omega arith))
-        (λ k e l. refusing 8 list.END (λ j f i roles o. let q : j ≡ k =
-        cc (sym f ∙ e) in omega (arith, ltb-true n k l)))
-        (λ k e l. by-item k e (ltb-false n k l))
-
-    -- the same, of a Bool and bytes that are equal to these
-    pub promise-of : (accepted : Bool) (after : List ℕ) → accepted ≡ accepts (answer s n) →
-        after ≡ buffer n (answer s n) → SingleAssignment s n accepted after
-    promise-of accepted after e f = rw (e, f) promise
+  -- the same, of a Bool and bytes that are equal to these
+  pub promise-of : (accepted : Bool) (after : List ℕ) → accepted ≡ accepts (answer s n) →
+      after ≡ buffer n (answer s n) → SingleAssignment s n accepted after
+  promise-of accepted after e f = rw (e, f) promise

@@ -75,9 +75,7 @@ isGroup (group d ts us) = true
 
 -- a first token that a scope begins with
 abbrev pub scoped : Trees → Bool
-scoped end = false
-scoped (leaf r ts) = scopeWord r
-scoped (group d ts us) = false
+scoped ts = starts scopeWord ts
 
 -- nothing
 abbrev pub isEnd : Trees → Bool

@@ -14,10 +14,13 @@ use Rattle.report.specs.Text.{answerText}
 use Rattle.reading.specs.Role as role
 use Rattle.reading.specs.Answer.{Answer, declared, refused, answer}
 use Rattle.describe.specs.Listing as listing
+use Rattle.writing.specs.Answer as writing
 use Rattle.tagged_reading.specs.Reading as tagged
 use Rattle.tagged_reading.specs.Answer.{answer as taggedAnswer}
 use Rattle.replay.specs.declared.header.Topic.{Topic}
-use Rattle.replay.specs.declared.header.Topic.the-variants.{Check, Roles, Every, Listing, Tagged}
+use Rattle.replay.specs.declared.header.Topic.the-variants.{Check, Roles, Every, Listing, Tagged, Generics}
+use Rattle.replay.specs.declared.header.Writer.{Writer}
+use Rattle.replay.specs.declared.header.Writer.the-variants as writers
 
 -- the roles whose rows the Rust's answer always names
 abbrev pub NAMED : List ℕ
@@ -59,9 +62,15 @@ everyFits t (refused n p) = false
 abbrev pub writtenFits : List ℕ → outputs.Answer → Bool
 writtenFits t a = same t (outputs.answerText a)
 
--- the bytes of the output that a listing is written to: room for every one
+-- the bytes of the output that a listing or a list is written to: room for every one
 abbrev pub OUTPUT : ℕ
 OUTPUT = 262144
+
+-- the writers, the last with the added names that the recorded answers are about
+abbrev pub writerOf : Writer → writing.Writer
+writerOf writers.Impl = writing.implGenerics
+writerOf writers.Type = writing.typeGenerics
+writerOf writers.Additional = writing.withAdditional (bytes "x\n") (bytes "Y\nZ")
 
 -- the prefix that the recorded answers are about
 abbrev pub PREFIX : List ℕ
@@ -79,3 +88,4 @@ right Roles l t = rolesFit t (answer l MAX-ROWS)
 right Every l t = everyFits t (answer l MAX-ROWS)
 right Listing l t = writtenFits t (listing.answer l OUTPUT)
 right Tagged l t = taggedFits t (taggedAnswer PREFIX l MAX-ROWS)
+right (Generics w) l t = writtenFits t (writing.answer (writerOf w) l OUTPUT)

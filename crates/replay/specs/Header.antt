@@ -8,7 +8,9 @@ use Rattle.token_list.specs.Byte.{code, bytes, SPACE, LF}
 use Rattle.token_list.specs.Text.{same, between, digit}
 use Rattle.reading.specs.Token.{worth}
 use Rattle.replay.specs.declared.header.Topic.{Topic}
-use Rattle.replay.specs.declared.header.Topic.the-variants.{Check, Roles, Every, Listing, Tagged}
+use Rattle.replay.specs.declared.header.Topic.the-variants.{Check, Roles, Every, Listing, Tagged, Generics}
+use Rattle.replay.specs.declared.header.Writer.{Writer}
+use Rattle.replay.specs.declared.header.Writer.the-variants as writers
 use Rattle.replay.specs.declared.header.Section.{Section}
 use Rattle.replay.specs.declared.header.Section.the-variants.{List as Listed, Answer, Other}
 use Rattle.replay.specs.declared.header.Header.{Header}
@@ -17,12 +19,24 @@ use Rattle.replay.specs.declared.header.Header.the-variants.{Found, Malf
 abbrev pub LIST : List ℕ
 LIST = bytes "list"
 
+abbrev pub writerName : Writer → List ℕ
+writerName writers.Impl = bytes "impl"
+writerName writers.Type = bytes "type"
+writerName writers.Additional = bytes "additional"
+
 abbrev pub topicName : Topic → List ℕ
 topicName Check = bytes "check"
 topicName Roles = bytes "roles"
 topicName Every = bytes "every"
 topicName Listing = bytes "listing"
 topicName Tagged = bytes "tagged"
+topicName (Generics w) = writerName w
+
+abbrev pub genericsNamed : List ℕ → Section
+genericsNamed t =
+    cond (same t (writerName writers.Impl)) (Answer (Generics writers.Impl))
+    (cond (same t (writerName writers.Type)) (Answer (Generics writers.Type))
+    (cond (same t (writerName writers.Additional)) (Answer (Generics writers.Additional)) Other))
 
 abbrev pub sectionNamed : List ℕ → Section
 sectionNamed t =
@@ -31,7 +45,7 @@ sectionNamed t =
     (cond (same t (topicName Roles)) (Answer Roles)
     (cond (same t (topicName Every)) (Answer Every)
     (cond (same t (topicName Listing)) (Answer Listing)
-    (cond (same t (topicName Tagged)) (Answer Tagged) Other)))))
+    (cond (same t (topicName Tagged)) (Answer Tagged) (genericsNamed t))))))
 
 -- how many bytes at the start pass the test
 abbrev pub run : (ℕ → Bool) → List ℕ → ℕ

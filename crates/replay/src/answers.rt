@@ -1,6 +1,10 @@
 // This repository's own answers, compared with recorded ones: one function for each section.
 use crate::header::Topic;
+use crate::header::Writer;
 use describe::listing::write_listing;
+use generate::generics::impl_generics;
+use generate::generics::impl_generics_with_additional;
+use generate::generics::type_generics;
 use output::put::put_refusal;
 use output::written::Written;
 use parse::role::BOUND;
@@ -25,11 +29,14 @@ ghost use Rattle.token_list.specs.Layout.{MAX-ROWS};
 ghost use Rattle.token_list.specs.Text.{same};
 ghost use Rattle.token_list.specs.Check.{check};
 ghost use Rattle.output.specs.Text.{refusalText};
+ghost use Rattle.output.specs.Answer.{Answer};
+ghost use Rattle.output.specs.Written.{answerOf, within, WrittenAs};
 ghost use Rattle.report.specs.Text.{answerText};
 ghost use Rattle.reading.specs.Answer.{answer};
 ghost use Rattle.describe.specs.Listing as listing;
+ghost use Rattle.writing.specs.Answer as writing;
 ghost use Rattle.tagged_reading.specs.Answer as tagged;
-ghost use Rattle.replay.specs.Answer.{OUTPUT, letterFits, lettersFit, acceptedFits, rolesFit, everyFits, writtenFits, PREFIX, taggedFits, right};
+ghost use Rattle.replay.specs.Answer.{OUTPUT, letterFits, lettersFit, acceptedFits, rolesFit, everyFits, writtenFits, writerOf, PREFIX, taggedFits, right};
 
 // Whether the bytes from start to end are the report of the list check.
 fn is_check(list: &[u8], s: &[u8], start: usize, end: usize) -> bool
@@ -138,13 +145,25 @@ fn is_every(list: &[u8], s: &[u8], start: usize, end: usize) -> bool
     }
 }
 
-// Room for the listing of any list.
+// Room for the listing of any list, and for what any writer of generics writes.
 const OUTPUT: usize = 262144;
 
-fn listing_buffer() -> [u8; OUTPUT]
+fn output_buffer() -> [u8; OUTPUT]
     ensures { λ r. ⌜ OUTPUT ≡ length r ⌝ }
 {
     [0; OUTPUT]
+}
+
+// Whether the bytes from start to end are a text that was written to out, or the refusal.
+fn is_written(answer: Written, out: &[u8], s: &[u8], start: usize, end: usize) -> bool
+    requires { ⌜ (end ≤ length (now s)) × within (now out) answer ⌝ }
+    ensures { λ r. ⌜ ((a : Answer) → answerOf (now (out .entry)) answer ≡ a →
+        r ≡ writtenFits (slice start end (now (s .entry))) a) ⌝ }
+{
+    match answer {
+        Written::Refused(r) => is_refusal(r, s, start, end),
+        Written::Text(n) => text_is(s, start, end, &out[..n]),
+    }
 }
 
 // Whether the bytes from start to end are the listing, or the refusal.
@@ -152,11 +171,32 @@ fn is_listing(list: &[u8], s: &[u8], start: usize, end: usize) -> bool
     requires { ⌜ end ≤ length (now s) ⌝ }
     ensures { λ r. ⌜ r ≡ writtenFits (slice start end (now (s .entry))) (listing.answer (now (list .entry)) OUTPUT) ⌝ }
 {
-    let mut out = listing_buffer();
-    match write_listing(list, &mut out) {
-        Written::Refused(r) => is_refusal(r, s, start, end),
-        Written::Text(n) => text_is(s, start, end, &out[..n]),
+    let mut out = output_buffer();
+    let answer = write_listing(list, &mut out);
+    is_written(answer, &out, s, start, end)
+}
+
+// The answer of a writer of generics, with the added names that the recorded answers are about.
+fn write_generics(writer: Writer, list: &[u8], out: &mut [u8]) -> Written
+    ensures { λ r. ⌜ WrittenAs (now (out .entry)) (now (out .exit))
+        (writing.answer (writerOf writer) (now (list .entry)) (length (now (out .entry)))) r ⌝ }
+{
+    match writer {
+        Writer::Impl => impl_generics(list, out),
+        Writer::Type => type_generics(list, out),
+        Writer::Additional => impl_generics_with_additional(list, b"x\n", b"Y\nZ", out),
     }
+}
+
+// Whether the bytes from start to end are what a writer of generics writes, or the refusal.
+fn is_generics(writer: Writer, list: &[u8], s: &[u8], start: usize, end: usize) -> bool
+    requires { ⌜ end ≤ length (now s) ⌝ }
+    ensures { λ r. ⌜ r ≡ writtenFits (slice start end (now (s .entry)))
+        (writing.answer (writerOf writer) (now (list .entry)) OUTPUT) ⌝ }
+{
+    let mut out = output_buffer();
+    let answer = write_generics(writer, list, &mut out);
+    is_written(answer, &out, s, start, end)
 }
 
 // Whether the bytes from start to end are `none`, the refusal, or the letters of every row's role in the tagged attribute
@@ -188,5 +228,6 @@ pub fn is_right(topic: Topic, list: &[u8], s: &[u8], start: usize, end: usize) -
         Topic::Every => is_every(list, s, start, end),
         Topic::Listing => is_listing(list, s, start, end),
         Topic::Tagged => is_tagged(list, s, start, end),
+        Topic::Generics(writer) => is_generics(writer, list, s, start, end),
     }
 }

@@ -8,7 +8,14 @@ ghost use lib.ListN.{length};
 ghost use lib.Seq.{slice};
 ghost use Rattle.token_list.specs.Text.{between};
 ghost use Rattle.output.specs.Contract.{Put};
-ghost use Rattle.replay.specs.Header.{run, topicName, sectionNamed, sized, header};
+ghost use Rattle.replay.specs.Header.{run, writerName, topicName, genericsNamed, sectionNamed, sized, header};
+
+// A writer of generics.
+pub enum Writer {
+    Impl,
+    Type,
+    Additional,
+}
 
 // What an answer is about.
 pub enum Topic {
@@ -17,6 +24,7 @@ pub enum Topic {
     Every,
     Listing,
     Tagged,
+    Generics(Writer),
 }
 
 // What a section holds: a list, an answer that is compared, or what is passed over.
@@ -51,6 +59,22 @@ fn run_end(s: &[u8], from: usize, to: usize, lo: u8, hi: u8) -> usize
     i
 }
 
+// What the name from start to end stands for, where it names a writer of generics.
+fn generics_named(s: &[u8], start: usize, end: usize) -> Section
+    ensures { λ r. ⌜ r ≡ genericsNamed (slice start end (now (s .entry))) ⌝ }
+{
+    if text_is(s, start, end, b"impl") {
+        return Section::Answer(Topic::Generics(Writer::Impl));
+    }
+    if text_is(s, start, end, b"type") {
+        return Section::Answer(Topic::Generics(Writer::Type));
+    }
+    if text_is(s, start, end, b"additional") {
+        return Section::Answer(Topic::Generics(Writer::Additional));
+    }
+    Section::Other
+}
+
 // What the name from start to end stands for.
 fn section_named(s: &[u8], start: usize, end: usize) -> Section
     ensures { λ r. ⌜ r ≡ sectionNamed (slice start end (now (s .entry))) ⌝ }
@@ -73,7 +97,18 @@ fn section_named(s: &[u8], start: usize, end: usize) -> Section
     if text_is(s, start, end, b"tagged") {
         return Section::Answer(Topic::Tagged);
     }
-    Section::Other
+    generics_named(s, start, end)
+}
+
+// The name of the section with the answers of a writer of generics.
+fn put_writer(out: &mut [u8], at: usize, writer: Writer) -> usize
+    ensures { λ r. ⌜ Put (now (out .entry)) (now (out .exit)) at r (writerName writer) ⌝ }
+{
+    match writer {
+        Writer::Impl => put_bytes(out, at, b"impl"),
+        Writer::Type => put_bytes(out, at, b"type"),
+        Writer::Additional => put_bytes(out, at, b"additional"),
+    }
 }
 
 // The name of the section with the answers about a topic.
@@ -86,6 +121,7 @@ pub fn put_topic(out: &mut [u8], at: usize, topic: Topic) -> usize
         Topic::Every => put_bytes(out, at, b"every"),
         Topic::Listing => put_bytes(out, at, b"listing"),
         Topic::Tagged => put_bytes(out, at, b"tagged"),
+        Topic::Generics(writer) => put_writer(out, at, writer),
     }
 }
 

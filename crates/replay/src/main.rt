@@ -201,6 +201,7 @@ fn print_counts(counts: Counts) {
     print_count(b"roles ", counts.roles);
     print_count(b"every ", counts.everys);
     print_count(b"listing ", counts.listings);
+    print_count(b"generics ", counts.generics);
     print_count(b"tagged ", counts.taggeds);
     print_count(b"differences ", counts.differences);
 }

@@ -13,6 +13,7 @@ pub struct Counts {
     pub everys: usize,
     pub listings: usize,
     pub taggeds: usize,
+    pub generics: usize,
     pub differences: usize,
 }
 
@@ -41,6 +42,7 @@ pub fn start() -> State
             everys: 0,
             listings: 0,
             taggeds: 0,
+            generics: 0,
             differences: 0,
         },
     }
@@ -85,6 +87,10 @@ pub fn counted(counts: Counts, topic: Topic, right: bool) -> Counts
         }
         Topic::Tagged => {
             next.taggeds = count(counts.taggeds);
+            next
+        }
+        Topic::Generics(_) => {
+            next.generics = count(counts.generics);
             next
         }
     }

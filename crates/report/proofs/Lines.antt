@@ -7,7 +7,7 @@ use native.Mathlib.Nat.{add-zero, add-suc, suc-add}
 use native.Mathlib.Omega.{arith}
 use borrow.Author.Tests.{ltb-true, eq-eqb, ne-eqb}
 use lib.Dec.{ltb, eqb}
-use lib.ListN.{length, getD, take, drop, replicate, length-append, length-replicate, drop-of-length-le}
+use lib.ListN.{length, getD, take, drop, replicate, length-append, drop-of-length-le}
 use lib.Seq.{take-at}
 use Rattle.token_list.specs.Text.{all}
 use Rattle.token_list.specs.Check as list
@@ -16,19 +16,17 @@ use Rattle.token_list.specs.declared.check.Refusal.{Refusal}
 use Rattle.token_list.proofs.Texts.{and-parts, drop-next}
 use Rattle.token_list.proofs.Passed.{passed-list}
 use Rattle.token_list.proofs.Bounds.{bounds}
-use Rattle.reading.proofs.Conserved.{Conserved, conserved, item-conserving}
 use Rattle.reading.specs.Role.{left-over}
 use Rattle.reading.specs.Took.{Took, took, stopped}
 use Rattle.reading.specs.Declaration.{Declaration}
 use Rattle.reading.specs.Reading.{item}
-use Rattle.reading.specs.Grammar.{everything}
 use Rattle.reading.specs.Answer.{Answer, declared, refused, itemAnswer, answer, buffer, accepts}
 use Rattle.reading.proofs.Frame.{framed-cases}
 use Rattle.parse.specs.Contract.{Answered, ParsedAs, accepted}
 use Rattle.parse.specs.declared.item.Parse.{Parse}
 use Rattle.parse.specs.declared.item.Parse.the-variants as parses
 use Rattle.reading.proofs.GrammarSound.{obeys-sound}
-use Rattle.reading.proofs.GrammarRoles.{obeys-roles}
+use Rattle.reading.proofs.Promise.{obeys-each}
 use Rattle.parse.proofs.Items.{accepted-as}
 use Rattle.output.proofs.Texts.{decimal-within, decimal-few}
 use Rattle.report.specs.Text.{answerText}
@@ -112,22 +110,15 @@ module _ (s : List ℕ) (n : ℕ) (d : Declaration) (rs : List ℕ) where
         (λ m p c e. absurd (never e)) (λ k c h e. absurd (never e)) (λ k c h. by-item k c)
 
   named : answer s n ≡ declared d rs → Named rs
-  named = by-answer Named (λ k c f qs us i. obeys-roles everything {ts = at s 10 .here} (obeys-sound i))
+  named = by-answer Named (λ k c f qs us i. obeys-each {ts = at s 10 .here} _ (obeys-sound i) .named)
 
   -- one for each row
   few-roles : answer s n ≡ declared d rs → length rs ≤ 4096
   few-roles =
       by-answer (λ (qs : List ℕ). length qs ≤ 4096)
       (λ k c f qs us i.
-      let taken = conserved (subst (Conserved (at s 10 .here)) i (item-conserving 0 (at s 10 .here))) in
-      omega (
-        arith,
-        length-append qs (replicate (size us) left-over),
-        length-replicate {A = ℕ} (size us) left-over,
-        taken .rows,
-        passed-list s k c .size,
-        bounds s c .rows,
-      ))
+      let e = obeys-each {ts = at s 10 .here} _ (obeys-sound i) in
+      omega (arith, e .counted, passed-list s k c .size, bounds s c .rows))
 
   pub roles-few : answer s n ≡ declared d rs → length (NAMES ++ roleLines 0 rs) ≤ 65536
   roles-few e =

@@ -16,12 +16,15 @@ use Rattle.token_list.proofs.Texts.{and-parts, and-both}
 use Rattle.token_list.proofs.Bounds.{bounds, check-refusal}
 use Rattle.token_list.proofs.Passed.{passed-list}
 use Rattle.reading.specs.Role.{none as no-role}
+use Rattle.reading.specs.Promise.{OneEach}
+use Rattle.reading.proofs.Promise.{assigns-none, assigns-one}
 use Rattle.tagged_reading.specs.Entry.{Entry}
 use Rattle.tagged_reading.specs.Grammar as g
 use Rattle.tagged_reading.specs.Grammar.{everything}
 use Rattle.tagged_reading.specs.Reading.{Answer, none, read, refused, tagged}
 use Rattle.tagged_reading.specs.Answer.{framed, answer, buffer, ownNumber, taggedNumber, reads}
-use Rattle.tagged_reading.specs.Promise.{Assignment, OneEach, TaggedAssignment}
+use Rattle.tagged_reading.specs.Role.{isRole}
+use Rattle.tagged_reading.specs.Promise.{Assignment, TaggedAssignment}
 use Rattle.tagged_reading.proofs.Told as told
 use Rattle.tagged_reading.proofs.Told.{AllTold, Assigned, tagged-told}
 use Rattle.tagged_reading.proofs.Complete.{obeys-complete}
@@ -60,7 +63,7 @@ module _ (prefix s : List ℕ) where
   stream = at s 10 .here
 
   one-each : (k : ℕ) → list.check s ≡ list.Answer.passed k → (roles : List ℕ) → Assignment prefix s roles →
-      OneEach k roles
+      OneEach isRole k roles
   one-each k e roles o =
       let a = assigned prefix roles o in
       record { counted = a .counted ∙ passed-list s k e .size; named = a .named }
@@ -70,33 +73,14 @@ module _ (prefix s : List ℕ) where
     refusing : (a : Answer) → reads a ≡ false → buffer n a ≡ replicate n no-role
         → ((k : ℕ) → list.check s ≡ list.Answer.passed k → k ≤ n → (roles : List ℕ) → Assignment prefix s roles → ⊥)
         → TaggedAssignment prefix s n (reads a) (buffer n a)
-    refusing a f c h =
-        record {
-          exactly = λ k e l. ((λ t. absurd (false≢true (sym f ∙ t))), (λ o. absurd (h k e l (o .0) (o .1))));
-          unique = obeys-unique prefix;
-          each = one-each;
-          filled = λ t. absurd (false≢true (sym f ∙ t));
-          cleared = λ t. c;
-        }
-
-    accepting : (k : ℕ) (es : List Entry) (rs : List ℕ) → list.check s ≡ list.Answer.passed k → k ≤ n
-        → Assignment prefix s rs
-        → TaggedAssignment prefix s n (reads (read es rs)) (buffer n (read es rs))
-    accepting k es rs e l o =
-        let c = one-each k e rs o in
-        record {
-          exactly = λ j f i. ((λ t. (rs, o)), (λ t. refl));
-          unique = obeys-unique prefix;
-          each = one-each;
-          filled = λ f. (k, e, l, rs, o, c, ap (λ (m : ℕ). rs ++ replicate (n - m) no-role) (c .counted));
-          cleared = λ f. absurd (true≢false f);
-        }
+    refusing a = assigns-none one-each (obeys-unique prefix)
 
     by-reading : (k : ℕ) → list.check s ≡ list.Answer.passed k → k ≤ n → (a : Answer) → tagged prefix stream ≡ a
         → AllTold prefix stream a → TaggedAssignment prefix s n (reads a) (buffer n a)
     by-reading k e l none i t =
         refusing none refl refl (λ j f g roles o. never-none (sym (obeys-complete prefix o .1) ∙ i))
-    by-reading k e l (read es rs) i (told.AllTold.reads qs a) = accepting k es rs e l (a .obeys)
+    by-reading k e l (read es rs) i (told.AllTold.reads qs a) =
+        assigns-one one-each (obeys-unique prefix) k rs e l (a .obeys) refl refl
     by-reading k e l (refused m p) i t =
         refusing (refused m p) refl refl (λ j f g roles o. never (sym (obeys-complete prefix o .1) ∙ i))
 

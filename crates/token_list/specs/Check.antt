@@ -57,7 +57,9 @@ check s =
     cond (ltb MAX-BYTES (length s)) (refused 1 END)
     (cond (same (take FIRST-ROW s) NAMES) (walk 0 [] (lines (drop FIRST-ROW s))) (refused 2 END))
 
--- What a list that passes is. A row of a right form:
+-- ## What a list that passes is, for other statements than `check`
+
+-- a row of a right form
 abbrev pub isRow : Form → Bool
 isRow plain = true
 isRow (opens d) = true

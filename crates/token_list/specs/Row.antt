@@ -66,6 +66,8 @@ abbrev pub rows : Lines → List Row
 rows (tail t) = []
 rows (line l ls) = rowOf l (rows ls)
 
+-- ## Rows as lines again, and where rows begin, for other statements than `rows` and `form`
+
 -- rows as the lines of a list
 abbrev pub written : List Row → List ℕ
 written [] = []

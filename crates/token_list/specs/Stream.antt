@@ -47,6 +47,15 @@ size end = 0
 size (leaf r ts) = 1 + size ts
 size (group d ts us) = 1 + size ts + 1 + size us
 
+-- the rows and the streams at an offset of a list
+abbrev pub rowsAt : List ℕ → ℕ → List Row
+rowsAt s i = rows (lines (drop i s))
+
+unfoldable pub at : List ℕ → ℕ → Streams
+at s i = streams (rowsAt s i)
+
+-- ## What a look at a stream tells, whether groups are closed, and where a row starts, for other statements
+
 -- the kind of a stream's first row, and the first byte of its text; 0 where it has none
 abbrev pub firstKind : Trees → ℕ
 firstKind end = 0
@@ -66,13 +75,6 @@ follows (t ∷ ts) = true
 abbrev pub allClosed : List Row → Bool
 allClosed [] = true
 allClosed (r ∷ rs) = allClosed rs && cond (eqb (r .kind) OPEN) (follows (streams rs .outer)) true
-
--- the rows and the streams at an offset of a list
-abbrev pub rowsAt : List ℕ → ℕ → List Row
-rowsAt s i = rows (lines (drop i s))
-
-unfoldable pub at : List ℕ → ℕ → Streams
-at s i = streams (rowsAt s i)
 
 -- where row r of a list starts, after the line of names
 unfoldable pub rowStart : List ℕ → ℕ → ℕ

@@ -65,11 +65,8 @@ plainName (b ∷ bs) = nameStart b && all namePart bs
 -- what no `r#` may stand before
 abbrev pub neverRaw : List ℕ → Bool
 neverRaw t =
-    same t (bytes "crate")
-    || (same t (bytes "self")
-    || (same t (bytes "super")
-    || (same t (bytes "Self")
-    || same t (bytes "_"))))
+    same t (bytes "crate") || (same t (bytes "self") || (same t (bytes "super")
+    || (same t (bytes "Self") || same t (bytes "_"))))
 
 -- `r#` and a name
 abbrev pub rawName : List ℕ → Bool

@@ -63,7 +63,7 @@ returns-2 c =
     let d = c .before .before .before .before .before .d in
     let close-group = c .before .before .close-group in
     bodies.group-closed _ _ _ _ (pre .0) (pre .1) (args .roles .now) _ (take-token .ensures .0) (take-token .ensures .1)
-    (reading.every reading.namedField) (conserved.every-ended reading.namedField conserved.namedField-last)
+    (reading.every reading.namedField) (conserved.every-ended conserved.namedField-turning)
     (meeting.say contract.countShown contract.countSaid (d .given .1) (parse-with-name .ensures))
     (close-group .ensures .1) (close-group .ensures .0)
 

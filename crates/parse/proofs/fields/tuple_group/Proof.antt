@@ -62,7 +62,7 @@ returns-2 c =
     let d = c .before .before .before .before .before .d in
     let close-group = c .before .before .close-group in
     bodies.group-closed _ _ _ _ (pre .0) (pre .1) (args .roles .now) _ (take-token .ensures .0) (take-token .ensures .1)
-    (reading.every reading.tupleField) (conserved.every-ended reading.tupleField conserved.tupleField-last)
+    (reading.every reading.tupleField) (conserved.every-ended conserved.tupleField-turning)
     (meeting.say contract.countShown contract.countSaid (d .given .1) (parse .ensures)) (close-group .ensures .1)
     (close-group .ensures .0)
 

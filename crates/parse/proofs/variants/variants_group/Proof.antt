@@ -63,7 +63,7 @@ returns-2 c =
     let d = c .before .before .before .before .before .d in
     let close-group = c .before .before .close-group in
     bodies.group-closed _ _ _ _ (pre .0) (pre .1) (args .roles .now) _ (take-token .ensures .0) (take-token .ensures .1)
-    (reading.every reading.variant) (conserved.every-ended reading.variant conserved.variant-last)
+    (reading.every reading.variant) (conserved.every-ended conserved.variant-turning)
     (meeting.say contract.countShown contract.countSaid (d .given .1) (variants .ensures)) (close-group .ensures .1)
     (close-group .ensures .0)
 

@@ -32,6 +32,12 @@ enum-told-5 c = search needs
 is-tagged-requires : tie.Need-is-tagged-requires
 is-tagged-requires c κs = search needs
 
+enum-known-topic : tie.Need-enum-known-topic
+enum-known-topic c = search needs
+
+is-generics-requires : tie.Need-is-generics-requires
+is-generics-requires c κs = search needs
+
 returns : tie.Need-returns
 returns c = rw (c .before .enum-told .given .1) (c .is-check .ensures)
 
@@ -47,6 +53,9 @@ returns-4 c = rw (c .before .enum-told4 .given .1) (c .is-listing .ensures)
 returns-5 : tie.Need-returns-5
 returns-5 c = rw (c .before .enum-told5 .given .1) (c .is-tagged .ensures)
 
+returns-6 : tie.Need-returns-6
+returns-6 c = rw (c .before .before .topic .given .1) (c .is-generics .ensures)
+
 pub is-right-spec : {M : Type 1} → statement M
 is-right-spec =
     tie.close
@@ -61,8 +70,11 @@ is-right-spec =
     is-listing-requires
     enum-told-5
     is-tagged-requires
+    enum-known-topic
+    is-generics-requires
     returns
     returns-2
     returns-3
     returns-4
-    returns-5)
+    returns-5
+    returns-6)

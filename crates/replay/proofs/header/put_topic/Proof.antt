@@ -47,6 +47,12 @@ slice-aggregate-put-bytes-5 c = search needs
 put-bytes-requires-5 : tie.Need-put-bytes-requires-5
 put-bytes-requires-5 c κs = search needs
 
+enum-known-topic : tie.Need-enum-known-topic
+enum-known-topic c = search needs
+
+put-writer-requires : tie.Need-put-writer-requires
+put-writer-requires c κs = search needs
+
 same-length : tie.Need-same-length
 same-length c = search needs
 
@@ -92,6 +98,12 @@ returns-5 c =
     let put-bytes5 = c .before .before .put-bytes5 in
     rw (enum-told5 .given .1) (put-bytes5 .ensures)
 
+same-length-6 : tie.Need-same-length-6
+same-length-6 c = search needs
+
+returns-6 : tie.Need-returns-6
+returns-6 c = rw (c .before .before .before .before .before .topic .given .1) (c .before .before .put-writer .ensures)
+
 pub put-topic-spec : {M : Type 1} → statement M
 put-topic-spec =
     tie.close
@@ -111,6 +123,8 @@ put-topic-spec =
     enum-told-5
     slice-aggregate-put-bytes-5
     put-bytes-requires-5
+    enum-known-topic
+    put-writer-requires
     same-length
     returns
     same-length-2
@@ -120,4 +134,6 @@ put-topic-spec =
     same-length-4
     returns-4
     same-length-5
-    returns-5)
+    returns-5
+    same-length-6
+    returns-6)

@@ -102,9 +102,13 @@ returns-6 c =
       sym (c .before .text-is6 .ensures) ∙ c .if6 .taken,
     )
 
+generics-named-requires : tie.Need-generics-named-requires
+generics-named-requires c κs = search needs
+
 returns-7 : tie.Need-returns-7
 returns-7 c =
-    let not-listing = c .before .before .before in
+    let not-tagged = c .before in
+    let not-listing = not-tagged .before .before .before in
     let not-every = not-listing .before .before .before in
     let not-roles = not-every .before .before .before in
     let not-check = not-roles .before .before .before in
@@ -115,8 +119,9 @@ returns-7 c =
       sym (not-roles .before .text-is3 .ensures) ∙ not-roles .if3 .left,
       sym (not-every .before .text-is4 .ensures) ∙ not-every .if4 .left,
       sym (not-listing .before .text-is5 .ensures) ∙ not-listing .if5 .left,
-      sym (c .before .text-is6 .ensures) ∙ c .if6 .left,
+      sym (not-tagged .before .text-is6 .ensures) ∙ not-tagged .if6 .left,
     )
+    (c .generics-named .ensures)
 
 pub section-named-spec : {M : Type 1} → statement M
 section-named-spec =
@@ -140,4 +145,5 @@ section-named-spec =
     slice-aggregate-text-is-6
     text-is-requires-6
     returns-6
+    generics-named-requires
     returns-7)

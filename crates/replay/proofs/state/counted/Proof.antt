@@ -35,6 +35,12 @@ enum-told-5 c = search needs
 count-requires-5 : tie.Need-count-requires-5
 count-requires-5 c κs = search needs
 
+enum-told-6 : tie.Need-enum-told-6
+enum-told-6 c = search needs
+
+count-requires-6 : tie.Need-count-requires-6
+count-requires-6 c κs = search needs
+
 returns : tie.Need-returns
 returns c = rw (c .before .enum-told .given .1, c .count .ensures, c .before .before .before .count-wrong .ensures)
 
@@ -49,6 +55,9 @@ returns-4 c = rw (c .before .enum-told4 .given .1, c .count4 .ensures, c .before
 
 returns-5 : tie.Need-returns-5
 returns-5 c = rw (c .before .enum-told5 .given .1, c .count5 .ensures, c .before .before .before .count-wrong .ensures)
+
+returns-6 : tie.Need-returns-6
+returns-6 c = rw (c .before .enum-told6 .given .1, c .count6 .ensures, c .before .before .before .count-wrong .ensures)
 
 pub counted-spec : {M : Type 1} → statement M
 counted-spec =
@@ -65,8 +74,11 @@ counted-spec =
     count-requires-4
     enum-told-5
     count-requires-5
+    enum-told-6
+    count-requires-6
     returns
     returns-2
     returns-3
     returns-4
-    returns-5)
+    returns-5
+    returns-6)
