@@ -260,7 +260,9 @@ mod tests {
         assert_eq!(impl_generics_with_additional(plain, b"x", b"Y", &mut out), Ok(&b"kind text\n"[..]));
         assert_eq!(out[added.len()..], [7; 1024][added.len()..]);
         let long = [b'n'; 255];
-        assert_eq!(impl_generics_with_additional(angled, &long, b"", &mut out).map(|part| part.len()), Ok(289));
+        // The line of names, the rows of `< ' , T >`, and the row of the long name.
+        let len = 10 + 5 * 4 + 258;
+        assert_eq!(impl_generics_with_additional(angled, &long, b"", &mut out).map(|part| part.len()), Ok(len));
         let mut out = [7u8; 1024];
         let wrong = Err(Refusal { number: refusal::ADDED_NAME, place: Place::End });
         for name in [&b"\n"[..], b"a\n\nb", b"9", b"r#a", b"a b", b"a\0", b"\xC3\xA9", &[b'n'; 256], b"'a"] {
