@@ -10,3 +10,4 @@ pub mod Streams
 pub mod Passed
 pub mod Bounds
 pub mod Stores
+pub mod Readers

@@ -33,7 +33,7 @@ pub struct Line {
 }
 
 // Where the first LF at or after `from` stands; past the end where there is none.
-fn line_end(s: &[u8], from: usize) -> usize
+pub fn line_end(s: &[u8], from: usize) -> usize
     ensures { λ r. ⌜ LineEnd (now (s .entry)) from r ⌝ }
 {
     let mut i = from;
