@@ -11,8 +11,9 @@
  * calls from several threads are independent, as long as none writes a buffer that another uses.
  *
  * A call needs no more than KUSTHRILA_STACK bytes of stack. Measured on x86-64 were some 4,900 in kusthrila_check, 5,000 in
- * kusthrila_tagged, 5,200 in kusthrila_read, 9,200 in kusthrila_listing and 9,400 in kusthrila_value, all in lists with 32 open
- * groups; the rest is margin. bindings/c/stack.c measures it, and test.sh does so each time. */
+ * kusthrila_tagged, 5,200 in kusthrila_read, 5,400 in the writers of generics, 9,300 in kusthrila_listing and 9,400 in
+ * kusthrila_value, all in lists with 32 open groups; the rest is margin. bindings/c/stack.c measures it, and test.sh does so each
+ * time. */
 #ifndef KUSTHRILA_H
 #define KUSTHRILA_H
 
