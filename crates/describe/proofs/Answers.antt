@@ -150,16 +150,16 @@ module _ (s : List ℕ) (n : ℕ) where
   fittedBy a = outputs.fitted n (framed outputs.refused (λ rows. false) listing.itemAnswer s a)
 
   pub listing-checked : {m p : ℕ} → list.check s ≡ list.Answer.refused m p → listing.answer s n ≡ outputs.refused m p
-  unfolding listing.answer listing.whole
+  unfolding listing.answer listing.fullAnswer
   listing-checked e = ap fittedBy e
 
   pub listing-read : {r : ℕ} → list.check s ≡ list.Answer.passed r →
       listing.answer s n ≡ outputs.fitted n (listing.itemAnswer (item 0 (at s 10 .here)))
-  unfolding listing.answer listing.whole
+  unfolding listing.answer listing.fullAnswer
   listing-read e = ap fittedBy e
 
   pub listing-refusal : (m p : ℕ) → listing.answer s n ≡ outputs.refused m p → OneRefusal readNumber s m p
-  unfolding listing.answer listing.whole
+  unfolding listing.answer listing.fullAnswer
   listing-refusal m p e =
       ⊎-elim (refusals s outputs.refused (λ rows. false) listing.itemAnswer (λ n p m o q. ((cc), (cc))) plain m p) short
       (fitted-refused n (framed outputs.refused (λ rows. false) listing.itemAnswer s (list.check s)) e)

@@ -210,18 +210,18 @@ parameterName-covering n p row (group d ts us) = refuses
 lifetimeAfter-covering : (q : ℕ) → Covering parameterCost 1 (r.lifetimeAfter q)
 lifetimeAfter-covering q =
     bind (besides 1 (parameterName-covering 24 q))
-    (λ n. bind (keeps _ (λ b. conserved.marked-run-conserving b 58)) (λ b row ts. covers (lifetime n b) [] ts (omega arith)))
+    (λ n. bind (keeps _ (λ b. conserved.optional-run-conserving b 58)) (λ b row ts. covers (lifetime n b) [] ts (omega arith)))
 
 constantAfter-covering : Covering parameterCost 0 r.constantAfter
 constantAfter-covering =
-    bind (parameterName-covering 27 65535) (λ n. bind (keeps _ (λ b. conserved.marked-run-conserving b 58)) (λ b. returned _))
+    bind (parameterName-covering 27 65535) (λ n. bind (keeps _ (λ b. conserved.optional-run-conserving b 58)) (λ b. returned _))
 
 typeAfter-covering : (n : List ℕ) → Covering parameterCost (nameCost n) (r.typeAfter n)
 typeAfter-covering n = bind (keeps _ (λ b. conserved.punctIf-conserving b 58 role.separator refl)) runs
   where
     runs : (t : Bool) → Covering parameterCost (nameCost n) (r.typeRuns n t)
     runs true = bind (keeps _ (λ b. conserved.run-conserving b r.parameterStops role.bound refl)) (λ b. returned _)
-    runs false = bind (keeps _ (λ b. conserved.marked-run-conserving b 61)) (λ d. returned _)
+    runs false = bind (keeps _ (λ b. conserved.optional-run-conserving b 61)) (λ d. returned _)
 
 parameter-covering : (angle : ℕ) → Covering (maybe parameterCost) 0 (r.parameter angle)
 parameter-covering angle row end = refuses

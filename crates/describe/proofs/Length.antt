@@ -28,7 +28,7 @@ use Rattle.reading.specs.Took.{Took, took, stopped}
 use Rattle.reading.specs.Reading.{item}
 use Rattle.reading.proofs.Frame.{framed-cases}
 use Rattle.reading.proofs.Conserved.{ownNumber, refusal-number, item-conserved}
-use Rattle.describe.specs.Listing.{line, numbered, parameterLine, namedLine, tupleLine, fieldLines, number, variantLines, bodyLines, kindText, listing, itemAnswer, whole, answer, MOST, Fits}
+use Rattle.describe.specs.Listing.{line, numbered, parameterLine, namedLine, tupleLine, fieldLines, number, variantLines, bodyLines, kindText, listing, itemAnswer, fullAnswer, answer, MOST, Fits}
 use Rattle.describe.specs.Contract.{Reported}
 use Rattle.describe.proofs.Costs.{total, parameterCost, fieldCost, typeCost, fieldsCost, valueCost, variantCost, bodyCost, itemCost, item-cost}
 
@@ -134,8 +134,8 @@ module _ (s : List ℕ) where
   by-item e (stopped w n p) f = λ q. true≢false
       (sym (refusal-number (item-conserved (at s 10 .here) f)) ∙ ap ownNumber q)
 
-  right : Right (whole s)
-  unfolding whole
+  right : Right (fullAnswer s)
+  unfolding fullAnswer
   right =
       framed-cases Right refused (λ rows. false) itemAnswer s
       (λ n p e q. omega (arith, leb-true n 7 (and-parts (leb 1 n) (leb n 7) (bounds.check-refusal s n p e .one) .1)))
@@ -145,9 +145,9 @@ module _ (s : List ℕ) where
   unfolding answer
   fits n =
       record {
-        longest = λ text e. rw (fitted-wrote n (whole s) e) at right;
-        room = λ h. fitted-same n (whole s) (within (whole s) right) h;
-        never = λ h p e. (rw (sym (fitted-same n (whole s) (within (whole s) right) h) ∙ e) at right) refl;
+        longest = λ text e. rw (fitted-wrote n (fullAnswer s) e) at right;
+        room = λ h. fitted-same n (fullAnswer s) (within (fullAnswer s) right) h;
+        never = λ h p e. (rw (sym (fitted-same n (fullAnswer s) (within (fullAnswer s) right) h) ∙ e) at right) refl;
       }
 
   -- what is written in any output

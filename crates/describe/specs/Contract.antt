@@ -74,7 +74,7 @@ pub record Placed (s before after : List ℕ) (a : value.Answer) (r : ValuePlace
 
 -- ## The answers of listing
 
--- the fields f of a struct's group with the delimiter `mark`, whose inside is at c
+-- the fields f of a struct's group with the delimiter `delimiter`, whose inside is at c
 abbrev pub fieldsIn : Bool → List ℕ → Cursor → declaration.Fields → Type 0
 fieldsIn true s c f =
     (fs : List declaration.Field) × (f ≡ declaration.named fs) × InsideAt (reading.every reading.namedField) s c fs
@@ -83,13 +83,13 @@ fieldsIn false s c f =
     InsideAt (reading.every reading.tupleField) s c fs
 
 abbrev pub StructAt : List ℕ → ℕ → Cursor → declaration.Fields → Type 0
-StructAt s mark c f = fieldsIn (eqb mark BRACE) s c f
+StructAt s delimiter c f = fieldsIn (eqb delimiter BRACE) s c f
 
 -- the report of a list s: the text of the answer, in an output that was `before` and is `after`
 pub record Reported (s before after : List ℕ) (r : ℕ) : Type 0 where
   pub text : Printed before after r (answerText (listing.answer s (length before)))
   -- an output of MOST bytes has room for every listing, so the text is never that of refusal 8
-  pub roomy : listing.MOST ≤ length before → Printed before after r (answerText (listing.whole s))
+  pub roomy : listing.MOST ≤ length before → Printed before after r (answerText (listing.fullAnswer s))
   pub short : r ≤ listing.MOST
   -- what holds of a refusal that is printed
   pub refusal : (n p : ℕ) → listing.answer s (length before) ≡ refused n p → OneRefusal readNumber s n p

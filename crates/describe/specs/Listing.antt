@@ -100,12 +100,12 @@ itemAnswer (took d rs us) = wrote (listing d)
 itemAnswer (stopped w n p) = refused n p
 
 -- for a list, where there is room
-unfoldable pub whole : List ℕ → Answer
-whole s = framed refused (λ rows. false) itemAnswer s (list.check s)
+unfoldable pub fullAnswer : List ℕ → Answer
+fullAnswer s = framed refused (λ rows. false) itemAnswer s (list.check s)
 
 -- for a list and an output of n bytes
 unfoldable pub answer : List ℕ → ℕ → Answer
-answer s n = fitted n (whole s)
+answer s n = fitted n (fullAnswer s)
 
 -- 147,473: the 17 bytes of the line of names, the bytes that a list may have, and 20 bytes for each of its rows
 abbrev pub MOST : ℕ
@@ -116,6 +116,6 @@ pub record Fits (s : List ℕ) (n : ℕ) : Type 0 where
   -- no listing is longer than MOST
   pub longest : (text : List ℕ) → answer s n ≡ wrote text → length text ≤ MOST
   -- an output of that length has room for the whole listing
-  pub room : MOST ≤ n → answer s n ≡ whole s
+  pub room : MOST ≤ n → answer s n ≡ fullAnswer s
   -- and is never refused as too short
   pub never : MOST ≤ n → (p : ℕ) → answer s n ≡ refused 8 p → ⊥

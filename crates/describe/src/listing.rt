@@ -193,12 +193,19 @@ fn generics_lines(s: &[u8], c: Cursor, roles: &mut [u8], out: &mut [u8], at: usi
 }
 
 // The lines of a struct's body, whose group's inside is at c.
-fn struct_lines(s: &[u8], c: Cursor, mark: u8, roles: &mut [u8], out: &mut [u8], at: usize) -> usize
+fn struct_lines(
+    s: &[u8],
+    c: Cursor,
+    delimiter: u8,
+    roles: &mut [u8],
+    out: &mut [u8],
+    at: usize,
+) -> usize
     requires { ⌜ InList (now s) c ⌝ }
-    ensures { λ r. ⌜ ((f : Fields) → StructAt (now (s .entry)) mark c f →
+    ensures { λ r. ⌜ ((f : Fields) → StructAt (now (s .entry)) delimiter c f →
         Put (now (out .entry)) (now (out .exit)) at r (fieldLines f)) ⌝ }
 {
-    if mark == b'{' {
+    if delimiter == b'{' {
         return named_lines(s, c, roles, out, at);
     }
     tuple_lines(s, c, roles, out, at)
@@ -216,10 +223,10 @@ fn body_lines(s: &[u8], d: ItemAt, roles: &mut [u8], out: &mut [u8], at: usize) 
         Peeked::Leaf(_) => at,
         Peeked::Group(t) => {
             let inside = past(s, c, t);
-            let mark = t.mark;
+            let delimiter = t.first;
             let kind = d.kind;
             match kind {
-                DataType::Struct => struct_lines(s, inside, mark, roles, out, at),
+                DataType::Struct => struct_lines(s, inside, delimiter, roles, out, at),
                 DataType::Enum => variant_lines(s, inside, roles, out, at),
             }
         }

@@ -9,7 +9,7 @@ use Rattle.output.specs.Answer as outputs
 use Rattle.output.specs.Written.{WrittenAs}
 use Rattle.output.specs.declared.written.Written.{Written}
 use Rattle.output.proofs.Answers.{widened, fitted-length}
-use Rattle.writing.specs.Answer.{Writer, answer, whole, writeNumber}
+use Rattle.writing.specs.Answer.{Writer, answer, fullAnswer, writeNumber}
 use Rattle.writing.proofs.Refusals.{write-refusal}
 use Rattle.generate.specs.Contract.{Answered}
 use Rattle.exports.specs.Code.{writtenCase, writtenCode, LowPlace, MAX-OUTPUT, GeneratedInto}
@@ -17,7 +17,7 @@ use Rattle.exports.proofs.Codes.{Told, small, one, from-one, low-place,
 
 wrote-short : (w : Writer) (s : List ℕ) (n : ℕ) {t : List ℕ} → answer w s n ≡ outputs.wrote t → length t ≤ n
 unfolding answer
-wrote-short w s n e = fitted-length n (whole w s) e
+wrote-short w s n e = fitted-length n (fullAnswer w s) e
 
 told : (w : Writer) (s : List ℕ) (n : ℕ) → n ≤ MAX-OUTPUT → Told writeNumber s (writtenCase (answer w s n))
 told w s n h = go (answer w s n) refl

@@ -11,8 +11,8 @@ use lib.Seq.{length-take-le}
 use Rattle.token_list.specs.Byte.{LF, LESS, GREATER}
 use Rattle.token_list.specs.Row.{Row, Lines, tail, line, lines, byte}
 use Rattle.token_list.specs.Check as list
+use Rattle.token_list.specs.Stream.{Trees}
 use Rattle.token_list.specs.Stream.{at}
-use Rattle.token_list.specs.Layout.{FIRST-ROW}
 use Rattle.token_list.proofs.Texts.{chosen, passed-over}
 use Rattle.output.specs.Contract.{Printed}
 use Rattle.output.specs.Answer.{Answer, fitted, answerText}
@@ -22,11 +22,10 @@ use Rattle.output.specs.declared.written.Written.the-variants as writtens
 use Rattle.output.proofs.Answers.{written-as, fitted-wrote}
 use Rattle.reading.specs.Declaration.{Parameter, Generics, without, Declaration}
 use Rattle.reading.specs.Took.{Took, took}
-use Rattle.reading.specs.Reading.{item}
 use Rattle.writing.specs.Rows.{punct}
 use Rattle.writing.specs.Names.{lineNames, namesOf}
 use Rattle.writing.specs.Generics.{parted, angledRows, genericsRows, addedLifetime, addedType}
-use Rattle.writing.specs.Answer.{Writer, implGenerics, typeGenerics, withAdditional, text, itemAnswer, answer, whole, MOST, mostWith, mostAdded, Fits}
+use Rattle.writing.specs.Answer.{Writer, implGenerics, typeGenerics, withAdditional, text, itemAnswer, answer, fullAnswer, MOST, mostAdded, Fits}
 use Rattle.writing.proofs.Written.{stillFirst, parted-append}
 use Rattle.writing.proofs.Refusals.{write-refusal}
 use Rattle.writing.proofs.Lengths.{type-fits, additional-fits, added-most}
@@ -76,7 +75,8 @@ some-built {k} {m = m} {r = r} f ps e h a =
 
 -- ## A declaration that was read
 
-module _ (w : Writer) (n : ℕ) {d : Declaration} {rs : List ℕ} {us : _} {t : Took Declaration} (e : t ≡ took d rs us) where
+module _ (w : Writer) (n : ℕ) {d : Declaration} {rs : List ℕ} {us : Trees} {t : Took Declaration}
+    (e : t ≡ took d rs us) where
   pub right-answer : w .right ≡ true → fitted n (itemAnswer w t) ≡ fitted n (Answer.wrote (text w d))
   right-answer r = ap (λ (t : Took Declaration). fitted n (itemAnswer w t)) e ∙ ap (fitted n) (chosen _ _ _ r)
 
@@ -119,7 +119,7 @@ answer-length : (w : Writer) {most : ℕ} {s x y : List ℕ} → Fits w most s (
     → WrittenAs x y (answer w s (length x)) r → atMost r ≤ most
 unfolding answer
 answer-length w {s = s} {x} {y} f l (writtens.Text n) h =
-    let same = fitted-wrote (length x) (whole w s) (sym (h .answer)) in
+    let same = fitted-wrote (length x) (fullAnswer w s) (sym (h .answer)) in
     omega (arith, f .longest (take n y) same, length-take-le n y (h .room))
 answer-length w f l (writtens.Refused r) h = l
 

@@ -1,8 +1,8 @@
 -- Declared parameters: what their records tell, and the rows that are made of them.
 use mathlib.Core.Path.{_≡_, refl, ap, _∙_, sym, subst}
 use mathlib.Core.Bool.{Bool, true, false, false≢true}
-use mathlib.Core.List.{List, [], _∷_, _++_, map, append-nil, append-assoc}
-use Prim.Native.Nat.{ℕ, _+_, _-_, _≤_, _<_}
+use mathlib.Core.List.{List, [], _∷_, _++_, map}
+use Prim.Native.Nat.{ℕ, _+_, _-_, _<_}
 use native.Mathlib.Omega.{arith}
 use lib.ListN.{length}
 use lib.Seq.{slice}
@@ -18,11 +18,11 @@ use Rattle.reading.specs.Role as role
 use Rattle.reading.specs.Token.{parameterStops}
 use Rattle.reading.specs.Declaration.{Parameter, lifetime, constant, type}
 use Rattle.reading.specs.Took.{Took, took, Point, pastTaken}
-use Rattle.reading.specs.Reading.{Maybe, done, one, run, parameter, every}
+use Rattle.reading.specs.Reading.{Maybe, one, run, parameter, every}
 use Rattle.reading.specs.Place.{pastToken, parameterNameAt}
 use Rattle.reading.proofs.SoundTokens.{met-by}
 use Rattle.reading.proofs.Conserved.{parameter-round}
-use Rattle.parse.specs.Contract.{on, no, Meets, stream, point, CursorAt, TokenIn, InsideAt, RunAt, ParameterRunAt, ParameterOf}
+use Rattle.parse.specs.Contract.{on, no, Meets, stream, point, TokenIn, InsideAt, RunAt, ParameterRunAt, ParameterOf}
 use Rattle.parse.specs.Contract.{isLifetime, parameterKind, boundOf, defaultOf, parameterShown, parameterSaid}
 use Rattle.parse.specs.declared.runs.Run.{Run}
 use Rattle.parse.specs.declared.generics.ParameterKind.{ParameterKind}
@@ -37,10 +37,8 @@ use Rattle.writing.specs.Rows.{ident, lifetimeRows}
 use Rattle.writing.specs.Generics.{parameterRows, parted}
 use Rattle.writing.proofs.Read as read
 use Rattle.writing.proofs.Copied.{copied}
-use Rattle.writing.proofs.Written.{parted-append}
-use Rattle.generate.specs.Contract.{Appended, Part, constrained, constraintsOf, isConst, RunIn, NameIn, ParameterIn, nameRows, constRows, shaped}
+use Rattle.generate.specs.Contract.{Appended, constrained, constraintsOf, isConst, RunIn, NameIn, ParameterIn, nameRows, constRows, shaped}
 use Rattle.generate.specs.declared.stream_builder.StreamBuilder.{StreamBuilder}
-use Rattle.generate.specs.declared.generics.ConstraintsAt.{ConstraintsAt}
 use Rattle.generate.proofs.Builds.{then}
 use Rattle.generate.proofs.Added.{Adding, adding-start, adding-more, adding-last}
 
@@ -171,7 +169,8 @@ module _ {f : Parameter → Parameter} {extra : List Parameter} {angle : ℕ} {s
         inList = i;
         rolesKept = refl;
         outKept = refl;
-        rest = λ ps inside. record { others = ps; inside = inside; added = adding-start (map f ps ++ extra) first k b h };
+        rest = λ ps inside. record
+            { others = ps; inside = inside; added = adding-start (map f ps ++ extra) first k b h };
       }
 
   module _ {c : Cursor} {roles l : List ℕ} {r : StreamBuilder} {leading : Bool}

@@ -16,7 +16,7 @@ use Rattle.output.specs.Written.{WrittenAs}
 use Rattle.output.specs.declared.written.Written.{Written}
 use Rattle.writing.specs.Rows.{ident, runRows, listOf}
 use Rattle.writing.specs.Names.{namesOf, rightNames, nameLine, quoted}
-use Rattle.writing.specs.Answer.{Writer, whole, answer, writeNumber}
+use Rattle.writing.specs.Answer.{Writer, fullAnswer, answer, writeNumber}
 use Rattle.writing.specs.Generics.{constraints, bounds, parameterRows, named, addedLifetime, addedType}
 use Rattle.reading.specs.Token.{CONST}
 use Rattle.reading.specs.Declaration.{Parameter}
@@ -148,7 +148,7 @@ pub record Answered (w : Writer) (s before after : List ℕ) (r : Written) : Typ
 pub record Reported (w : Writer) (most : ℕ) (s before after : List ℕ) (r : ℕ) : Type 0 where
   pub text : Printed before after r (answerText (answer w s (length before)))
   -- an output of so many bytes has room for every list, so the text is never that of refusal 8
-  pub roomy : most ≤ length before → Printed before after r (answerText (whole w s))
+  pub roomy : most ≤ length before → Printed before after r (answerText (fullAnswer w s))
   pub short : r ≤ most
   -- what holds of a refusal that is printed
   pub refusal : (n p : ℕ) → answer w s (length before) ≡ refused n p → OneRefusal writeNumber s n p

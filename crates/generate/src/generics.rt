@@ -54,8 +54,8 @@ fn put_run(b: StreamBuilder, out: &mut [u8], s: &[u8], from: Cursor, to: Cursor)
     requires { ⌜ Part (now s) from to ⌝ }
     ensures { λ r. ⌜ RunWritten (now (s .entry)) from to (now (out .entry)) (now (out .exit)) b r constraints ⌝ }
 {
-    let marked = b.punct(out, b':');
-    marked.extend(out, s, from, to)
+    let colon = b.punct(out, b':');
+    colon.extend(out, s, from, to)
 }
 
 // The same where the run is not empty, or always.

@@ -4,7 +4,7 @@ pub mod Meeting
 pub mod Places
 pub mod Judge
 pub mod Turns
-pub mod Marks
+pub mod Hashes
 pub mod Looks
 pub mod Heads
 pub mod Loops

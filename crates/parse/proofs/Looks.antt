@@ -7,14 +7,14 @@ use borrow.Author.Tests.{ne-eqb}
 use lib.Dec.{eqb}
 use Rattle.token_list.specs.Text.{same}
 use Rattle.token_list.specs.Row.{first}
-use Rattle.token_list.specs.Stream.{Trees, end, leaf, group, firstKind, firstMark}
+use Rattle.token_list.specs.Stream.{Trees, end, leaf, group, firstKind, firstByte}
 use Rattle.token_list.proofs.Texts.{passed-over, and-fails}
 use Rattle.reading.specs.Declaration.{default}
 use Rattle.reading.specs.Took.{took}
 use Rattle.reading.specs.Token.{starts}
 use Rattle.reading.specs.Reading.{isPunct, isIdent, PUB, punctIf, attributes, visibility, tupleField, tupleType, variant, variantHere}
 
-pub starts-punct : (b : ℕ) (ts : Trees) → (eqb (firstKind ts) 112 && eqb (firstMark ts) b) ≡ starts (isPunct b) ts
+pub starts-punct : (b : ℕ) (ts : Trees) → (eqb (firstKind ts) 112 && eqb (firstByte ts) b) ≡ starts (isPunct b) ts
 starts-punct b end = refl
 starts-punct b (leaf r us) = refl
 starts-punct b (group d ts us) = refl
@@ -38,7 +38,7 @@ last-fails : (a b : Bool) → b ≡ false → (a && b) ≡ false
 last-fails true b e = e
 last-fails false b e = refl
 
-pub no-visibility : (row : ℕ) (ts : Trees) → (firstKind ts ≡ 111 → ⊥) → (firstMark ts ≡ 112 → ⊥) →
+pub no-visibility : (row : ℕ) (ts : Trees) → (firstKind ts ≡ 111 → ⊥) → (firstByte ts ≡ 112 → ⊥) →
     visibility row ts ≡ took default [] ts
 no-visibility row end k m = refl
 no-visibility row (leaf r us) k m = passed-over _ _ _ (last-fails (isIdent r) _ (no-pub (r .text) m))

@@ -11,7 +11,7 @@ use Rattle.token_list.specs.declared.check.Cursor.{Cursor}
 use Rattle.reading.specs.Took.{Took, took, stopped, Reader, onward, gathered, after, pure}
 use Rattle.reading.specs.Reading.{Maybe, done, one, more, every}
 use Rattle.parse.specs.Contract.{Moved, Said, on, no, any, Meets, stands, refuses, stream, Gained}
-use Rattle.parse.proofs.Meeting.{marked-on, moved-none, moved-on}
+use Rattle.parse.proofs.Meeting.{stored-on, moved-none, moved-on}
 use Rattle.reading.proofs.Rounds.{Round, Rounding, every-step}
 
 -- what was read from `from` on up to c, and what is left there
@@ -76,7 +76,7 @@ gathering-meets {A} {s} {from} {c} {b0} {b1} {b2} {t} {u} {x} k m =
     go : {u : Took (List A)} {x : Said} → Meets s c b1 b2 any x u →
         Meets s from b0 b2 any x (gathered (k .got) (k .taken) u)
     go (stands mv h) = stands (moved-on (k .moved) mv) tt
-    go (refuses qs e) = refuses (k .taken ++ qs) (marked-on qs (k .moved) e)
+    go (refuses qs e) = refuses (k .taken ++ qs) (stored-on qs (k .moved) e)
 
 pub rounds-start : {A : Type 0} (s : List ℕ) (c : Cursor) (b : List ℕ) (t : Took (List A)) → InList s c →
     Rounded s c b c b 0 t t
@@ -155,4 +155,4 @@ module _ {A : Type 0} (m : Reader (Maybe A)) (rd : Rounding m) {s : List ℕ} {f
       go e (refuses qs q) =
           subst⁻¹ (Meets s from b0 b2 sh2 (no n p))
           (k .gathering .same ∙ ap (gathered (k .gathering .got) (k .gathering .taken)) (step e))
-          (refuses (k .gathering .taken ++ qs) (marked-on qs (k .gathering .moved) q))
+          (refuses (k .gathering .taken ++ qs) (stored-on qs (k .gathering .moved) q))

@@ -14,7 +14,7 @@ use Rattle.token_list.specs.declared.stream.Peeked.{Peeked}
 use Rattle.token_list.specs.declared.check.Cursor.{Cursor}
 use Rattle.token_list.specs.declared.stream.Token.{Token}
 use Rattle.reading.specs.Took.{Took, took, Cause, stopped, Reader, onward, after, _>>=_, placeOf, pure}
-use Rattle.reading.specs.Reading.{copied, whole, lone, isPunct, isIdent, isWord, firstText, Word, missing, found}
+use Rattle.reading.specs.Reading.{copied, groupSize, lone, isPunct, isIdent, isWord, firstText, Word, missing, found}
 use Rattle.parse.specs.Contract.{Moved, Said, on, no, Meets, stands, refuses, refusal, stream, pastOf, Belonged, InsideAt, point, wordShown, wordSaid}
 use Rattle.parse.specs.Contract.{WordAt as WordOf}
 use Rattle.parse.specs.declared.utils.Word.{Word as WordAt}
@@ -33,9 +33,9 @@ moved-none s c b i =
     record { inList = i; row = omega arith; forth = omega arith; here = refl; outer = refl; roles = refl }
 
 -- stores from the row where a reader stopped on follow its own
-pub marked-on : {s : List ℕ} {a b : Cursor} {rs : List ℕ} {us : Trees} {b0 b1 b2 : List ℕ} (qs : List ℕ)
+pub stored-on : {s : List ℕ} {a b : Cursor} {rs : List ℕ} {us : Trees} {b0 b1 b2 : List ℕ} (qs : List ℕ)
     → Moved s a b rs us b0 b1 → b2 ≡ sets b1 (b .row) qs → b2 ≡ sets b0 (a .row) (rs ++ qs)
-marked-on {a = a} {rs = rs} {b0 = b0} qs m e = e ∙ (λ i. sets (m .roles i) (m .row i) qs) ∙
+stored-on {a = a} {rs = rs} {b0 = b0} qs m e = e ∙ (λ i. sets (m .roles i) (m .row i) qs) ∙
     sym (sets-append b0 (a .row) rs qs)
 
 pub moved-on : {s : List ℕ} {a b c : Cursor} {rs qs : List ℕ} {us vs : Trees} {b0 b1 b2 : List ℕ}
@@ -47,7 +47,7 @@ moved-on {rs = rs} {qs} m n =
       forth = omega (arith, m .forth, n .forth, length-append rs qs);
       here = n .here;
       outer = n .outer ∙ m .outer;
-      roles = marked-on qs m (n .roles);
+      roles = stored-on qs m (n .roles);
     }
 
 module _ (s : List ℕ) (c : Cursor) (t : Token) (i : InList s c) where
@@ -82,12 +82,12 @@ module _ (s : List ℕ) (c : Cursor) (t : Token) (i : InList s c) where
   pub group-follows : GroupAt s (c .at) t → follows (at s (t .next) .outer) ≡ true
   group-follows g = ap follows (g .outer)
 
-  -- past a whole group, every row with the role r
+  -- past a groupSize group, every row with the role r
   pub group-moved : (b : List ℕ) (r : ℕ) (d : Cursor) → GroupAt s (c .at) t → Skipped s (pastOf c t) d
       → Moved s c d (copied r (at s (t .next) .here)) (head (at s (t .next) .outer)) b
       (sets b (c .row) (replicate (d .row - c .row) r))
   group-moved b r d g k =
-      let w = whole (at s (t .next) .here) in
+      let w = groupSize (at s (t .next) .here) in
       let n : d .row ≡ c .row + w = omega (arith, k .row) in
       let l : length (copied r (at s (t .next) .here)) ≡ w = length-replicate w r in
       let z : d .row - c .row ≡ w = omega (arith, n) in
@@ -102,8 +102,8 @@ module _ (s : List ℕ) (c : Cursor) (t : Token) (i : InList s c) where
 
   -- what the group's streams are
   pub group-stream : GroupAt s (c .at) t → stream s c ≡
-      group (t .mark) (at s (t .next) .here) (head (at s (t .next) .outer))
-  group-stream g = g .here ∙ ap (λ (u : Trees). group (t .mark) (at s (t .next) .here) u) (sym (ap head (g .outer)))
+      group (t .first) (at s (t .next) .here) (head (at s (t .next) .outer))
+  group-stream g = g .here ∙ ap (λ (u : Trees). group (t .first) (at s (t .next) .here) u) (sym (ap head (g .outer)))
 
 -- ## Putting readers together
 
@@ -132,7 +132,7 @@ pub meets-onward : {A : Type 0} {s : List ℕ} {c d : Cursor} {rs : List ℕ} {u
     {sh : A → Type 0} {x : Said} {t : Took A}
     → Moved s c d rs us b0 b1 → Meets s d b1 b2 sh x t → Meets s c b0 b2 sh x (onward rs t)
 meets-onward m (stands n h) = stands (moved-on m n) h
-meets-onward {rs = rs} m (refuses qs e) = refuses (rs ++ qs) (marked-on qs m e)
+meets-onward {rs = rs} m (refuses qs e) = refuses (rs ++ qs) (stored-on qs m e)
 
 -- a part that was taken, and what is left
 pub meets-belonged : {A : Type 0} {s : List ℕ} {c d : Cursor} {b0 b1 b2 : List ℕ} {sh : A → Type 0} {x : Said}
@@ -225,7 +225,7 @@ module _ {A : Type 0} (m : Reader A) (s : List ℕ) (c : Cursor) (inList : InLis
   module _ (t : Token) (g : GroupAt s (c .at) t) (d : Cursor) (b0 b1 rs : List ℕ)
       (moved : Moved s c d rs (head (at s (t .next) .outer)) b0 b1) where
     -- it takes the group
-    pub meets-group : (a : A) → m (c .row) (group (t .mark) (at s (t .next) .here) (head (at s (t .next) .outer))) ≡
+    pub meets-group : (a : A) → m (c .row) (group (t .first) (at s (t .next) .here) (head (at s (t .next) .outer))) ≡
         took a rs (head (at s (t .next) .outer)) → sh a
         → Meets s c b0 b1 sh (on d) (m (c .row) (stream s c))
     meets-group a k h = meets-as (ap (m (c .row)) (group-stream s c t inList g) ∙ k) (stands moved h)
@@ -234,13 +234,13 @@ module _ {A : Type 0} (m : Reader A) (s : List ℕ) (c : Cursor) (inList : InLis
 pub group-belonged : {A : Type 0} (m k : Reader A) {s : List ℕ} {c d : Cursor} (t : Token) (r : ℕ) {b0 b1 : List ℕ}
     → InList s c → GroupAt s (c .at) t
     → Moved s c d (copied r (at s (t .next) .here)) (head (at s (t .next) .outer)) b0 b1
-    → m (c .row) (group (t .mark) (at s (t .next) .here) (head (at s (t .next) .outer))) ≡
-    onward (copied r (at s (t .next) .here)) (k (c .row + whole (at s (t .next) .here)) (head (at s (t .next) .outer)))
+    → m (c .row) (group (t .first) (at s (t .next) .here) (head (at s (t .next) .outer))) ≡
+    onward (copied r (at s (t .next) .here)) (k (c .row + groupSize (at s (t .next) .here)) (head (at s (t .next) .outer)))
     → Belonged s c d b0 b1 (m (c .row) (stream s c)) (k (d .row) (stream s d))
 group-belonged m k {s} {c} {d} t r i g mv f =
     let ins = at s (t .next) .here in
-    let w : length (copied r ins) ≡ whole ins = length-replicate (whole ins) r in
-    let q : c .row + whole ins ≡ d .row = omega (arith, w, mv .row) in
+    let w : length (copied r ins) ≡ groupSize ins = length-replicate (groupSize ins) r in
+    let q : c .row + groupSize ins ≡ d .row = omega (arith, w, mv .row) in
     record {
       roles = copied r ins;
       moved = record {
@@ -282,8 +282,8 @@ leaf-then s c d t us l e n = l .here ∙ ap (leaf (rowOf s t)) (sym (ap (λ (x :
 
 -- the test for a punctuation, on the token
 pub punct-of : (s : List ℕ) (i : ℕ) (t : Token) (b : ℕ) → TokenAt s i t →
-    isPunct b (rowOf s t) ≡ (eqb (t .kind) 112 && eqb (t .mark) b)
-punct-of s i t b k = ap (λ (m : ℕ). eqb (t .kind) 112 && eqb m b) (sym (k .mark))
+    isPunct b (rowOf s t) ≡ (eqb (t .kind) 112 && eqb (t .first) b)
+punct-of s i t b k = ap (λ (m : ℕ). eqb (t .kind) 112 && eqb m b) (sym (k .first))
 
 -- ## Readers that go round: what was `was` at the cursor `from` is `is` at c
 

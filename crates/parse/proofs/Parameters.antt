@@ -10,7 +10,7 @@ use Rattle.reading.specs.Token.{starts, isPunct}
 use Rattle.reading.specs.Role as role
 use Rattle.reading.specs.Declaration.{Parameter, type}
 use Rattle.reading.specs.Took.{took, Reader, after, _>>=_, pure}
-use Rattle.reading.specs.Reading.{punctIf, runIf, parameterStops, marked-run, typeRuns, typeAfter}
+use Rattle.reading.specs.Reading.{punctIf, runIf, parameterStops, optional-run, typeRuns, typeAfter}
 use Rattle.reading.specs.Took.{Point}
 use Rattle.token_list.specs.declared.stream.Token.{Token}
 use Rattle.parse.specs.Contract.{TextOf, ParameterOf, parameterMade, ParameterRunAt, boundOf, defaultOf, boundShown, typeShown}
@@ -27,7 +27,7 @@ module _ (n : List ℕ) (row : ℕ) where
   bounded b = pure (type n b end)
 
   pub type-bounded : (ts : Trees) → starts (isPunct COLON) ts ≡ true →
-      typeAfter n row ts ≡ after row (marked-run COLON row ts) bounded
+      typeAfter n row ts ≡ after row (optional-run COLON row ts) bounded
   type-bounded end e = absurd (false≢true e)
   type-bounded (group d ts us) e = absurd (false≢true e)
   type-bounded (leaf q us) e =
@@ -38,7 +38,7 @@ module _ (n : List ℕ) (row : ℕ) where
       ∙ sym (after-assoc row (punctIf COLON role.separator row ts) (λ b. runIf b parameterStops role.bound) bounded)
 
   pub type-defaulted : (ts : Trees) → starts (isPunct COLON) ts ≡ false →
-      typeAfter n row ts ≡ after row (marked-run EQUALS row ts) (λ d. pure (type n end d))
+      typeAfter n row ts ≡ after row (optional-run EQUALS row ts) (λ d. pure (type n end d))
   type-defaulted ts e =
       ap (λ t. after row t (typeRuns n)) (no-punct COLON role.separator row ts e) ∙ pure-then false (typeRuns n) row ts
 

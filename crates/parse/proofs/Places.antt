@@ -13,8 +13,8 @@ use Rattle.token_list.proofs.Texts.{chosen}
 use Rattle.reading.specs.Token.{starts, isPunct, isWord, CONST}
 use Rattle.reading.specs.Declaration.{Value}
 use Rattle.reading.specs.Took.{Took, took, Cause, stopped, Reader, Point, pastTaken, beyond}
-use Rattle.reading.specs.Reading.{punctIf, copied, whole, isLiteral, negatable, negativeValue}
-use Rattle.reading.specs.Place.{identRow, wordRow, tokenEnd, pastToken, marksName, parameterNameAt, literalRow}
+use Rattle.reading.specs.Reading.{punctIf, copied, groupSize, isLiteral, negatable, negativeValue}
+use Rattle.reading.specs.Place.{identRow, wordRow, tokenEnd, pastToken, beforeName, parameterNameAt, literalRow}
 use Rattle.parse.specs.Contract.{Moved, Said, on, Meets, stands, refuses, stream, point, CursorAt, TokenIn, WordAt, NameAt, pastOf, ValueIn, valueShown, valueSaid}
 use Rattle.parse.proofs.Meeting.{past-in-of, group-stream}
 use Rattle.parse.specs.declared.utils.Word.{Word}
@@ -72,7 +72,7 @@ pub group-past : {s : List ℕ} {c d : Cursor} (t : Token) (r : ℕ) {b0 b1 : Li
     → CursorAt s (pastToken (point s c)) d
 group-past {s} {c} {d} t r i g m =
     let ins = at s (t .next) .here in
-    let n : d .row ≡ c .row + whole ins = omega (arith, m .row, length-replicate {A = ℕ} (whole ins) r) in
+    let n : d .row ≡ c .row + groupSize ins = omega (arith, m .row, length-replicate {A = ℕ} (groupSize ins) r) in
     record {
       inList = m .inList;
       here = (λ j. record { row = n j; stream = m .here j }) ∙ sym (ap (tokenEnd (c .row)) (group-stream s c t i g));
@@ -97,10 +97,10 @@ cursor-at {s} {c} e k = subst (λ (x : Point). CursorAt s x c) e k
 -- ## A parameter's name
 
 module _ (s : List ℕ) (c d : Cursor) (t : Token) (i : InList s c) (l : LeafAt s (c .at) t) where
-  name-at : {b : Bool} → marksName (rowOf s t) ≡ b →
+  name-at : {b : Bool} → beforeName (rowOf s t) ≡ b →
       parameterNameAt (point s c) ≡ cond b (pastToken (point s c)) (point s c)
   name-at {b} q =
-      ap (λ (ts : Trees). cond (starts marksName ts) (pastToken (point s c)) (point s c)) (l .here) ∙
+      ap (λ (ts : Trees). cond (starts beforeName ts) (pastToken (point s c)) (point s c)) (l .here) ∙
       ap (λ (x : Bool). cond x (pastToken (point s c)) (point s c)) q
 
   pub after-quote : d ≡ pastOf c t → isPunct 39 (rowOf s t) ≡ true → point s d ≡ parameterNameAt (point s c)

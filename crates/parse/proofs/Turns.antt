@@ -21,9 +21,9 @@ use Rattle.parse.proofs.Meeting.{leaf-belonged, group-belonged, group-s
 use Rattle.parse.proofs.Places.{meets-beyond}
 
 pub judge-of : (st : Stops) (depth : ℕ) (m : Bool) (s : List ℕ) (i : ℕ) (t : Token) → TokenAt s i t
-    → judge st depth m (rowOf s t) ≡ cond (eqb (t .kind) 112) (judgePunct st depth m (t .mark)) (belongs depth false)
+    → judge st depth m (rowOf s t) ≡ cond (eqb (t .kind) 112) (judgePunct st depth m (t .first)) (belongs depth false)
 judge-of st depth m s i t k =
-    ap (λ (b : ℕ). cond (eqb (t .kind) 112) (judgePunct st depth m b) (belongs depth false)) (sym (k .mark))
+    ap (λ (b : ℕ). cond (eqb (t .kind) 112) (judgePunct st depth m b) (belongs depth false)) (sym (k .first))
 
 -- a token takes the depth up by one at most
 depthOf : Verdict → ℕ
@@ -97,11 +97,11 @@ module _ (st : Stops) (r : ℕ) (s : List ℕ) (c : Cursor) (inList : InList s c
     aft = head (at s (t .next) .outer)
 
     pub turn-group : (d : Cursor) (b0 b1 : List ℕ) → Moved s c d (copied r ins) aft b0 b1 →
-        stopping st depth (t .mark) ≡ false → Belonged s c d b0 b1 here (runFrom st r depth false (d .row) (stream s d))
+        stopping st depth (t .first) ≡ false → Belonged s c d b0 b1 here (runFrom st r depth false (d .row) (stream s d))
     turn-group d b0 b1 k v =
         group-belonged (runFrom st r depth m) (runFrom st r depth false) t r inList g k (passed-over _ _ _ v)
 
-    pub turn-group-ends : stopping st depth (t .mark) ≡ true → here ≡ took (ended atGroup depth) [] (stream s c)
+    pub turn-group-ends : stopping st depth (t .first) ≡ true → here ≡ took (ended atGroup depth) [] (stream s c)
     turn-group-ends v =
         let group-here = group-stream s c t inList g in
         ap (runFrom st r depth m (c .row)) group-here ∙ chosen _ _ _ v ∙

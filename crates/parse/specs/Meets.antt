@@ -30,9 +30,9 @@ pub data Meets {A : Type 0} (s : List ℕ) (c : Cursor) (before after : List ℕ
     : Said → Took A → Type 0 where
   stands : {d : Cursor} {a : A} {rs : List ℕ} {us : Trees}
       → Moved s c d rs us before after → shown a → Meets s c before after shown (on d) (took a rs us)
-  -- Which rows from the cursor's on were marked before the refusal is free, since `new` then fills every byte. The
-  -- bytes before the cursor's row, and past the rows that were marked, are as they were.
-  refuses : {w : Cause} {n p : ℕ} (marked : List ℕ) → after ≡ sets before (c .row) marked →
+  -- Which rows from the cursor's on were stored before the refusal is free, since `new` then fills every byte. The
+  -- bytes before the cursor's row, and past the rows that were stored, are as they were.
+  refuses : {w : Cause} {n p : ℕ} (stored : List ℕ) → after ≡ sets before (c .row) stored →
       Meets s c before after shown (no n p) (stopped w n p)
 
 -- nothing is told of the value

@@ -54,12 +54,12 @@ use Rattle.parse.specs.declared.generics.ParameterKind.{ParameterKind}
 use Rattle.parse.specs.declared.generics.ParameterKind.the-variants as parameterKinds
 use Rattle.parse.specs.declared.generics.ParameterRun.{ParameterRun}
 use Rattle.parse.specs.declared.generics.ParameterRun.the-variants as parameterRuns
-use Rattle.parse.specs.declared.generics.ParameterMark.{ParameterMark}
-use Rattle.parse.specs.declared.generics.ParameterMark.the-variants as marks
+use Rattle.parse.specs.declared.generics.RunPart.{RunPart}
+use Rattle.parse.specs.declared.generics.RunPart.the-variants as runParts
 use Rattle.parse.specs.declared.generics.ParameterStep.{ParameterStep}
 use Rattle.parse.specs.declared.generics.ParameterStep.the-variants as parameters
-use Rattle.parse.specs.declared.generics.MarkedRunStep.{MarkedRunStep}
-use Rattle.parse.specs.declared.generics.MarkedRunStep.the-variants as markedRuns
+use Rattle.parse.specs.declared.generics.OptionalRunStep.{OptionalRunStep}
+use Rattle.parse.specs.declared.generics.OptionalRunStep.the-variants as optionalRuns
 use Rattle.parse.specs.declared.generics.ParameterRunStep.{ParameterRunStep}
 use Rattle.parse.specs.declared.generics.ParameterRunStep.the-variants as parameterRunSteps
 use Rattle.parse.specs.declared.generics.CountStep.{CountStep}
@@ -262,29 +262,29 @@ defaultOf (declaration.lifetime n b) = end
 defaultOf (declaration.constant n t) = end
 defaultOf (declaration.type n b d) = d
 
--- the run after the mark at x
-abbrev pub MarkedRunAt : List ℕ → ℕ → Point → Run → Trees → Type 0
-MarkedRunAt s mark x r tokens =
-    (starts (reading.isPunct mark) (x .stream) ≡ true) ×
+-- the run after the separator at x
+abbrev pub OptionalRunAt : List ℕ → ℕ → Point → Run → Trees → Type 0
+OptionalRunAt s separator x r tokens =
+    (starts (reading.isPunct separator) (x .stream) ≡ true) ×
     RunAt s reading.parameterStops role.bound (pastToken x) r tokens
 
 -- a run without tokens
 abbrev pub emptyRun : Cursor → Run
 emptyRun c = record { from = c; to = c; ending = endings.End; unclosed = false }
 
--- a parameter's run, by the mark before it
-abbrev pub parameterRun : ParameterMark → Run → ParameterRun
-parameterRun marks.Absent r = parameterRuns.Absent
-parameterRun marks.Bound r = parameterRuns.Bound r
-parameterRun marks.Default r = parameterRuns.Default r
+-- a parameter's run, by the part that it is
+abbrev pub parameterRun : RunPart → Run → ParameterRun
+parameterRun runParts.Absent r = parameterRuns.Absent
+parameterRun runParts.Bound r = parameterRuns.Bound r
+parameterRun runParts.Default r = parameterRuns.Default r
 
 -- of a parameter with these bounds, or const type, and default, whose name ends at x: its run
 abbrev pub ParameterRunAt : List ℕ → Point → Trees → Trees → ParameterRun → Type 0
 ParameterRunAt s x bound default parameterRuns.Absent =
     (starts (reading.isPunct COLON) (x .stream) ≡ false) × (bound ≡ end) × (default ≡ end)
-ParameterRunAt s x bound default (parameterRuns.Bound r) = MarkedRunAt s COLON x r bound × (default ≡ end)
+ParameterRunAt s x bound default (parameterRuns.Bound r) = OptionalRunAt s COLON x r bound × (default ≡ end)
 ParameterRunAt s x bound default (parameterRuns.Default r) =
-    (starts (reading.isPunct COLON) (x .stream) ≡ false) × (bound ≡ end) × MarkedRunAt s EQUALS x r default
+    (starts (reading.isPunct COLON) (x .stream) ≡ false) × (bound ≡ end) × OptionalRunAt s EQUALS x r default
 
 -- what is told of a parameter: its kind and its name
 pub record ParameterOf (s : List ℕ) (k : ParameterKind) (name : Token) (a : declaration.Parameter) : Type 0 where
@@ -304,16 +304,16 @@ parameterShown s x (parameters.One p) v =
 parameterShown s x (parameters.Done d) v = v ≡ reading.done
 parameterShown s x (parameters.Refused r) v = ⊥
 
--- a mark and its run, or nothing, by the answer at c
-abbrev pub markedRunSaid : Cursor → MarkedRunStep → Said
-markedRunSaid c markedRuns.Absent = on c
-markedRunSaid c (markedRuns.At r) = on (r .to)
-markedRunSaid c (markedRuns.Refused r) = refusal r
+-- a separator and its run, or nothing, by the answer at c
+abbrev pub optionalRunSaid : Cursor → OptionalRunStep → Said
+optionalRunSaid c optionalRuns.Absent = on c
+optionalRunSaid c (optionalRuns.At r) = on (r .to)
+optionalRunSaid c (optionalRuns.Refused r) = refusal r
 
-abbrev pub markedRunShown : List ℕ → ℕ → Point → MarkedRunStep → Trees → Type 0
-markedRunShown s mark x markedRuns.Absent v = (starts (reading.isPunct mark) (x .stream) ≡ false) × (v ≡ end)
-markedRunShown s mark x (markedRuns.At r) v = MarkedRunAt s mark x r v
-markedRunShown s mark x (markedRuns.Refused r) v = ⊥
+abbrev pub optionalRunShown : List ℕ → ℕ → Point → OptionalRunStep → Trees → Type 0
+optionalRunShown s separator x optionalRuns.Absent v = (starts (reading.isPunct separator) (x .stream) ≡ false) × (v ≡ end)
+optionalRunShown s separator x (optionalRuns.At r) v = OptionalRunAt s separator x r v
+optionalRunShown s separator x (optionalRuns.Refused r) v = ⊥
 
 -- the bound or const type of a parameter whose name ends at x
 abbrev pub parameterRunSaid : ParameterRunStep → Said
@@ -342,7 +342,7 @@ parameterMade parameterKinds.Type n b = declaration.type n b end
 abbrev pub namedParameter : ℕ → ℕ → ParameterKind → Reader (reading.Maybe declaration.Parameter)
 namedParameter n p k =
     reading.parameterName n p
-    >>= (λ x. (reading.marked-run COLON >>= λ b. pure (parameterMade k x b)))
+    >>= (λ x. (reading.optional-run COLON >>= λ b. pure (parameterMade k x b)))
     >>= reading.comma
 
 abbrev pub afterQuote : ℕ → Reader (reading.Maybe declaration.Parameter)

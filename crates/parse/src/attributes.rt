@@ -2,8 +2,8 @@
 use crate::role;
 use crate::utils::Step;
 use crate::utils::is_punct;
-use crate::utils::mark;
 use crate::utils::past;
+use crate::utils::set_role;
 use crate::utils::stands_punct;
 use crate::utils::take_group;
 use token_list::check::Cursor;
@@ -39,11 +39,11 @@ pub fn attribute(s: &[u8], c: Cursor, roles: &mut [u8]) -> AttributeStep
     if !stands_punct(s, c, b'#') {
         return AttributeStep::Done;
     }
-    marked_attribute(s, c, roles)
+    after_hash(s, c, roles)
 }
 
 // The same by the tokens themselves, where a look has found a `#`.
-fn marked_attribute(s: &[u8], c: Cursor, roles: &mut [u8]) -> AttributeStep
+fn after_hash(s: &[u8], c: Cursor, roles: &mut [u8]) -> AttributeStep
     requires { ⌜ InList (now s) c ⌝ }
     ensures { λ r. ⌜ AttributeRead (now (s .entry)) c (now (roles .entry)) (now (roles .exit)) r ⌝ }
 {
@@ -69,7 +69,7 @@ fn marked_attribute(s: &[u8], c: Cursor, roles: &mut [u8]) -> AttributeStep
                             place: below,
                         });
                     }
-                    mark(roles, row, role::IDLE_MARK);
+                    set_role(roles, row, role::IDLE_MARK);
                     AttributeStep::One(AttributeAt {
                         idle: true,
                         token: q,
@@ -77,13 +77,13 @@ fn marked_attribute(s: &[u8], c: Cursor, roles: &mut [u8]) -> AttributeStep
                     })
                 }
                 Peeked::Group(g) => {
-                    if g.mark != b'[' {
+                    if g.first != b'[' {
                         return AttributeStep::Refused(Refusal {
                             number: 12,
                             place: below,
                         });
                     }
-                    mark(roles, row, role::ATTRIBUTE_MARK);
+                    set_role(roles, row, role::ATTRIBUTE_MARK);
                     let after = take_group(s, next, g, roles, role::ATTRIBUTE_GROUP);
                     AttributeStep::One(AttributeAt {
                         idle: false,

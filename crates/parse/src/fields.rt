@@ -8,7 +8,7 @@ use crate::runs::Stops;
 use crate::runs::read_tokens_until_punct;
 use crate::utils::Step;
 use crate::utils::consume_punct_if;
-use crate::utils::mark;
+use crate::utils::set_role;
 use crate::utils::take_token;
 use crate::utils::wrong_token;
 use crate::visibility;
@@ -309,7 +309,7 @@ pub fn close_group(s: &[u8], c: Cursor, roles: &mut [u8]) -> Cursor
     ensures { λ _. ⌜ now (roles .exit) ≡ set (now (roles .entry)) (c .row) delimiter ⌝ }
 {
     let row = c.row;
-    mark(roles, row, role::DELIMITER);
+    set_role(roles, row, role::DELIMITER);
     skip(s, c)
 }
 

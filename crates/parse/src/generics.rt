@@ -24,9 +24,9 @@ ghost use Rattle.token_list.specs.Byte.{COLON};
 ghost use Rattle.token_list.specs.Contract.{InList};
 ghost use Rattle.reading.specs.Declaration.{Parameter};
 ghost use Rattle.reading.specs.Took.{Point};
-ghost use Rattle.reading.specs.Reading.{parameterName, marked-run, typeAfter, comma, parameter, every, generics, clause};
+ghost use Rattle.reading.specs.Reading.{parameterName, optional-run, typeAfter, comma, parameter, every, generics, clause};
 ghost use Rattle.reading.specs.Place.{pastToken, parameterNameAt};
-ghost use Rattle.parse.specs.Contract.{isLifetime, Meets, stream, point, TokenIn, TextOf, nameShown, nameSaid, markedRunShown, markedRunSaid, boundShown, parameterRunSaid, boundOf, defaultOf, emptyRun, parameterRun, ParameterRunAt, ParameterOf, typeShown, parameterShown, parameterSaid, namedParameter, afterQuote, afterConst, afterName, countShown, countSaid, genericsShown, clauseShown, clauseSaid};
+ghost use Rattle.parse.specs.Contract.{isLifetime, Meets, stream, point, TokenIn, TextOf, nameShown, nameSaid, optionalRunShown, optionalRunSaid, boundShown, parameterRunSaid, boundOf, defaultOf, emptyRun, parameterRun, ParameterRunAt, ParameterOf, typeShown, parameterShown, parameterSaid, namedParameter, afterQuote, afterConst, afterName, countShown, countSaid, genericsShown, clauseShown, clauseSaid};
 
 pub enum ParameterKind {
     Lifetime,
@@ -53,7 +53,7 @@ pub enum ParameterRun {
 }
 
 // Which of them stands after a parameter's name.
-pub enum ParameterMark {
+pub enum RunPart {
     Absent,
     Bound,
     Default,
@@ -74,17 +74,17 @@ pub enum ParameterStep {
     Refused(Refusal),
 }
 
-// No mark, or the run after it.
-pub enum MarkedRunStep {
+// No separator, or the run after it.
+pub enum OptionalRunStep {
     Absent,
     At(Run),
     Refused(Refusal),
 }
 
-// A parameter's mark and run, which without a mark is empty. They stay apart until the parameter's record is
+// A parameter's run, which may be absent, and which part it is. They stay apart until the parameter's record is
 // made: an enum that holds a run was copied from step to step, and its padding too (docs/PERFORMANCE.md).
 pub enum ParameterRunStep {
-    At(ParameterMark, Run),
+    At(RunPart, Run),
     Refused(Refusal),
 }
 
@@ -127,15 +127,15 @@ fn parameter_name(s: &[u8], c: Cursor, roles: &mut [u8], number: u8, or: usize) 
 }
 
 // `punct` and a bound's, a default's or a const type's run, where it stands.
-fn marked_run(s: &[u8], c: Cursor, roles: &mut [u8], punct: u8) -> MarkedRunStep
+fn optional_run(s: &[u8], c: Cursor, roles: &mut [u8], punct: u8) -> OptionalRunStep
     requires { ⌜ InList (now s) c ⌝ }
     ensures { λ r. ⌜ Meets (now (s .entry)) c (now (roles .entry)) (now (roles .exit))
-        (markedRunShown (now (s .entry)) punct (point (now (s .entry)) c) r) (markedRunSaid c r)
-        (marked-run punct (c .row) (stream (now (s .entry)) c)) ⌝ }
+        (optionalRunShown (now (s .entry)) punct (point (now (s .entry)) c) r) (optionalRunSaid c r)
+        (optional-run punct (c .row) (stream (now (s .entry)) c)) ⌝ }
 {
     let p = consume_punct_if(s, c, roles, punct, role::SEPARATOR);
     if !p.taken {
-        return MarkedRunStep::Absent;
+        return OptionalRunStep::Absent;
     }
     let next = p.next;
     match read_tokens_until_punct(
@@ -149,8 +149,8 @@ fn marked_run(s: &[u8], c: Cursor, roles: &mut [u8], punct: u8) -> MarkedRunStep
         },
         role::BOUND,
     ) {
-        RunStep::Refused(r) => MarkedRunStep::Refused(r),
-        RunStep::At(to, ending, unclosed) => MarkedRunStep::At(Run {
+        RunStep::Refused(r) => OptionalRunStep::Refused(r),
+        RunStep::At(to, ending, unclosed) => OptionalRunStep::At(Run {
             from: next,
             to,
             ending,
@@ -176,23 +176,23 @@ fn bounds(s: &[u8], c: Cursor, roles: &mut [u8]) -> ParameterRunStep
     requires { ⌜ InList (now s) c ⌝ }
     ensures { λ r. ⌜ Meets (now (s .entry)) c (now (roles .entry)) (now (roles .exit))
         (boundShown (now (s .entry)) (point (now (s .entry)) c) r) (parameterRunSaid r)
-        (marked-run COLON (c .row) (stream (now (s .entry)) c)) ⌝ }
+        (optional-run COLON (c .row) (stream (now (s .entry)) c)) ⌝ }
 {
-    match marked_run(s, c, roles, b':') {
-        MarkedRunStep::Refused(r) => ParameterRunStep::Refused(r),
-        MarkedRunStep::Absent => ParameterRunStep::At(ParameterMark::Absent, empty_run(c)),
-        MarkedRunStep::At(r) => ParameterRunStep::At(ParameterMark::Bound, r),
+    match optional_run(s, c, roles, b':') {
+        OptionalRunStep::Refused(r) => ParameterRunStep::Refused(r),
+        OptionalRunStep::Absent => ParameterRunStep::At(RunPart::Absent, empty_run(c)),
+        OptionalRunStep::At(r) => ParameterRunStep::At(RunPart::Bound, r),
     }
 }
 
-// A parameter's run, by the mark before it.
-fn parameter_run(mark: ParameterMark, run: Run) -> ParameterRun
-    ensures { λ r. ⌜ r ≡ parameterRun mark run ⌝ }
+// A parameter's run, by the part that it is.
+fn parameter_run(part: RunPart, run: Run) -> ParameterRun
+    ensures { λ r. ⌜ r ≡ parameterRun part run ⌝ }
 {
-    match mark {
-        ParameterMark::Absent => ParameterRun::Absent,
-        ParameterMark::Bound => ParameterRun::Bound(run),
-        ParameterMark::Default => ParameterRun::Default(run),
+    match part {
+        RunPart::Absent => ParameterRun::Absent,
+        RunPart::Bound => ParameterRun::Bound(run),
+        RunPart::Default => ParameterRun::Default(run),
     }
 }
 
@@ -202,25 +202,25 @@ fn parameter_end(
     roles: &mut [u8],
     kind: ParameterKind,
     name: Token,
-    mark: ParameterMark,
+    part: RunPart,
     run: Run,
 ) -> ParameterStep
     requires { ⌜ InList (now s) (run .to) ⌝ }
     ensures { λ r. ⌜ ((a : Parameter) (x : Point) → ParameterOf (now (s .entry)) kind name a →
         TokenIn (now (s .entry)) (x .row) name →
-        ParameterRunAt (now (s .entry)) (pastToken x) (boundOf a) (defaultOf a) (parameterRun mark run) →
+        ParameterRunAt (now (s .entry)) (pastToken x) (boundOf a) (defaultOf a) (parameterRun part run) →
         Meets (now (s .entry)) (run .to) (now (roles .entry)) (now (roles .exit))
         (parameterShown (now (s .entry)) x r) (parameterSaid r)
         (comma a (run .to .row) (stream (now (s .entry)) (run .to)))) ⌝ }
 {
-    let marked = parameter_run(mark, run);
+    let told = parameter_run(part, run);
     let c = run.to;
     let p = consume_punct_if(s, c, roles, b',', role::SEPARATOR);
     let next = p.next;
     ParameterStep::One(ParameterAt {
         kind,
         name,
-        run: marked,
+        run: told,
         next,
     })
 }
@@ -243,7 +243,7 @@ fn named_parameter(
         NameStep::Refused(r) => ParameterStep::Refused(r),
         NameStep::At(name, d) => match bounds(s, d, roles) {
             ParameterRunStep::Refused(r) => ParameterStep::Refused(r),
-            ParameterRunStep::At(mark, run) => parameter_end(s, roles, kind, name, mark, run),
+            ParameterRunStep::At(part, run) => parameter_end(s, roles, kind, name, part, run),
         },
     }
 }
@@ -278,10 +278,10 @@ fn bounds_or_default(s: &[u8], c: Cursor, roles: &mut [u8]) -> ParameterRunStep
     if stands_punct(s, c, b':') {
         return bounds(s, c, roles);
     }
-    match marked_run(s, c, roles, b'=') {
-        MarkedRunStep::Refused(r) => ParameterRunStep::Refused(r),
-        MarkedRunStep::Absent => ParameterRunStep::At(ParameterMark::Absent, empty_run(c)),
-        MarkedRunStep::At(r) => ParameterRunStep::At(ParameterMark::Default, r),
+    match optional_run(s, c, roles, b'=') {
+        OptionalRunStep::Refused(r) => ParameterRunStep::Refused(r),
+        OptionalRunStep::Absent => ParameterRunStep::At(RunPart::Absent, empty_run(c)),
+        OptionalRunStep::At(r) => ParameterRunStep::At(RunPart::Default, r),
     }
 }
 
@@ -295,8 +295,8 @@ fn simple_generic(s: &[u8], c: Cursor, roles: &mut [u8], name: Token) -> Paramet
 {
     match bounds_or_default(s, c, roles) {
         ParameterRunStep::Refused(r) => ParameterStep::Refused(r),
-        ParameterRunStep::At(mark, run) => {
-            parameter_end(s, roles, ParameterKind::Type, name, mark, run)
+        ParameterRunStep::At(part, run) => {
+            parameter_end(s, roles, ParameterKind::Type, name, part, run)
         }
     }
 }

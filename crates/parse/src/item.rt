@@ -155,7 +155,7 @@ fn refuse(roles: &mut [u8], r: Refusal) -> Parse
 }
 
 // After an item that ended before the row `end`: 0 for the rows left over, then no role.
-fn mark_left_over(roles: &mut [u8], end: usize, rows: usize)
+fn set_left_over(roles: &mut [u8], end: usize, rows: usize)
     ensures { λ _. ⌜ now (roles .exit) ≡ sets (sets (now (roles .entry)) end (replicate (rows - end) role.left-over))
         rows (replicate (length (now (roles .entry)) - rows) role.none) ⌝ }
 {
@@ -179,7 +179,7 @@ fn read(s: &[u8], roles: &mut [u8], rows: usize) -> Parse
         ItemStep::At(i) => {
             let next = i.next;
             let end = next.row;
-            mark_left_over(roles, end, rows);
+            set_left_over(roles, end, rows);
             parsed(i)
         }
     }

@@ -66,7 +66,7 @@ pub enum NameStep {
 }
 
 // One role byte, where the buffer has it.
-pub fn mark(roles: &mut [u8], row: usize, role: u8)
+pub fn set_role(roles: &mut [u8], row: usize, role: u8)
     ensures { λ _. ⌜ now (roles .exit) ≡ set (now (roles .entry)) row role ⌝ }
 {
     if row < roles.len() {
@@ -121,7 +121,7 @@ pub fn take_token(s: &[u8], c: Cursor, t: Token, roles: &mut [u8], role: u8) -> 
     ensures { λ _. ⌜ now (roles .exit) ≡ set (now (roles .entry)) (c .row) role ⌝ }
 {
     let row = c.row;
-    mark(roles, row, role);
+    set_role(roles, row, role);
     past(s, c, t)
 }
 
@@ -162,10 +162,10 @@ pub fn wrong_token(s: &[u8], c: Cursor, number: u8) -> Refusal
 }
 
 pub fn is_punct(t: Token, b: u8) -> bool
-    ensures { λ r. ⌜ r ≡ (eqb (t .kind) PUNCT && eqb (t .mark) b) ⌝ }
+    ensures { λ r. ⌜ r ≡ (eqb (t .kind) PUNCT && eqb (t .first) b) ⌝ }
 {
     if t.kind == b'p' {
-        return t.mark == b;
+        return t.first == b;
     }
     false
 }
@@ -255,7 +255,7 @@ pub fn stands_punct(s: &[u8], c: Cursor, b: u8) -> bool
 {
     let l = look(s, c);
     if l.kind == b'p' {
-        return l.mark == b;
+        return l.first == b;
     }
     false
 }

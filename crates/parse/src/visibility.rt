@@ -78,7 +78,7 @@ fn scope_after(s: &[u8], c: Cursor, roles: &mut [u8]) -> Cursor
         Peeked::Nothing => c,
         Peeked::Leaf(_) => c,
         Peeked::Group(t) => {
-            if t.mark != b'(' {
+            if t.first != b'(' {
                 return c;
             }
             let inside = past(s, c, t);
@@ -128,7 +128,7 @@ fn past_visibility(s: &[u8], c: Cursor, roles: &mut [u8]) -> Cursor
     if l.kind == b'o' {
         return take(s, c, roles);
     }
-    if l.mark == b'p' {
+    if l.first == b'p' {
         return take(s, c, roles);
     }
     c

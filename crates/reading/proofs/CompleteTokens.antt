@@ -198,7 +198,7 @@ module _ (st : Stops) (n : ℕ) where
       run-step depth minus q us row (judge-token st depth q minus e) (runFrom-complete h (row + 1))
   runFrom-complete (g.Run.inside {depth = depth} {d = d} {ts = ts} {us = us} e h) row =
       same-as (passed-over (stopping st depth d) _ _ e)
-      (onward-taken (copied n ts) (runFrom-complete h (row + r.whole ts)))
+      (onward-taken (copied n ts) (runFrom-complete h (row + r.groupSize ts)))
   runFrom-complete (g.Run.ended {depth = depth} e) row =
       taken-as (r.ended r.atEnd depth) [] end tt refl
 
@@ -220,7 +220,7 @@ attributes-taken : {ts us : Trees} {rs : List ℕ} → g.Attributes everything t
     Taken Any (r.attributes row ts) rs us
 attributes-taken (g.Attributes.none {ts = ts} e) row = taken-as [] [] ts tt (attributes-none ts e row)
 attributes-taken (g.Attributes.attribute {q = q} {d = d} {ts = ts} {us = us} {vs = vs} {rs = rs} e f h) row =
-    let below = row + 1 + r.whole ts in
+    let below = row + 1 + r.groupSize ts in
     same-as (chosen (isPunct 35 q) _ _ e ∙ chosen (eqb d 91) _ _ f)
     (onward-taken (role.attribute-mark ∷ copied role.attribute-group ts)
     (and-pure {Q = Any} {m = r.attributes} {ts = us} {us = vs} {rs = rs} (λ xs. ts ∷ xs)
@@ -261,7 +261,7 @@ visibility-taken (g.Visibility.with-scope {q = q} {d = d} {ts = ts} {us = us} e 
 visibility-taken (g.Visibility.wrapped {d = d} {ts = ts} {us = us} a e f) row =
     taken-as public (copied role.visibility ts) us tt
     (chosen (lone (isWord PUB) ts) _ _ e
-    ∙ ap (onward (copied role.visibility ts)) (no-group us f (row + r.whole ts))
+    ∙ ap (onward (copied role.visibility ts)) (no-group us f (row + r.groupSize ts))
     ∙ ap (λ (rs : List ℕ). took public rs us) (append-nil (copied role.visibility ts)))
 visibility-taken (g.Visibility.wrapped-scoped {e = d} {ts = ts} {us = us} {vs = vs} a b e) row =
     taken-as (restricted d us) (copied role.visibility ts ++ copied role.scope us) vs tt

@@ -88,7 +88,7 @@ module _ (b : ℕ) where
       (λ e m. onward-conserved (n ∷ []) (past-leaf n k q us) (runFrom-conserving st n e m k (row + 1) us (omega arith)))
   runFrom-conserving st n depth minus k row (group d ts us) l =
       choice (r.stopping st depth d) nothing-taken
-      (copied-conserved n k d ts us (runFrom-conserving st n depth false k (row + r.whole ts) us (omega arith)))
+      (copied-conserved n k d ts us (runFrom-conserving st n depth false k (row + r.groupSize ts) us (omega arith)))
 
   kept-conserved : {T : Trees → Type 0} {ts : Trees} {t : Took RunEnd} (us : Trees) → Conserved b (λ e vs. T vs) ts t →
       Conserved b (λ e vs. T vs) ts (r.kept us t)
@@ -108,22 +108,22 @@ module _ (b : ℕ) where
     pub attributes-conserving : Conserving b r.attributes
     attributes-conserving row end l = nothing-taken
     attributes-conserving row (group d ts us) l = nothing-taken
-    attributes-conserving row (leaf q us) l = choice (r.isPunct 35 q) (marked-conserved row q us l) nothing-taken
+    attributes-conserving row (leaf q us) l = choice (r.isPunct 35 q) (afterHash-conserved row q us l) nothing-taken
 
-    marked-conserved : (row : ℕ) (q : Row) (us : Trees) → row + size (leaf q us) ≤ b →
-        Conserved b Any (leaf q us) (r.marked row us)
-    marked-conserved row q end l = told-end refl
-    marked-conserved row q (group d ts us) l =
+    afterHash-conserved : (row : ℕ) (q : Row) (us : Trees) → row + size (leaf q us) ≤ b →
+        Conserved b Any (leaf q us) (r.afterHash row us)
+    afterHash-conserved row q end l = told-end refl
+    afterHash-conserved row q (group d ts us) l =
         choice (eqb d 91)
         (onward-conserved (role.attribute-mark ∷ r.copied role.attribute-group ts)
         (past-both (role.attribute-mark ∷ []) (r.copied role.attribute-group ts)
         (past-leaf role.attribute-mark refl q (group d ts us)) (past-group role.attribute-group refl d ts us))
-        (after-conserved (row + 1 + r.whole ts) (omega arith)
-        (attributes-conserving (row + 1 + r.whole ts) us (omega arith)) (λ xs us h s row l. nothing-taken)))
+        (after-conserved (row + 1 + r.groupSize ts) (omega arith)
+        (attributes-conserving (row + 1 + r.groupSize ts) us (omega arith)) (λ xs us h s row l. nothing-taken)))
         (told-row (row + 1) refl (omega arith))
-    marked-conserved row q (leaf p us) l =
+    afterHash-conserved row q (leaf p us) l =
         choice (r.isPunct 35 p) (onward-conserved (role.idle-mark ∷ []) (past-leaf role.idle-mark refl q (leaf p us))
-        (marked-conserved (row + 1) p us (omega arith))) (told-row (row + 1) refl (omega arith))
+        (afterHash-conserved (row + 1) p us (omega arith))) (told-row (row + 1) refl (omega arith))
 
   scopeAfter-conserving : Conserving b r.scopeAfter
   scopeAfter-conserving row end l = nothing-taken
@@ -142,7 +142,7 @@ module _ (b : ℕ) where
       choice (r.isWord r.PUB q) (from-conserved role.visibility refl row q us l scopeAfter-conserving) nothing-taken
   visibility-conserving row (group d ts us) l =
       choice (r.lone (r.isWord r.PUB) ts) (copied-conserved role.visibility refl d ts us
-      (anyScope-conserving (row + r.whole ts) us (omega arith))) nothing-taken
+      (anyScope-conserving (row + r.groupSize ts) us (omega arith))) nothing-taken
 
   named!-conserving : (w : Word) → Conserving b (r.named! w)
   named!-conserving missing = wrong-conserved 11 refl
@@ -169,8 +169,8 @@ module _ (b : ℕ) where
       choice (r.isIdent q) (one-row role.parameter-name refl q us) (told-row row own (omega arith))
   parameterName-conserving n p own k row (group d ts us) l = told-row row own (omega arith)
 
-  pub marked-run-conserving : (x : ℕ) → Conserving b (r.marked-run x)
-  marked-run-conserving x =
+  pub optional-run-conserving : (x : ℕ) → Conserving b (r.optional-run x)
+  optional-run-conserving x =
       bind (punctIf-conserving x role.separator refl) (λ t. runIf-conserving t r.parameterStops role.bound refl)
 
   comma-another : {A : Type 0} (a : A) → Keeping b Another (r.comma a)
@@ -185,17 +185,17 @@ module _ (b : ℕ) where
 
   typeRuns-conserving : (n : List ℕ) (t : Bool) → Conserving b (r.typeRuns n t)
   typeRuns-conserving n true = bind (run-conserving r.parameterStops role.bound refl) (λ x. pure-conserving _)
-  typeRuns-conserving n false = bind (marked-run-conserving 61) (λ x. pure-conserving _)
+  typeRuns-conserving n false = bind (optional-run-conserving 61) (λ x. pure-conserving _)
 
   parameter-turning : (angle : ℕ) → angle < b → Turning b AnyRest (r.parameter angle)
   parameter-turning angle k row end l = told-row angle refl k
   parameter-turning angle k row (group d ts us) l = told-row row refl (omega arith)
   parameter-turning angle k row (leaf q us) l =
       choice (r.isPunct 39 q) (first (bind (parameterName-conserving 24 row refl (at-row (omega arith)))
-      (λ n. bind (marked-run-conserving 58) (λ x. pure-conserving _))))
+      (λ n. bind (optional-run-conserving 58) (λ x. pure-conserving _))))
       (choice (r.isPunct 62 q) (taken (role.angle ∷ []) us (past-leaf role.angle refl q us) tt)
       (choice (r.isWord r.CONST q) (first (bind (parameterName-conserving 27 END refl at-end)
-      (λ n. bind (marked-run-conserving 58) (λ x. pure-conserving _))))
+      (λ n. bind (optional-run-conserving 58) (λ x. pure-conserving _))))
       (choice (r.isIdent q)
       (first (bind (punctIf-conserving 58 role.separator refl) (typeRuns-conserving (q .text))))
       (told-row row refl (omega arith)))))
@@ -285,7 +285,7 @@ module _ (b : ℕ) where
         (λ x vs s h. omega arith))))
     tail row (group d ts us) l =
         tail-then row l (copied-conserved role.type refl d ts us
-        (looser (runFrom-conserving r.fieldStops role.type 0 false refl (row + r.whole ts) us (omega arith))
+        (looser (runFrom-conserving r.fieldStops role.type 0 false refl (row + r.groupSize ts) us (omega arith))
         (λ x vs s h. omega arith)))
 
   tupleType-turn : (row : ℕ) (ts : Trees) → row + size ts ≤ b →

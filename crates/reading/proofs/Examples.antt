@@ -35,15 +35,15 @@ valve =
     (g.Head.head (g.Word.ident refl) (g.Word.ident refl)) (g.Generics.none refl) (g.Clause.none refl)
     (g.EnumBody.variants refl
     (g.Variants.next refl (g.Variant.valued (g.Attributes.none refl) (g.Word.ident refl) (g.VariantFields.none refl)
-    (g.Value.literal refl refl) (g.Mark.present refl) refl refl)
+    (g.Value.literal refl refl) (g.Separator.present refl) refl refl)
     (g.Variants.next refl
     (g.Variant.plain (g.Attributes.none refl) (g.Word.ident refl)
     (g.VariantFields.tuple refl
     (g.TupleFields.next refl (g.TupleField.field (g.Attributes.none refl) (g.Visibility.none refl)
-    (g.Run.token refl (g.Run.ended refl)) refl (g.Mark.absent refl)) g.TupleFields.last))
-    (g.Mark.present refl) refl)
+    (g.Run.token refl (g.Run.ended refl)) refl (g.Separator.absent refl)) g.TupleFields.last))
+    (g.Separator.present refl) refl)
     (g.Variants.next refl (g.Variant.valued (g.Attributes.none refl) (g.Word.ident refl) (g.VariantFields.none refl)
-    (g.Value.negative refl refl refl refl) (g.Mark.absent refl) refl refl)
+    (g.Value.negative refl refl refl refl) (g.Separator.absent refl) refl refl)
     g.Variants.last)))))
     g.LeftOver.none
 
@@ -58,11 +58,11 @@ arrow =
     (g.Parameters.next
     (g.Parameter.bounded refl refl refl (g.Run.token refl
     (g.Run.inside refl (g.Run.token refl (g.Run.arrow refl (g.Run.token refl (g.Run.angle refl refl refl)))))))
-    (g.Mark.absent refl) refl refl (g.Parameters.close refl)))
+    (g.Separator.absent refl) refl refl (g.Parameters.close refl)))
     (g.Clause.none refl)
     (g.StructBody.tuple refl
     (g.TupleFields.next refl (g.TupleField.field (g.Attributes.none refl) (g.Visibility.none refl)
-    (g.Run.token refl (g.Run.ended refl)) refl (g.Mark.absent refl)) g.TupleFields.last)))
+    (g.Run.token refl (g.Run.ended refl)) refl (g.Separator.absent refl)) g.TupleFields.last)))
     (g.LeftOver.semicolon refl)
 
 -- ## The Reference's names, scopes and where clauses

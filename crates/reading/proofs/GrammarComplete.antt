@@ -24,39 +24,39 @@ use Rattle.reading.proofs.CompleteTokens.{Taken, Takes, Any, same-as, t
 
 -- ## Marks and generics
 
-punctIf-taken : {b : ℕ} {t : Bool} {ts us : Trees} {rs : List ℕ} → g.Mark everything b t ts us rs → (row : ℕ) →
+punctIf-taken : {b : ℕ} {t : Bool} {ts us : Trees} {rs : List ℕ} → g.Separator everything b t ts us rs → (row : ℕ) →
     r.punctIf b role.separator row ts ≡ took t rs us
-punctIf-taken {b} (g.Mark.present {q = q} e) row = chosen (isPunct b q) _ _ e
-punctIf-taken {b} (g.Mark.absent {ts = ts} e) row = none ts e
+punctIf-taken {b} (g.Separator.present {q = q} e) row = chosen (isPunct b q) _ _ e
+punctIf-taken {b} (g.Separator.absent {ts = ts} e) row = none ts e
   where
     none : (ts : Trees) → starts (isPunct b) ts ≡ false → r.punctIf b role.separator row ts ≡ took false [] ts
     none end e = refl
     none (leaf q us) e = passed-over (isPunct b q) _ _ e
     none (group d ts us) e = refl
 
-pub punctIf-complete : {b : ℕ} {t : Bool} {ts us : Trees} {rs : List ℕ} → g.Mark everything b t ts us rs
+pub punctIf-complete : {b : ℕ} {t : Bool} {ts us : Trees} {rs : List ℕ} → g.Separator everything b t ts us rs
     → Takes (λ x. x ≡ t) (r.punctIf b role.separator) ts us rs
 punctIf-complete {t = t} {us = us} {rs = rs} h = record { from = λ row. taken-as t rs us refl (punctIf-taken h row) }
 
 -- the mark stands or not, and what is read then
-mark-then : {B : Type 0} {Q : B → Type 0} {f : Bool → Reader B} {b : ℕ} {t : Bool} {ts us vs : Trees} {rs qs : List ℕ} →
-    g.Mark everything b t ts us rs
+separator-then : {B : Type 0} {Q : B → Type 0} {f : Bool → Reader B} {b : ℕ} {t : Bool} {ts us vs : Trees} {rs qs : List ℕ} →
+    g.Separator everything b t ts us rs
     → Takes Q (f t) us vs qs → Takes Q (r.punctIf b role.separator >>= f) ts vs (rs ++ qs)
-mark-then {Q = Q} {f = f} {us = us} {vs = vs} {qs = qs} h k =
+separator-then {Q = Q} {f = f} {us = us} {vs = vs} {qs = qs} h k =
     and-then (punctIf-complete h) (λ x e. subst (λ (x : Bool). Takes Q (f x) us vs qs) (sym e) k)
 
-marked-run-none : {b : ℕ} {ts : Trees} → starts (isPunct b) ts ≡ false → Takes Any (r.marked-run b) ts ts []
-marked-run-none {b} {ts} e = mark-then {b = b} {t = false} {us = ts} (g.Mark.absent e) (pure-takes end ts tt)
+optional-run-none : {b : ℕ} {ts : Trees} → starts (isPunct b) ts ≡ false → Takes Any (r.optional-run b) ts ts []
+optional-run-none {b} {ts} e = separator-then {b = b} {t = false} {us = ts} (g.Separator.absent e) (pure-takes end ts tt)
 
-marked-run-some : {b : ℕ} {c : Row} {us vs : Trees} {rs : List ℕ} → isPunct b c ≡ true →
+optional-run-some : {b : ℕ} {c : Row} {us vs : Trees} {rs : List ℕ} → isPunct b c ≡ true →
     g.Run everything parameterStops role.bound 0 false us vs rs
-    → Takes Any (r.marked-run b) (leaf c us) vs (role.separator ∷ rs)
-marked-run-some {b} {c} e h =
-    mark-then {b = b} {t = true} (g.Mark.present {q = c} e) (run-complete parameterStops role.bound h)
+    → Takes Any (r.optional-run b) (leaf c us) vs (role.separator ∷ rs)
+optional-run-some {b} {c} e h =
+    separator-then {b = b} {t = true} (g.Separator.present {q = c} e) (run-complete parameterStops role.bound h)
 
-bound-complete : {ts us : Trees} {rs : List ℕ} → g.Bound everything ts us rs → Takes Any (r.marked-run 58) ts us rs
-bound-complete (g.Bound.none e) = marked-run-none e
-bound-complete (g.Bound.bound e h) = marked-run-some e h
+bound-complete : {ts us : Trees} {rs : List ℕ} → g.Bound everything ts us rs → Takes Any (r.optional-run 58) ts us rs
+bound-complete (g.Bound.none e) = optional-run-none e
+bound-complete (g.Bound.bound e h) = optional-run-some e h
 
 -- one more was read, or it was the last
 abbrev Another : {A : Type 0} → Maybe A → Type 0
@@ -67,7 +67,7 @@ abbrev Last : {A : Type 0} → Maybe A → Type 0
 Last done = Unit {0}
 Last (one a) = ⊥
 
-comma-complete : {A : Type 0} {t : Bool} {us vs : Trees} {cs : List ℕ} (a : A) → g.Mark everything 44 t us vs cs →
+comma-complete : {A : Type 0} {t : Bool} {us vs : Trees} {cs : List ℕ} (a : A) → g.Separator everything 44 t us vs cs →
     Takes Another (r.comma a) us vs cs
 comma-complete a m = and-pure (λ t. one a) (punctIf-complete m) (λ x e. tt)
 
@@ -106,30 +106,30 @@ module _ (n : List ℕ) where
   typeAfter-plain : {us : Trees} → starts (isPunct 58) us ≡ false → starts (isPunct 61) us ≡ false →
       Takes Any (r.typeAfter n) us us []
   typeAfter-plain {us} h k =
-      mark-then {f = r.typeRuns n} {b = 58} {t = false} {us = us} (g.Mark.absent h)
-      (and-pure (Parameter.type n end) (marked-run-none k) (λ x y. tt))
+      separator-then {f = r.typeRuns n} {b = 58} {t = false} {us = us} (g.Separator.absent h)
+      (and-pure (Parameter.type n end) (optional-run-none k) (λ x y. tt))
 
   typeAfter-bounded : (c : Row) {us vs : Trees} {rs : List ℕ} → isPunct 58 c ≡ true →
       g.Run everything parameterStops role.bound 0 false us vs rs
       → Takes Any (r.typeAfter n) (leaf c us) vs (role.separator ∷ rs)
   typeAfter-bounded c i h =
-      mark-then {f = r.typeRuns n} {b = 58} {t = true} (g.Mark.present {q = c} i)
+      separator-then {f = r.typeRuns n} {b = 58} {t = true} (g.Separator.present {q = c} i)
       (and-pure (λ b. Parameter.type n b end) (run-complete parameterStops role.bound h) (λ x y. tt))
 
   typeAfter-defaulted : (c : Row) {us vs : Trees} {rs : List ℕ} → isPunct 61 c ≡ true →
       g.Run everything parameterStops role.bound 0 false us vs rs
       → Takes Any (r.typeAfter n) (leaf c us) vs (role.separator ∷ rs)
   typeAfter-defaulted c {us} i h =
-      mark-then {f = r.typeRuns n} {b = 58} {t = false} {us = leaf c us} (g.Mark.absent (punct-other 61 58 c i refl))
-      (and-pure (Parameter.type n end) (marked-run-some {b = 61} {c = c} i h) (λ x y. tt))
+      separator-then {f = r.typeRuns n} {b = 58} {t = false} {us = leaf c us} (g.Separator.absent (punct-other 61 58 c i refl))
+      (and-pure (Parameter.type n end) (optional-run-some {b = 61} {c = c} i h) (λ x y. tt))
 
 and-comma : {A : Type 0} {t : Bool} {m : Reader A} {ts us vs : Trees} {rs cs : List ℕ} → Takes Any m ts us rs →
-    g.Mark everything 44 t us vs cs
+    g.Separator everything 44 t us vs cs
     → Takes Another (m >>= r.comma) ts vs (rs ++ cs)
 and-comma h k = and-then h (λ a y. comma-complete a k)
 
 parameter-complete : {t : Bool} {ts us vs : Trees} {ps cs : List ℕ} (angle : ℕ) → g.Parameter everything ts us ps →
-    g.Mark everything 44 t us vs cs
+    g.Separator everything 44 t us vs cs
     → (row : ℕ) → Taken Another (r.parameter angle row ts) (ps ++ cs) vs
 parameter-complete angle (g.Parameter.lifetime {q = q} {p = p} e f u b) m row =
     same-as (chosen (isPunct 39 q) _ _ e) (from-complete role.parameter-name row
@@ -213,11 +213,11 @@ clause-complete (g.Clause.clause {q = q} e h u) =
 
 fieldAfter-complete : (a : List Trees) (v : Visibility) (n : List ℕ) (c : Row) {t : Bool} {vs ws xs : Trees} {rs cs : List ℕ} → isPunct 58 c ≡ true
     → g.Run everything fieldStops role.type 0 false vs ws rs
-    → g.Mark everything 44 t ws xs cs → Takes Another (r.fieldAfter a v n) (leaf c vs) xs (role.separator ∷ (rs ++ cs))
+    → g.Separator everything 44 t ws xs cs → Takes Another (r.fieldAfter a v n) (leaf c vs) xs (role.separator ∷ (rs ++ cs))
 fieldAfter-complete a v n c {vs = vs} i j m =
     let made : Trees → Field = λ f. record { name = n; field = record { attributes = a; visibility = v; type = f } } in
-    mark-then {f = λ t. r.must 23 t >>= λ u. r.run fieldStops role.type >>= λ f. r.comma (made f)} {b = 58} {t = true}
-    {us = vs} (g.Mark.present {q = c} i)
+    separator-then {f = λ t. r.must 23 t >>= λ u. r.run fieldStops role.type >>= λ f. r.comma (made f)} {b = 58} {t = true}
+    {us = vs} (g.Separator.present {q = c} i)
     (and-then {m = r.must 23 true} (pure-takes {P = Any} tt vs tt)
     (λ z y. and-then (run-complete fieldStops role.type j)
     (λ f y. comma-complete {A = Field} (made f) m)))
@@ -225,7 +225,7 @@ fieldAfter-complete a v n c {vs = vs} i j m =
 fieldStart-complete : (a : List Trees) (v : Visibility) (q c : Row) {t : Bool} {vs ws xs : Trees} {rs cs : List ℕ} → isIdent q ≡ true →
     isPunct 58 c ≡ true
     → g.Run everything fieldStops role.type 0 false vs ws rs
-    → g.Mark everything 44 t ws xs cs → Takes Another (r.fieldStart a v) (leaf q (leaf c vs)) xs
+    → g.Separator everything 44 t ws xs cs → Takes Another (r.fieldStart a v) (leaf q (leaf c vs)) xs
     (role.field-name ∷ role.separator ∷ (rs ++ cs))
 fieldStart-complete a v q c e i j m =
     record {
@@ -313,12 +313,12 @@ value-taken (g.Value.negative {e = e} {m = m} {q = q} {us = us} a b k d) row =
     ∙ ap (onward (role.value ∷ [])) (chosen (isLiteral q) _ _ k ∙ chosen (negatable (q .text)) _ _ d)))
 
 -- without a value: a `,` or the end of the group follows
-no-value : {t : Bool} {ws xs : Trees} {cs : List ℕ} → g.Mark everything 44 t ws xs cs → (t || isEnd xs) ≡ true →
+no-value : {t : Bool} {ws xs : Trees} {cs : List ℕ} → g.Separator everything 44 t ws xs cs → (t || isEnd xs) ≡ true →
     (row : ℕ)
     → r.valueIf row ws ≡ took absent [] ws
-no-value (g.Mark.present {q = q} e) p row = passed-over (isPunct 61 q) _ _ (punct-other 44 61 q e refl) ∙
+no-value (g.Separator.present {q = q} e) p row = passed-over (isPunct 61 q) _ _ (punct-other 44 61 q e refl) ∙
     chosen (isPunct 44 q) _ _ e
-no-value (g.Mark.absent {ts = ts} e) p row = at-end ts p
+no-value (g.Separator.absent {ts = ts} e) p row = at-end ts p
   where
     at-end : (ts : Trees) → isEnd ts ≡ true → r.valueIf row ts ≡ took absent [] ts
     at-end end p = refl
@@ -330,7 +330,7 @@ abbrev valueComma : List Trees → List ℕ → Fields → Reader (Maybe Variant
 valueComma a n f = r.valueIf >>= λ v. r.comma (record { attributes = a; name = n; fields = f; value = v })
 
 valueComma-complete : {t : Bool} {ws xs ys : Trees} {es cs : List ℕ} (a : List Trees) (n : List ℕ) (f : Fields) →
-    Takes Any r.valueIf ws xs es → g.Mark everything 44 t xs ys cs
+    Takes Any r.valueIf ws xs es → g.Separator everything 44 t xs ys cs
     → Takes Another (valueComma a n f) ws ys (es ++ cs)
 valueComma-complete a n f h m =
     and-then h (λ v y. comma-complete {A = Variant} (record { attributes = a; name = n; fields = f; value = v }) m)

@@ -19,40 +19,40 @@ use Rattle.reading.proofs.SoundTokens.{Sound, met, refused, met-by, cho
 
 -- ## Marks and generics
 
-pub punctIf-sound : (b row : ℕ) (ts : Trees) → Sound (λ t rs us. g.Mark everything b t ts us rs)
+pub punctIf-sound : (b row : ℕ) (ts : Trees) → Sound (λ t rs us. g.Separator everything b t ts us rs)
     (r.punctIf b role.separator row ts)
-punctIf-sound b row end = met [] end (g.Mark.absent refl)
-punctIf-sound b row (leaf q us) = choice (isPunct b q) (λ e. met (role.separator ∷ []) us (g.Mark.present e))
-    (λ e. met [] (leaf q us) (g.Mark.absent e))
-punctIf-sound b row (group d ts us) = met [] (group d ts us) (g.Mark.absent refl)
+punctIf-sound b row end = met [] end (g.Separator.absent refl)
+punctIf-sound b row (leaf q us) = choice (isPunct b q) (λ e. met (role.separator ∷ []) us (g.Separator.present e))
+    (λ e. met [] (leaf q us) (g.Separator.absent e))
+punctIf-sound b row (group d ts us) = met [] (group d ts us) (g.Separator.absent refl)
 
 -- a mark that may stand, with its run
-pub data Marked (b : ℕ) : Trees → List ℕ → Trees → Type 0 where
-  none : {ts : Trees} → starts (isPunct b) ts ≡ false → Marked b ts [] ts
+pub data OptionalRun (b : ℕ) : Trees → List ℕ → Trees → Type 0 where
+  none : {ts : Trees} → starts (isPunct b) ts ≡ false → OptionalRun b ts [] ts
   some : {c : Row} {us vs : Trees} {rs : List ℕ} → isPunct b c ≡ true →
       g.Run everything parameterStops role.bound 0 false us vs rs
-      → Marked b (leaf c us) (role.separator ∷ rs) vs
+      → OptionalRun b (leaf c us) (role.separator ∷ rs) vs
 
 weaken : {A : Type 0} {N M : A → List ℕ → Trees → Type 0} {t : Took A} → Sound N t →
     ((a : A) (rs : List ℕ) (us : Trees) → N a rs us → M a rs us) → Sound M t
 weaken (met rs us h) k = met rs us (k _ rs us h)
 weaken refused k = refused
 
-marked-run-sound : (b row : ℕ) (ts : Trees) → Sound (λ x rs us. Marked b ts rs us) (r.marked-run b row ts)
-marked-run-sound b row ts = after-met row (punctIf-sound b row ts) go
+optional-run-sound : (b row : ℕ) (ts : Trees) → Sound (λ x rs us. OptionalRun b ts rs us) (r.optional-run b row ts)
+optional-run-sound b row ts = after-met row (punctIf-sound b row ts) go
   where
-    go : {ts : Trees} (t : Bool) (rs : List ℕ) (us : Trees) → g.Mark everything b t ts us rs → (row : ℕ)
-        → Sound (λ x qs vs. Marked b ts (rs ++ qs) vs) (r.runIf t parameterStops role.bound row us)
-    go true rs us (g.Mark.present e) row = weaken (run-sound parameterStops role.bound row us) (λ x qs vs h. some e h)
-    go false rs us (g.Mark.absent e) row = met [] us (none e)
+    go : {ts : Trees} (t : Bool) (rs : List ℕ) (us : Trees) → g.Separator everything b t ts us rs → (row : ℕ)
+        → Sound (λ x qs vs. OptionalRun b ts (rs ++ qs) vs) (r.runIf t parameterStops role.bound row us)
+    go true rs us (g.Separator.present e) row = weaken (run-sound parameterStops role.bound row us) (λ x qs vs h. some e h)
+    go false rs us (g.Separator.absent e) row = met [] us (none e)
 
-bound-of : {ts us : Trees} {rs : List ℕ} → Marked 58 ts rs us → g.Bound everything ts us rs
+bound-of : {ts us : Trees} {rs : List ℕ} → OptionalRun 58 ts rs us → g.Bound everything ts us rs
 bound-of (none e) = g.Bound.none e
 bound-of (some e h) = g.Bound.bound e h
 
 -- a `,` that may follow what P says
 data Commaed {A : Type 0} (P : List ℕ → Trees → Type 0) : Maybe A → List ℕ → Trees → Type 0 where
-  commaed : {t : Bool} {a : A} {us vs : Trees} {rs cs : List ℕ} → P rs us → g.Mark everything 44 t us vs cs →
+  commaed : {t : Bool} {a : A} {us vs : Trees} {rs cs : List ℕ} → P rs us → g.Separator everything 44 t us vs cs →
       Commaed P (one a) (rs ++ cs) vs
 
 comma-sound : {A : Type 0} (P : List ℕ → Trees → Type 0) (a : A) (rs : List ℕ) (us : Trees) → P rs us → (row : ℕ)
@@ -79,9 +79,9 @@ module _ (q : Row) where
   lifetime-sound quote row us e = after-met row (parameterName-sound 24 quote row us) go
     where
       go : {us : Trees} (n rs : List ℕ) (vs : Trees) → ParameterName us rs vs → (row : ℕ)
-          → Sound (λ x qs ws. Named us (rs ++ qs) ws) ((r.marked-run 58 >>= λ b. pure (Parameter.lifetime n b)) row vs)
+          → Sound (λ x qs ws. Named us (rs ++ qs) ws) ((r.optional-run 58 >>= λ b. pure (Parameter.lifetime n b)) row vs)
       go n rs vs (name f) row =
-          after-met row (marked-run-sound 58 row vs)
+          after-met row (optional-run-sound 58 row vs)
           (λ b qs ws h row. met [] ws (rw append-nil (g.Parameter.lifetime e f refl (bound-of h))))
 
   constant-sound : (row : ℕ) (us : Trees) → isWord CONST q ≡ true →
@@ -89,31 +89,31 @@ module _ (q : Row) where
   constant-sound row us e = after-met row (parameterName-sound 27 65535 row us) go
     where
       go : {us : Trees} (n rs : List ℕ) (vs : Trees) → ParameterName us rs vs → (row : ℕ)
-          → Sound (λ x qs ws. Named us (rs ++ qs) ws) ((r.marked-run 58 >>= λ b. pure (Parameter.constant n b)) row vs)
+          → Sound (λ x qs ws. Named us (rs ++ qs) ws) ((r.optional-run 58 >>= λ b. pure (Parameter.constant n b)) row vs)
       go n rs vs (name f) row =
-          after-met row (marked-run-sound 58 row vs) (λ b qs ws h row. met [] ws
+          after-met row (optional-run-sound 58 row vs) (λ b qs ws h row. met [] ws
           (rw append-nil (g.Parameter.constant e f (bound-of h) refl)))
 
   type-sound : (row : ℕ) (us : Trees) (n : List ℕ) → isWord CONST q ≡ false → isIdent q ≡ true →
       Sound (λ x rs vs. Named us rs vs) (r.typeAfter n row us)
   type-sound row us n e f = after-met row (punctIf-sound 58 row us) go
     where
-      default : {us : Trees} → starts (isPunct 58) us ≡ false → (rs : List ℕ) (vs : Trees) → Marked 61 us rs vs →
+      default : {us : Trees} → starts (isPunct 58) us ≡ false → (rs : List ℕ) (vs : Trees) → OptionalRun 61 us rs vs →
           Named us rs vs
       default a rs vs (none b) = g.Parameter.plain e f a b
       default a rs vs (some b h) = g.Parameter.defaulted e f b h refl
 
-      go : {us : Trees} (t : Bool) (rs : List ℕ) (vs : Trees) → g.Mark everything 58 t us vs rs → (row : ℕ)
+      go : {us : Trees} (t : Bool) (rs : List ℕ) (vs : Trees) → g.Separator everything 58 t us vs rs → (row : ℕ)
           → Sound (λ x qs ws. Named us (rs ++ qs) ws) (r.typeRuns n t row vs)
-      go true rs vs (g.Mark.present a) row =
+      go true rs vs (g.Separator.present a) row =
           after-met row (run-sound parameterStops role.bound row vs)
           (λ x qs ws h row. met [] ws (rw append-nil (g.Parameter.bounded e f a h)))
-      go false rs vs (g.Mark.absent a) row =
-          after-met row (marked-run-sound 61 row vs) (λ x qs ws h row. met [] ws (rw append-nil (default a qs ws h)))
+      go false rs vs (g.Separator.absent a) row =
+          after-met row (optional-run-sound 61 row vs) (λ x qs ws h row. met [] ws (rw append-nil (default a qs ws h)))
 
 data ParameterRead : Trees → Maybe Parameter → List ℕ → Trees → Type 0 where
   another : {t : Bool} {a : Parameter} {ts us vs : Trees} {ps cs : List ℕ} → g.Parameter everything ts us ps →
-      g.Mark everything 44 t us vs cs
+      g.Separator everything 44 t us vs cs
       → ParameterRead ts (one a) (ps ++ cs) vs
   last : {q : Row} {us : Trees} → isPunct 62 q ≡ true → ParameterRead (leaf q us) done (role.angle ∷ []) us
 
@@ -203,13 +203,13 @@ module _ (ts us : Trees) (ks : List ℕ) (h : g.Attributes everything ts us ks) 
   fieldAfter-read bs q vs i e a v n row = after-met row (punctIf-sound 58 row vs) (go i)
     where
       go : {vs : Trees} → g.Visibility everything us (leaf q vs) bs → (t : Bool) (rs : List ℕ) (ws : Trees) →
-          g.Mark everything 58 t vs ws rs → (row : ℕ)
+          g.Separator everything 58 t vs ws rs → (row : ℕ)
           → Sound (λ m qs xs. FieldRead ts m (ks ++ (bs ++ (role.field-name ∷ (rs ++ qs)))) xs)
           ((r.must 23 t >>= λ u. r.run fieldStops role.type >>= λ f. r.comma (record {
             name = n;
             field = record { attributes = a; visibility = v; type = f };
           })) row ws)
-      go i true rs ws (g.Mark.present c) row =
+      go i true rs ws (g.Separator.present c) row =
           onward-still []
           (after-met (row + 0) (run-sound fieldStops role.type (row + 0) ws)
           (λ f qs xs j row. after-met row (punctIf-sound 44 row xs)
@@ -335,15 +335,15 @@ data VariantRead : Trees → Maybe Variant → List ℕ → Trees → Type 0 whe
       VariantRead ts (one a) rs us
   last : VariantRead end done [] end
 
-parted : {t : Bool} {ws xs : Trees} {cs : List ℕ} → g.Mark everything 44 t ws xs cs →
+parted : {t : Bool} {ws xs : Trees} {cs : List ℕ} → g.Separator everything 44 t ws xs cs →
     (starts (isPunct 44) ws || isEnd ws) ≡ true → (t || isEnd xs) ≡ true
-parted (g.Mark.present e) p = refl
-parted (g.Mark.absent {ts = ts} e) p = sym (ap (λ (b : Bool). b || isEnd ts) e) ∙ p
+parted (g.Separator.present e) p = refl
+parted (g.Separator.absent {ts = ts} e) p = sym (ap (λ (b : Bool). b || isEnd ts) e) ∙ p
 
 variant-of : {t : Bool} {v : Value} {ts us vs ws xs ys : Trees} {ks bs fs es cs : List ℕ} →
     g.Attributes everything ts us ks
     → g.Word everything isIdent role.variant-name us vs bs
-    → g.VariantFields everything vs ws fs → ValueRead ws v es xs → g.Mark everything 44 t xs ys cs
+    → g.VariantFields everything vs ws fs → ValueRead ws v es xs → g.Separator everything 44 t xs ys cs
     → g.Variant everything ts ys (ks ++ (bs ++ (fs ++ (es ++ cs))))
 variant-of h i j (none p) m = g.Variant.plain h i j m (parted m p)
 variant-of h i j (some k) m = g.Variant.valued h i j k m refl refl

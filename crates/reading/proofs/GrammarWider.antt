@@ -64,9 +64,9 @@ module _ (fewer more : Difference → Bool) (wider : (d : Difference) → fewer 
   visibility (g.Visibility.wrapped-scoped u v a) =
       g.Visibility.wrapped-scoped (wider g.wrapped-pub u) (wider g.any-scope v) a
 
-  mark : {b : ℕ} {t : Bool} {ts us : Trees} {rs : List ℕ} → g.Mark fewer b t ts us rs → g.Mark more b t ts us rs
-  mark (g.Mark.present e) = g.Mark.present e
-  mark (g.Mark.absent e) = g.Mark.absent e
+  separator : {b : ℕ} {t : Bool} {ts us : Trees} {rs : List ℕ} → g.Separator fewer b t ts us rs → g.Separator more b t ts us rs
+  separator (g.Separator.present e) = g.Separator.present e
+  separator (g.Separator.absent e) = g.Separator.absent e
 
   bound : {ts us : Trees} {rs : List ℕ} → g.Bound fewer ts us rs → g.Bound more ts us rs
   bound (g.Bound.none e) = g.Bound.none e
@@ -85,7 +85,7 @@ module _ (fewer more : Difference → Bool) (wider : (d : Difference) → fewer 
   parameters : {ts us : Trees} {rs : List ℕ} → g.Parameters fewer ts us rs → g.Parameters more ts us rs
   parameters (g.Parameters.close e) = g.Parameters.close e
   parameters (g.Parameters.next h m u v k) =
-      g.Parameters.next (parameter h) (mark m) (unless g.comma-after-parameter _ u) (unless g.parameter-order _ v)
+      g.Parameters.next (parameter h) (separator m) (unless g.comma-after-parameter _ u) (unless g.parameter-order _ v)
       (parameters k)
 
   generics : {ts us : Trees} {rs : List ℕ} → g.Generics fewer ts us rs → g.Generics more ts us rs
@@ -98,7 +98,7 @@ module _ (fewer more : Difference → Bool) (wider : (d : Difference) → fewer 
 
   namedField : {ts us : Trees} {rs : List ℕ} → g.NamedField fewer ts us rs → g.NamedField more ts us rs
   namedField (g.NamedField.field {q = q} a b c d h u m) =
-      g.NamedField.field (attributes a) (visibility b) (name q c) d (run h) (unless g.empty-type _ u) (mark m)
+      g.NamedField.field (attributes a) (visibility b) (name q c) d (run h) (unless g.empty-type _ u) (separator m)
 
   namedFields : {ts : Trees} {rs : List ℕ} → g.NamedFields fewer ts rs → g.NamedFields more ts rs
   namedFields (g.NamedFields.last a b u) =
@@ -107,7 +107,7 @@ module _ (fewer more : Difference → Bool) (wider : (d : Difference) → fewer 
 
   tupleField : {ts us : Trees} {rs : List ℕ} → g.TupleField fewer ts us rs → g.TupleField more ts us rs
   tupleField (g.TupleField.field a b h u m) =
-      g.TupleField.field (attributes a) (visibility b) (run h) (unless g.empty-type _ u) (mark m)
+      g.TupleField.field (attributes a) (visibility b) (run h) (unless g.empty-type _ u) (separator m)
 
   tupleFields : {ts : Trees} {rs : List ℕ} → g.TupleFields fewer ts rs → g.TupleFields more ts rs
   tupleFields g.TupleFields.last = g.TupleFields.last
@@ -123,9 +123,9 @@ module _ (fewer more : Difference → Bool) (wider : (d : Difference) → fewer 
   value (g.Value.negative a b c d) = g.Value.negative a b c d
 
   variant : {ts us : Trees} {rs : List ℕ} → g.Variant fewer ts us rs → g.Variant more ts us rs
-  variant (g.Variant.plain a b f m p) = g.Variant.plain (attributes a) (word name b) (variantFields f) (mark m) p
+  variant (g.Variant.plain a b f m p) = g.Variant.plain (attributes a) (word name b) (variantFields f) (separator m) p
   variant (g.Variant.valued a b f v m u w) =
-      g.Variant.valued (attributes a) (word name b) (variantFields f) (value v) (mark m)
+      g.Variant.valued (attributes a) (word name b) (variantFields f) (value v) (separator m)
       (unless g.comma-after-value _ u) (unless g.group-and-value _ w)
 
   variants : {ts : Trees} {rs : List ℕ} → g.Variants fewer ts rs → g.Variants more ts rs

@@ -54,7 +54,7 @@ copied-length n ts = length-replicate (1 + size ts + 1) n
 
 pub past-group : (n : ℕ) → IsRole n → (d : ℕ) (ts us : Trees) → Parted (r.copied n ts) us (group d ts us)
 past-group n e d ts us = record {
-  roles = same-roles (r.whole ts) n e;
+  roles = same-roles (r.groupSize ts) n e;
   rows = omega (arith, copied-length n ts);
   lighter = omega arith;
 }

@@ -136,7 +136,7 @@ runFrom-sound st n depth minus row (leaf q us) =
     (λ e m. runFrom-sound st n e m (row + 1) us)
 runFrom-sound st n depth minus row (group d ts us) =
     choice (stopping st depth d) (λ e. met [] (group d ts us) (g.Run.stop e))
-    (λ e. onward-met (copied n ts) (runFrom-sound st n depth false (row + r.whole ts) us)
+    (λ e. onward-met (copied n ts) (runFrom-sound st n depth false (row + r.groupSize ts) us)
     (λ x rs vs t. g.Run.inside e t))
 
 kept-met : {P : List ℕ → Trees → Type 0} {t : Took RunEnd} (ts : Trees) → Sound (λ x rs us. P rs us) t →
@@ -157,19 +157,19 @@ mutual
   attributes-sound row end = met [] end (g.Attributes.none refl)
   attributes-sound row (group d ts us) = met [] (group d ts us) (g.Attributes.none refl)
   attributes-sound row (leaf q us) =
-      choice (isPunct 35 q) (λ e. marked-sound row q us e) (λ e. met [] (leaf q us) (g.Attributes.none e))
+      choice (isPunct 35 q) (λ e. afterHash-sound row q us e) (λ e. met [] (leaf q us) (g.Attributes.none e))
 
-  marked-sound : (row : ℕ) (q : Row) (us : Trees) → isPunct 35 q ≡ true →
-      Sound (λ x rs vs. g.Attributes everything (leaf q us) vs rs) (r.marked row us)
-  marked-sound row q end e = refused
-  marked-sound row q (group d ts us) e =
+  afterHash-sound : (row : ℕ) (q : Row) (us : Trees) → isPunct 35 q ≡ true →
+      Sound (λ x rs vs. g.Attributes everything (leaf q us) vs rs) (r.afterHash row us)
+  afterHash-sound row q end e = refused
+  afterHash-sound row q (group d ts us) e =
       choice (eqb d 91)
       (λ f. onward-met (role.attribute-mark ∷ copied role.attribute-group ts)
-      (pure-met {P = λ rs vs. g.Attributes everything us vs rs} (row + 1 + r.whole ts) (λ xs. ts ∷ xs)
-      (attributes-sound (row + 1 + r.whole ts) us)) (λ x rs vs h. g.Attributes.attribute e f h))
+      (pure-met {P = λ rs vs. g.Attributes everything us vs rs} (row + 1 + r.groupSize ts) (λ xs. ts ∷ xs)
+      (attributes-sound (row + 1 + r.groupSize ts) us)) (λ x rs vs h. g.Attributes.attribute e f h))
       (λ f. refused)
-  marked-sound row q (leaf p us) e =
-      choice (isPunct 35 p) (λ f. onward-met (role.idle-mark ∷ []) (marked-sound (row + 1) p us f)
+  afterHash-sound row q (leaf p us) e =
+      choice (isPunct 35 p) (λ f. onward-met (role.idle-mark ∷ []) (afterHash-sound (row + 1) p us f)
       (λ x rs vs h. g.Attributes.idle refl e f h)) (λ f. refused)
 
 scopeAfter-sound : (row : ℕ) (q : Row) (us : Trees) → isWord PUB q ≡ true
@@ -195,7 +195,7 @@ visibility-sound row (leaf q us) =
     (λ e. met [] (leaf q us) (g.Visibility.none e))
 visibility-sound row (group d ts us) =
     choice (lone (isWord PUB) ts) (λ e. onward-still (copied role.visibility ts)
-    (anyScope-sound (row + r.whole ts) d ts us e)) (λ e. met [] (group d ts us) (g.Visibility.none e))
+    (anyScope-sound (row + r.groupSize ts) d ts us e)) (λ e. met [] (group d ts us) (g.Visibility.none e))
 
 -- ## Words
 

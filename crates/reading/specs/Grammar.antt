@@ -157,9 +157,9 @@ module _ (allowed : Difference → Bool) where
 
   -- ## A `,`, `:` or `=` that may stand: whether it does
 
-  pub data Mark (b : ℕ) : Bool → Trees → Trees → List ℕ → Type 0 where
-    present : {q : Row} {us : Trees} → isPunct b q ≡ true → Mark b true (leaf q us) us (role.separator ∷ [])
-    absent : {ts : Trees} → starts (isPunct b) ts ≡ false → Mark b false ts ts []
+  pub data Separator (b : ℕ) : Bool → Trees → Trees → List ℕ → Type 0 where
+    present : {q : Row} {us : Trees} → isPunct b q ≡ true → Separator b true (leaf q us) us (role.separator ∷ [])
+    absent : {ts : Trees} → starts (isPunct b) ts ≡ false → Separator b false ts ts []
 
   -- ## Generics. GenericParams
 
@@ -201,7 +201,7 @@ module _ (allowed : Difference → Bool) where
     close : {q : Row} {us : Trees} → isPunct GREATER q ≡ true → Parameters (leaf q us) us (role.angle ∷ [])
     -- one `,` after a parameter is optional; the Reference asks for it before another one, and for lifetimes first
     next : {comma : Bool} {ts us vs ws : Trees} {ps cs rs : List ℕ}
-        → Parameter ts us ps → Mark COMMA comma us vs cs
+        → Parameter ts us ps → Separator COMMA comma us vs cs
         → Unless comma-after-parameter (comma || starts (isPunct GREATER) vs)
         → Unless parameter-order (lifetimesFirst ts vs)
         → Parameters vs ws rs → Parameters ts ws ((ps ++ cs) ++ rs)
@@ -225,7 +225,7 @@ module _ (allowed : Difference → Bool) where
   pub data NamedField : Trees → Trees → List ℕ → Type 0 where
     field : {comma : Bool} {q c : Row} {ts us vs ws xs : Trees} {ks bs rs cs : List ℕ}
         → Attributes ts us ks → Visibility us (leaf q (leaf c vs)) bs → isName q ≡ true → isPunct COLON c ≡ true
-        → Run fieldStops role.type 0 false vs ws rs → Unless empty-type (nonempty rs) → Mark COMMA comma ws xs cs
+        → Run fieldStops role.type 0 false vs ws rs → Unless empty-type (nonempty rs) → Separator COMMA comma ws xs cs
         → NamedField ts xs (ks ++ (bs ++ (role.field-name ∷ role.separator ∷ rs ++ cs)))
 
   -- StructFields, to the end of their group
@@ -240,7 +240,7 @@ module _ (allowed : Difference → Bool) where
   pub data TupleField : Trees → Trees → List ℕ → Type 0 where
     field : {comma : Bool} {ts us vs ws xs : Trees} {ks bs rs cs : List ℕ}
         → Attributes ts us ks → Visibility us vs bs
-        → Run fieldStops role.type 0 false vs ws rs → Unless empty-type (nonempty rs) → Mark COMMA comma ws xs cs
+        → Run fieldStops role.type 0 false vs ws rs → Unless empty-type (nonempty rs) → Separator COMMA comma ws xs cs
         → TupleField ts xs (ks ++ (bs ++ (rs ++ cs)))
 
   -- TupleFields, to the end of their group: while tokens remain
@@ -275,13 +275,13 @@ module _ (allowed : Difference → Bool) where
     -- attributes, a word, an optional group; then `,`, which may be absent at the end of the group
     plain : {comma : Bool} {ts us vs ws xs : Trees} {ks bs fs cs : List ℕ}
         → Attributes ts us ks → Word isName role.variant-name us vs bs → VariantFields vs ws fs
-        → Mark COMMA comma ws xs cs → (comma || isEnd xs) ≡ true
+        → Separator COMMA comma ws xs cs → (comma || isEnd xs) ≡ true
         → Variant ts xs (ks ++ (bs ++ (fs ++ cs)))
     -- the same with a value; then `,`, which may be absent at the end of the group or after a value. The Reference has
     -- a group or a value
     valued : {comma : Bool} {ts us vs ws xs ys : Trees} {ks bs fs es cs : List ℕ}
         → Attributes ts us ks → Word isName role.variant-name us vs bs → VariantFields vs ws fs → Value ws xs es
-        → Mark COMMA comma xs ys cs → Unless comma-after-value (comma || isEnd ys)
+        → Separator COMMA comma xs ys cs → Unless comma-after-value (comma || isEnd ys)
         → Unless group-and-value (not (nonempty fs))
         → Variant ts ys (ks ++ (bs ++ (fs ++ (es ++ cs))))
 

@@ -8,7 +8,7 @@ use Rattle.token_list.specs.Layout.{FIRST-ROW}
 use Rattle.token_list.specs.Row.{Row}
 use Rattle.token_list.specs.Stream.{Trees, end, leaf, group, at}
 use Rattle.reading.specs.Role as role
-use Rattle.reading.specs.Token.{starts, isPunct, isWord, whole, CONST, Stops}
+use Rattle.reading.specs.Token.{starts, isPunct, isWord, groupSize, CONST, Stops}
 use Rattle.reading.specs.Declaration.{Value, absent, literal, negative}
 use Rattle.reading.specs.Took.{Took, took, stopped, Reader, pure, Point, beyond, _>>=_}
 use Rattle.reading.specs.Reading.{RunEnd, atEnd, ended, runFrom, attributes, visibility, word, named!, namedKind, dataType, generics, clause, variantFields, variant}
@@ -26,7 +26,7 @@ wordRow x = identRow (x .row) (x .stream)
 abbrev pub tokenEnd : ℕ → Trees → Point
 tokenEnd row end = record { row = row; stream = end }
 tokenEnd row (leaf r us) = record { row = row + 1; stream = us }
-tokenEnd row (group d ts us) = record { row = row + whole ts; stream = us }
+tokenEnd row (group d ts us) = record { row = row + groupSize ts; stream = us }
 
 abbrev pub pastToken : Point → Point
 pastToken x = tokenEnd (x .row) (x .stream)
@@ -77,11 +77,11 @@ bodyAt x = beyond clause (clauseAt x)
 
 -- ## A parameter: its name stands past its `'` or `const`, and its `:` or `=` past its name
 
-abbrev pub marksName : Row → Bool
-marksName r = isPunct QUOTE r || isWord CONST r
+abbrev pub beforeName : Row → Bool
+beforeName r = isPunct QUOTE r || isWord CONST r
 
 abbrev pub parameterNameAt : Point → Point
-parameterNameAt x = cond (starts marksName (x .stream)) (pastToken x) x
+parameterNameAt x = cond (starts beforeName (x .stream)) (pastToken x) x
 
 abbrev pub markAt : Point → Point
 markAt x = pastToken (parameterNameAt x)

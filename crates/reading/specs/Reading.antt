@@ -13,7 +13,7 @@ use Rattle.token_list.specs.Row.{Row, first}
 use Rattle.token_list.specs.Check.{END}
 use Rattle.token_list.specs.Stream.{Trees, end, leaf, group, size}
 use Rattle.reading.specs.Role as role
-pub use Rattle.reading.specs.Token.{isIdent, isLiteral, isPunct, isWord, whole, copied, lone, PUB, STRUCT, ENUM, CONST, WHERE, scopeWord, scoped, worthFrom, worth, negatable, Stops, stopping, parameterStops, fieldStops, clauseStops}
+pub use Rattle.reading.specs.Token.{isIdent, isLiteral, isPunct, isWord, groupSize, copied, lone, PUB, STRUCT, ENUM, CONST, WHERE, scopeWord, scoped, worthFrom, worth, negatable, Stops, stopping, parameterStops, fieldStops, clauseStops}
 use Rattle.reading.specs.Declaration.{Visibility, default, public, restricted, Kind, struct, enum, Parameter, lifetime, constant, type, Generics, without, angled, Constraints, unconstrained, constrained, UnnamedField, Field, Fields, unit, named, tuple, Value, absent, literal, negative, Variant, Body, fields, variants, Declaration}
 use Rattle.reading.specs.Took.{Took, took, stopped, refuse, ranOut, Reader, onward, after, _>>=_, pure, placeOf, wrong}
 
@@ -86,7 +86,7 @@ runFrom st r depth minus row (leaf q us) =
     judged depth (judge st depth minus q) (λ e m. onward (r ∷ []) (runFrom st r e m (row + 1) us)) (leaf q us) row
 runFrom st r depth minus row (group d ts us) =
     cond (stopping st depth d) (took (ended atGroup depth) [] (group d ts us))
-    (onward (copied r ts) (runFrom st r depth false (row + whole ts) us))
+    (onward (copied r ts) (runFrom st r depth false (row + groupSize ts) us))
 
 -- the first tokens of a stream, n rows in all
 abbrev pub firstRows : Trees → ℕ → Trees
@@ -114,18 +114,18 @@ abbrev mutual
   pub attributes : Reader (List Trees)
   attributes row end = took [] [] end
   attributes row (group d ts us) = took [] [] (group d ts us)
-  attributes row (leaf r us) = cond (isPunct HASH r) (marked row us) (took [] [] (leaf r us))
+  attributes row (leaf r us) = cond (isPunct HASH r) (afterHash row us) (took [] [] (leaf r us))
 
   -- after a `#` in the row given
-  pub marked : ℕ → Trees → Took (List Trees)
-  marked row end = ranOut 13 END
-  marked row (group d ts us) =
+  pub afterHash : ℕ → Trees → Took (List Trees)
+  afterHash row end = ranOut 13 END
+  afterHash row (group d ts us) =
       cond (eqb d BRACKET)
       (onward (role.attribute-mark ∷ copied role.attribute-group ts)
-      (after (row + 1 + whole ts) (attributes (row + 1 + whole ts) us) (λ xs. pure (ts ∷ xs))))
+      (after (row + 1 + groupSize ts) (attributes (row + 1 + groupSize ts) us) (λ xs. pure (ts ∷ xs))))
       (refuse 12 (row + 1))
-  marked row (leaf r us) =
-      cond (isPunct HASH r) (onward (role.idle-mark ∷ []) (marked (row + 1) us)) (refuse 13 (row + 1))
+  afterHash row (leaf r us) =
+      cond (isPunct HASH r) (onward (role.idle-mark ∷ []) (afterHash (row + 1) us)) (refuse 13 (row + 1))
 
 -- ## Visibility (parse/visibility.rs; Visibility)
 
@@ -149,7 +149,7 @@ visibility row (leaf r us) =
     cond (isWord PUB r) (onward (role.visibility ∷ []) (scopeAfter (row + 1) us)) (took default [] (leaf r us))
 visibility row (group d ts us) =
     cond (lone (isWord PUB) ts)
-    (onward (copied role.visibility ts) (anyScope (row + whole ts) us))
+    (onward (copied role.visibility ts) (anyScope (row + groupSize ts) us))
     (took default [] (group d ts us))
 
 -- ## The item's word and name (parse/data_type.rs)
@@ -184,8 +184,8 @@ parameterName n p row (leaf r us) = cond (isIdent r) (took (r .text) (role.param
 parameterName n p row (group d ts us) = refuse n row
 
 -- `:` or another mark, and its run
-abbrev pub marked-run : ℕ → Reader Trees
-marked-run b = do
+abbrev pub optional-run : ℕ → Reader Trees
+optional-run b = do
   t ← punctIf b role.separator
   runIf t parameterStops role.bound
 
@@ -193,19 +193,19 @@ marked-run b = do
 abbrev pub lifetimeAfter : ℕ → Reader Parameter
 lifetimeAfter quote = do
   n ← parameterName 24 quote
-  b ← marked-run COLON
+  b ← optional-run COLON
   pure (lifetime n b)
 
 abbrev pub constantAfter : Reader Parameter
 constantAfter = do
   n ← parameterName 27 END
-  t ← marked-run COLON
+  t ← optional-run COLON
   pure (constant n t)
 
 -- `:` and bounds, or `=` and a default
 abbrev pub typeRuns : List ℕ → Bool → Reader Parameter
 typeRuns n true = run parameterStops role.bound >>= λ b. pure (type n b end)
-typeRuns n false = marked-run EQUALS >>= λ d. pure (type n end d)
+typeRuns n false = optional-run EQUALS >>= λ d. pure (type n end d)
 
 abbrev pub typeAfter : List ℕ → Reader Parameter
 typeAfter n = do

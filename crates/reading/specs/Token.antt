@@ -25,12 +25,12 @@ abbrev pub isWord : List ℕ → Row → Bool
 isWord t r = isIdent r && same (r .text) t
 
 -- the rows of a group: its opening row, its inside, its closing row
-abbrev pub whole : Trees → ℕ
-whole ts = 1 + size ts + 1
+abbrev pub groupSize : Trees → ℕ
+groupSize ts = 1 + size ts + 1
 
 -- a copied group: the same role for all its rows
 abbrev pub copied : ℕ → Trees → List ℕ
-copied r ts = replicate (whole ts) r
+copied r ts = replicate (groupSize ts) r
 
 -- ## Words
 

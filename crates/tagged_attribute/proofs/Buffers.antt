@@ -12,16 +12,16 @@ use Rattle.tagged_reading.specs.Role.{others}
 use Rattle.tagged_attribute.specs.Contract.{partRoles, tagRoles, propertyRoles}
 
 module _ (b0 : List ℕ) (row end : ℕ) where
-  pub tag-marked : (b1 b2 : List ℕ) → b1 ≡ set b0 row role.tag → b2 ≡ sets b1 (row + 1) (others (end - (row + 1)))
+  pub tag-set : (b1 b2 : List ℕ) → b1 ≡ set b0 row role.tag → b2 ≡ sets b1 (row + 1) (others (end - (row + 1)))
       → b2 ≡ sets b0 row (partRoles tagRoles row end)
-  tag-marked b1 b2 p q =
+  tag-set b1 b2 p q =
       let one : row + 1 ≡ suc row = omega arith in
       q ∙ (λ i. sets (p i) (one i) (others (end - (row + 1))))
 
-  pub property-marked : (b1 b2 b3 b4 : List ℕ) → b1 ≡ set b0 row role.key → b2 ≡ set b1 (row + 1) role.other
+  pub property-set : (b1 b2 b3 b4 : List ℕ) → b1 ≡ set b0 row role.key → b2 ≡ set b1 (row + 1) role.other
       → b3 ≡ set b2 (row + 2) role.value → b4 ≡ sets b3 (row + 3) (others (end - (row + 3)))
       → b4 ≡ sets b0 row (partRoles propertyRoles row end)
-  property-marked b1 b2 b3 b4 p q r t =
+  property-set b1 b2 b3 b4 p q r t =
       let one : row + 1 ≡ suc row = omega arith in
       let two : row + 2 ≡ suc (suc row) = omega arith in
       let three : row + 3 ≡ suc (suc (suc row)) = omega arith in

@@ -9,7 +9,7 @@ use Rattle.token_list.specs.Contract.{InList, TokenAt, LeafAt, GroupAt, Skipped
 use Rattle.token_list.specs.declared.check.Cursor.{Cursor}
 use Rattle.token_list.specs.declared.stream.Token.{Token}
 use Rattle.token_list.proofs.Streams.{skipped-open}
-use Rattle.reading.specs.Token.{whole}
+use Rattle.reading.specs.Token.{groupSize}
 use Rattle.parse.specs.Contract.{pastOf, stream, TokenIn}
 use Rattle.parse.proofs.Meeting.{leaf-moved, group-moved, follows-of}
 use Rattle.tagged_attribute.specs.Contract.{Onward}
@@ -21,15 +21,15 @@ module _ {s : List ℕ} where
       subst⁻¹ (λ (x : Cursor). Onward s c x 1) e
       (record { inList = m .inList; row = m .row; forth = m .forth; outer = m .outer })
 
-  -- past a whole group, and the stream there
+  -- past a groupSize group, and the stream there
   pub onward-group : {c d e : Cursor} {t : Token} → InList s c → GroupAt s (c .at) t → d ≡ pastOf c t
       → skipped (at s (d .at) .outer) s d e
-      → Onward s c e (whole (at s (t .next) .here)) × (stream s e ≡ head (at s (t .next) .outer))
+      → Onward s c e (groupSize (at s (t .next) .here)) × (stream s e ≡ head (at s (t .next) .outer))
   onward-group {c} {d} {e} {t} i g p k =
       let inside = at s (t .next) .here in
       let open-group = skipped-open s d e (follows-of s c d t p i g) k in
       let m = group-moved s c t i [] 0 e g (subst (λ (x : Cursor). Skipped s x e) p open-group) in
-      let l = length-replicate {A = ℕ} (whole inside) 0 in (
+      let l = length-replicate {A = ℕ} (groupSize inside) 0 in (
         record {
           inList = m .inList;
           row = omega (arith, m .row, l);

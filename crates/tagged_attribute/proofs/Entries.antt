@@ -11,7 +11,7 @@ use Rattle.token_list.specs.Contract.{LeafAt, GroupAt, rowOf, skipped}
 use Rattle.token_list.specs.declared.check.Cursor.{Cursor}
 use Rattle.token_list.specs.declared.stream.Token.{Token}
 use Rattle.token_list.proofs.Texts.{chosen, passed-over}
-use Rattle.reading.specs.Token.{isIdent, isLiteral, isPunct, whole}
+use Rattle.reading.specs.Token.{isIdent, isLiteral, isPunct, groupSize}
 use Rattle.parse.specs.Contract.{stream, TextOf, TokenIn, pastOf}
 use Rattle.parse.proofs.Meeting.{token-within, group-stream}
 use Rattle.tagged_reading.specs.Role as role
@@ -134,7 +134,7 @@ module _ (s : List ℕ) where
         → Added s c e [] (partRoles [] (c .row) (e .row)) is
     lost-group d e t group-here p h =
         let inside = at s (t .next) .here in
-        let n = whole inside in
+        let n = groupSize inside in
         let g = onward-group (o .inList) group-here p h in
         let q = onward-then o (g .0) in
         added [] (2 + n) q (omega arith) (omega arith)

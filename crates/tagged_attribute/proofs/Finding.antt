@@ -11,7 +11,7 @@ use Rattle.token_list.specs.declared.check.Cursor.{Cursor}
 use Rattle.token_list.specs.declared.stream.Token.{Token}
 use Rattle.token_list.specs.declared.stream.Glance.{Glance}
 use Rattle.token_list.proofs.Texts.{chosen, passed-over}
-use Rattle.reading.specs.Token.{isWord, isEnd, whole}
+use Rattle.reading.specs.Token.{isWord, isEnd, groupSize}
 use Rattle.parse.specs.Contract.{stream, pastOf}
 use Rattle.parse.specs.declared.utils.Step.{Step}
 use Rattle.parse.proofs.Meeting.{group-stream, past-in-of}
@@ -50,22 +50,22 @@ module _ (s : List ℕ) (c : Cursor) (start : (c .at ≡ 10) × (c .row ≡ 0)) 
 
   module _ (i : InList s c) (t : Token) (g : GroupAt s (c .at) t) (d : Cursor) (p : d ≡ pastOf c t) (e : Cursor)
       (k : skipped (at s (d .at) .outer) s d e) where
-    past : Onward s c e (whole (at s (t .next) .here)) × (stream s e ≡ head (at s (t .next) .outer))
+    past : Onward s c e (groupSize (at s (t .next) .here)) × (stream s e ≡ head (at s (t .next) .outer))
     past = onward-group i g p k
 
     pub after-in : InList s e
     after-in = past .0 .inList
 
-    all-rows : listed s ≡ group (t .mark) (stream s d) (stream s e)
+    all-rows : listed s ≡ group (t .first) (stream s d) (stream s e)
     all-rows =
         here ∙ group-stream s c t i g
-        ∙ (λ j. group (t .mark) (sym (stream-past s c d t p) j) (sym (past .1) j))
+        ∙ (λ j. group (t .first) (sym (stream-past s c d t p) j) (sym (past .1) j))
 
     module _ (l : Glance) (look : Looked s (e .at) l) where
       pub outside : (l .kind ≡ 0 → ⊥) → (prefix : List ℕ) → tagged prefix (listed s) ≡ refused 31 (e .row)
       outside h prefix =
-          let row : whole (stream s d) ≡ e .row =
-          ap whole (stream-past s c d t p) ∙ omega (arith, past .0 .row, start .1) in
+          let row : groupSize (stream s d) ≡ e .row =
+          ap groupSize (stream-past s c d t p) ∙ omega (arith, past .0 .row, start .1) in
           ap (tagged prefix) all-rows
           ∙ passed-over _ _ _ (something (stream s e) (λ z. h (look .kind ∙ z)))
           ∙ ap (refused 31) row

@@ -10,7 +10,7 @@ use Rattle.token_list.specs.Row.{Row}
 use Rattle.token_list.specs.Stream.{Trees, end, leaf, group, size}
 use Rattle.token_list.proofs.Bounds.{texts, bounds}
 use Rattle.token_list.proofs.Passed.{passed-list}
-use Rattle.reading.specs.Token.{isIdent, isLiteral, isPunct, isWord, isEnd, whole}
+use Rattle.reading.specs.Token.{isIdent, isLiteral, isPunct, isWord, isEnd, groupSize}
 use Rattle.tagged_reading.specs.Role.{others}
 use Rattle.tagged_reading.specs.Entry.{Entry, tag, property}
 use Rattle.tagged_reading.specs.Reading.{Answer, none, read, refused, adding, before, entries, keyed, valued, separated, FIRST-ENTRY, tagged}
@@ -76,7 +76,7 @@ mutual
   valued-fit : (row : ℕ) (q e : Row) (us : Trees) → Fitting (room (leaf q (leaf e us))) (valued row (q .text) us)
   valued-fit row q e end = passed-by (others 2) (omega arith) nothing-left
   valued-fit row q e (group d ts us) =
-      passed-by (others (2 + whole ts)) (omega arith) (entries-fit (row + (2 + whole ts)) us)
+      passed-by (others (2 + groupSize ts)) (omega arith) (entries-fit (row + (2 + groupSize ts)) us)
   valued-fit row q e (leaf v us) =
       choice (isLiteral v) (separated-fit row q e v us) (passed-by (others 3) (omega arith) (entries-fit (row + 3) us))
 

@@ -6,8 +6,8 @@ use parse::role::NONE;
 use parse::utils::Step;
 use parse::utils::fill;
 use parse::utils::ident_eq;
-use parse::utils::mark;
 use parse::utils::past;
+use parse::utils::set_role;
 use token_list::check::Checked;
 use token_list::check::Cursor;
 use token_list::check::END;
@@ -68,25 +68,25 @@ pub enum Entered {
 }
 
 // The roles of a tag that ends before the row `end`.
-fn mark_tag(roles: &mut [u8], row: usize, end: usize)
+fn set_tag(roles: &mut [u8], row: usize, end: usize)
     requires { ⌜ row + 1 < 2 ^ 64 ⌝ }
     ensures { λ _. ⌜ now (roles .exit) ≡ sets (now (roles .entry)) row (partRoles tagRoles row end) ⌝ }
 {
-    mark(roles, row, role::TAG);
+    set_role(roles, row, role::TAG);
     let below = row + 1;
     fill(roles, below, end, role::OTHER);
 }
 
 // The roles of a property that ends before the row `end`.
-fn mark_property(roles: &mut [u8], row: usize, end: usize)
+fn set_property(roles: &mut [u8], row: usize, end: usize)
     requires { ⌜ row + 3 < 2 ^ 64 ⌝ }
     ensures { λ _. ⌜ now (roles .exit) ≡ sets (now (roles .entry)) row (partRoles propertyRoles row end) ⌝ }
 {
-    mark(roles, row, role::KEY);
+    set_role(roles, row, role::KEY);
     let equals = row + 1;
-    mark(roles, equals, role::OTHER);
+    set_role(roles, equals, role::OTHER);
     let value = row + 2;
-    mark(roles, value, role::VALUE);
+    set_role(roles, value, role::VALUE);
     let after = row + 3;
     fill(roles, after, end, role::OTHER);
 }
@@ -108,13 +108,13 @@ fn turn(s: &[u8], c: Cursor, roles: &mut [u8]) -> EntryTurn
         EntryStep::Tag(t) => {
             let next = t.next;
             let end = next.row;
-            mark_tag(roles, row, end);
+            set_tag(roles, row, end);
             EntryTurn::On(next, 1)
         }
         EntryStep::Property(p) => {
             let next = p.next;
             let end = next.row;
-            mark_property(roles, row, end);
+            set_property(roles, row, end);
             EntryTurn::On(next, 1)
         }
     }

@@ -8,7 +8,7 @@ use Rattle.token_list.specs.Byte.{COMMA, EQUALS}
 use Rattle.token_list.specs.Row.{Row}
 use Rattle.token_list.specs.Stream.{Trees, size}
 use Rattle.token_list.proofs.Texts.{chosen, passed-over}
-use Rattle.reading.specs.Token.{isPunct, whole}
+use Rattle.reading.specs.Token.{isPunct, groupSize}
 use Rattle.reading.proofs.CompleteTokens.{punct-other}
 use Rattle.tagged_reading.specs.Role as role
 use Rattle.tagged_reading.specs.Role.{others}
@@ -50,7 +50,7 @@ entry-complete (g.Entry.lost {e = e} a k f l u) =
       from = λ row. chosen _ _ _ k ∙ passed-over _ _ _ (comma-not-equals e f) ∙ chosen _ _ _ f ∙ passed-over _ _ _ l;
     }
 entry-complete (g.Entry.lost-group {e = e} {ts = ts} {us = us} a k f u) =
-    let n = 2 + whole ts in
+    let n = 2 + groupSize ts in
     record {
       es = [];
       from = λ row. chosen _ _ _ k ∙ passed-over _ _ _ (comma-not-equals e f) ∙ chosen _ _ _ f
@@ -71,7 +71,7 @@ entries-complete (g.Entries.next {rs = rs} e h) =
       from = λ row. a .from row ∙ ap (adding (a .es) rs) (k .from (row + length rs));
     }
 
--- ## The whole list
+-- ## The groupSize list
 
 attribute-complete : {ts : Trees} {rs : List ℕ} (prefix : List ℕ) → g.Attribute everything prefix ts rs
     → (es : List Entry) × (attribute prefix ts ≡ read es (role.other ∷ rs ++ role.other ∷ []))

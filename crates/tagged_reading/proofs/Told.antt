@@ -15,7 +15,7 @@ use Rattle.token_list.specs.Check.{END}
 use Rattle.token_list.specs.Row.{Row}
 use Rattle.token_list.specs.Stream.{Trees, end, leaf, group, size}
 use Rattle.token_list.proofs.Texts.{and-parts, and-both}
-use Rattle.reading.specs.Token.{isIdent, isLiteral, isPunct, isWord, whole}
+use Rattle.reading.specs.Token.{isIdent, isLiteral, isPunct, isWord, groupSize}
 use Rattle.tagged_reading.specs.Role as role
 use Rattle.tagged_reading.specs.Role.{others, isRole}
 use Rattle.tagged_reading.specs.Entry.{Entry, tag, property}
@@ -80,7 +80,7 @@ module _ (b : ℕ) where
         → row + size (leaf q (leaf e us)) ≤ b → Told (leaf q (leaf e us)) (valued row (q .text) us)
     valued-told row q e end k f h = added [] (others 2) (g.Entry.without-value refl k f) refl refl done
     valued-told row q e (group d ts us) k f h =
-        let n = 2 + whole ts in
+        let n = 2 + groupSize ts in
         added [] (others n) (g.Entry.lost-group refl k f refl)
         (omega (arith, length-replicate n role.other)) (named-others n)
         (entries-told (row + n) us (omega arith))
@@ -103,7 +103,7 @@ module _ (b : ℕ) where
         (entries-told (row + 4) us (omega arith)))
         (λ m. refuses {p = row + 3} refl (omega arith))
 
--- ## The whole list
+-- ## The groupSize list
 
 replicate-last : (n v : ℕ) → replicate (suc n) v ≡ replicate n v ++ v ∷ []
 replicate-last zero v = refl
@@ -164,8 +164,8 @@ module _ (prefix : List ℕ) where
   attribute-told d (leaf q us) = choose (isWord prefix q) (λ k. listAfter-told d q us k) (λ k. nothing)
 
   -- the first row outside the group
-  outside : (d : ℕ) (ts us : Trees) → 0 < size us → AllTold prefix (group d ts us) (refused 31 (whole ts))
-  outside d ts us h = let l : whole ts < size (group d ts us) = omega arith in refuses refl (inr l)
+  outside : (d : ℕ) (ts us : Trees) → 0 < size us → AllTold prefix (group d ts us) (refused 31 (groupSize ts))
+  outside d ts us h = let l : groupSize ts < size (group d ts us) = omega arith in refuses refl (inr l)
 
   pub tagged-told : (ts : Trees) → AllTold prefix ts (tagged prefix ts)
   tagged-told end = refuses refl (inl refl)

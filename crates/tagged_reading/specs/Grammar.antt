@@ -9,7 +9,7 @@ use lib.Dec.{eqb}
 use Rattle.token_list.specs.Byte.{COMMA, EQUALS, PARENTHESIS, BRACKET}
 use Rattle.token_list.specs.Row.{Row}
 use Rattle.token_list.specs.Stream.{Trees, end, leaf, group, size}
-use Rattle.reading.specs.Token.{isIdent, isLiteral, isPunct, isWord, isEnd, whole}
+use Rattle.reading.specs.Token.{isIdent, isLiteral, isPunct, isWord, isEnd, groupSize}
 use Rattle.reading.specs.SimplePath.{segment}
 use Rattle.tagged_reading.specs.Role as role
 use Rattle.tagged_reading.specs.Role.{others}
@@ -65,7 +65,7 @@ module _ (allowed : Difference → Bool) where
     -- a lost group with all its rows
     lost-group : {q e : Row} {d : ℕ} {ts us : Trees}
         → allowed lost-token ≡ true → isKey q ≡ true → isPunct EQUALS e ≡ true → Unless entry-after-lost (isEnd us)
-        → Entry (leaf q (leaf e (group d ts us))) us (others (2 + whole ts))
+        → Entry (leaf q (leaf e (group d ts us))) us (others (2 + groupSize ts))
 
   -- MetaSeq?, to the end of its group
   pub data Entries : Trees → List ℕ → Type 0 where

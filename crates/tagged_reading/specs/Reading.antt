@@ -6,7 +6,7 @@ use Prim.Native.Nat.{ℕ, _+_}
 use Rattle.token_list.specs.Byte.{COMMA, EQUALS}
 use Rattle.token_list.specs.Check.{END}
 use Rattle.token_list.specs.Stream.{Trees, end, leaf, group, size}
-use Rattle.reading.specs.Token.{isIdent, isLiteral, isPunct, isWord, isEnd, whole}
+use Rattle.reading.specs.Token.{isIdent, isLiteral, isPunct, isWord, isEnd, groupSize}
 use Rattle.tagged_reading.specs.Role as role
 use Rattle.tagged_reading.specs.Role.{others}
 use Rattle.tagged_reading.specs.Entry.{Entry, tag, property}
@@ -44,7 +44,7 @@ abbrev mutual
   -- After `key =`. A token that is no literal is lost, and nothing is added.
   pub valued : ℕ → List ℕ → Trees → Answer
   valued row k end = read [] (others 2)
-  valued row k (group d ts us) = adding [] (others (2 + whole ts)) (entries (row + (2 + whole ts)) us)
+  valued row k (group d ts us) = adding [] (others (2 + groupSize ts)) (entries (row + (2 + groupSize ts)) us)
   valued row k (leaf v us) =
       cond (isLiteral v) (separated row (property k (v .text)) us) (adding [] (others 3) (entries (row + 3) us))
 
@@ -85,4 +85,4 @@ attribute prefix (leaf q us) = cond (isWord prefix q) (listAfter us) none
 abbrev pub tagged : List ℕ → Trees → Answer
 tagged prefix end = refused 31 END
 tagged prefix (leaf q us) = refused 31 0
-tagged prefix (group d ts us) = cond (isEnd us) (attribute prefix ts) (refused 31 (whole ts))
+tagged prefix (group d ts us) = cond (isEnd us) (attribute prefix ts) (refused 31 (groupSize ts))

@@ -11,7 +11,7 @@ use lib.Seq.{slice, slice-empty, length-slice}
 use Rattle.token_list.specs.Text.{LF, all, member, name, nameStart, namePart, digit, literal, literalStart, printable, single, punctuation, opening, closing}
 use Rattle.token_list.specs.Row.{line, lines, front, Form, plain, opens, closed, wrong, form, formOf, first}
 use Rattle.token_list.specs.Check.{isRow}
-use Rattle.token_list.specs.Contract.{shape, markForm, oneByte, formed, inText, TextEnd, TokenLine, Shaped, ShapedUnlessWrong}
+use Rattle.token_list.specs.Contract.{shape, singleForm, oneByte, formed, inText, TextEnd, TokenLine, Shaped, ShapedUnlessWrong}
 use Rattle.token_list.specs.declared.row.Line.{Line}
 use Rattle.token_list.proofs.Texts.{chosen, passed-over, only, single-only, first-only, slice-next, slice-none, and-last, and-fails, and-both, and-parts, or-holds}
 use Rattle.token_list.proofs.Lines.{lines-byte, lines-end, line-from}
@@ -25,22 +25,22 @@ unfolding formOf
 literal-form k t e = rw e
 
 -- a test on a text of one byte, where the choice shows the byte itself
-mark-choice : (p : ℕ → Bool) (f : ℕ → Form) (t : List ℕ) → p 0 ≡ false
+single-choice : (p : ℕ → Bool) (f : ℕ → Form) (t : List ℕ) → p 0 ≡ false
     → cond (single p t) (f (first t)) wrong ≡ cond (p (only t)) (f (only t)) wrong
-mark-choice p f t e = rw (single-only p t e) (go (p (only t)) refl)
+single-choice p f t e = rw (single-only p t e) (go (p (only t)) refl)
   where
     go : (b : Bool) → p (only t) ≡ b → cond b (f (first t)) wrong ≡ cond b (f (only t)) wrong
     go true q = ap f (first-only p t e q)
     go false q = refl
 
-pub mark-form : (k : ℕ) (t : List ℕ) → (k ≡ 105 → ⊥) → (k ≡ 108 → ⊥) → formOf k t ≡ markForm k (only t)
+pub single-form : (k : ℕ) (t : List ℕ) → (k ≡ 105 → ⊥) → (k ≡ 108 → ⊥) → formOf k t ≡ singleForm k (only t)
 unfolding formOf
-mark-form k t a b =
+single-form k t a b =
     passed-over _ _ _ (ne-eqb _ _ a)
     ∙ passed-over _ _ _ (ne-eqb _ _ b)
     ∙ (λ i. cond (eqb k 112) (cond (single-only punctuation t refl i) plain wrong)
-    (cond (eqb k 111) (mark-choice opening opens t refl i)
-    (cond (eqb k 99) (mark-choice closing closed t refl i) wrong)))
+    (cond (eqb k 111) (single-choice opening opens t refl i)
+    (cond (eqb k 99) (single-choice closing closed t refl i) wrong)))
 
 -- ## Texts of one byte
 
@@ -157,9 +157,9 @@ unfolding formOf
 no-text k = chosen-wrong (eqb k 105) (eqb k 108) (eqb k 112) (eqb k 111) (eqb k 99)
 
 -- a text that is not of one byte is none of kind p, o or c
-pub mark-wrong : (k : ℕ) (t : List ℕ) → (k ≡ 105 → ⊥) → (k ≡ 108 → ⊥) → 0 ≡ only t → formOf k t ≡ wrong
-mark-wrong k t a b e =
-    mark-form k t a b ∙ ap (markForm k) (sym e) ∙ chosen-wrong false false (eqb k 112) (eqb k 111) (eqb k 99)
+pub single-wrong : (k : ℕ) (t : List ℕ) → (k ≡ 105 → ⊥) → (k ≡ 108 → ⊥) → 0 ≡ only t → formOf k t ≡ wrong
+single-wrong k t a b e =
+    single-form k t a b ∙ ap (singleForm k) (sym e) ∙ chosen-wrong false false (eqb k 112) (eqb k 111) (eqb k 99)
 
 pub one-byte-parts : (s : List ℕ) (i : ℕ) → oneByte s i ≡ true → (i + 3 < length s) × (getD s (i + 1) 0 ≡ 32) ×
     (getD s (i + 3) 0 ≡ 10)

@@ -26,11 +26,11 @@ pub record FirstRow (s : List ℕ) (i : ℕ) : Type 0 where
   pub row : Row
   pub rest : List Row
   pub here : rowsAt s i ≡ row ∷ rest
-  pub mark : ℕ
+  pub first : ℕ
   pub text : List ℕ
-  pub texts : row .text ≡ mark ∷ text
-  pub bytes : drop i s ≡ row .kind ∷ 32 ∷ mark ∷ text ++ LF ∷ written rest
-  pub right : isRow (formOf (row .kind) (mark ∷ text)) ≡ true
+  pub texts : row .text ≡ first ∷ text
+  pub bytes : drop i s ≡ row .kind ∷ 32 ∷ first ∷ text ++ LF ∷ written rest
+  pub right : isRow (formOf (row .kind) (first ∷ text)) ≡ true
 
 pub first-row : (s : List ℕ) (i : ℕ) → Whole s i → i < length s → FirstRow s i
 first-row s i w h = go (rowsAt s i) refl
@@ -49,7 +49,7 @@ first-row s i w h = go (rowsAt s i) refl
               row = r;
               rest = rs;
               here = e;
-              mark = m;
+              first = m;
               text = t;
               texts = q;
               bytes = w .written ∙ ap written e ∙ ap (λ (x : List ℕ). r .kind ∷ 32 ∷ x ++ LF ∷ written rs) q;
@@ -57,7 +57,7 @@ first-row s i w h = go (rowsAt s i) refl
             }
 
 module _ (s : List ℕ) (i : ℕ) (f : FirstRow s i) where
-  byte-at : (n : ℕ) → getD s (i + n) 0 ≡ getD (f .row .kind ∷ 32 ∷ f .mark ∷ f .text ++ LF ∷ written (f .rest)) n 0
+  byte-at : (n : ℕ) → getD s (i + n) 0 ≡ getD (f .row .kind ∷ 32 ∷ f .first ∷ f .text ++ LF ∷ written (f .rest)) n 0
   byte-at n = sym (getD-drop i s n 0) ∙ ap (λ (t : List ℕ). getD t n 0) (f .bytes)
 
   pub first-kind : f .row .kind ≡ getD s i 0
@@ -65,8 +65,8 @@ module _ (s : List ℕ) (i : ℕ) (f : FirstRow s i) where
       let e : i + 0 ≡ i = omega arith in
       sym (byte-at 0) ∙ ap (λ (n : ℕ). getD s n 0) e
 
-  pub first-mark : f .mark ≡ getD s (i + 2) 0
-  first-mark = sym (byte-at 2)
+  pub first-at : f .first ≡ getD s (i + 2) 0
+  first-at = sym (byte-at 2)
 
   pub three-bytes : i + 3 ≤ length s
   three-bytes = omega (arith, length-drop i s, ap length (f .bytes), length-append (f .text) (LF ∷ written (f .rest)))
@@ -80,11 +80,11 @@ module _ (s : List ℕ) (i : ℕ) (f : FirstRow s i) where
       let two : i + 1 + 1 ≡ i + 2 = omega arith in
       let three : i + 1 + 1 + 1 ≡ i + 3 = omega arith in
       let space : getD s (i + 1) 0 ≡ LF → ⊥ = λ q. absurd (omega (arith, byte-at 1, q)) in
-      let mark : getD s (i + 1 + 1) 0 ≡ LF → ⊥ =
-      λ q. no-wrong (lf-text (f .row .kind) (f .mark) (f .text)
+      let first : getD s (i + 1 + 1) 0 ≡ LF → ⊥ =
+      λ q. no-wrong (lf-text (f .row .kind) (f .first) (f .text)
       (sym (byte-at 2) ∙ ap (λ (n : ℕ). getD s n 0) (sym two) ∙ q)) (f .right) in
       subst (Scanned s i) three
-      (scan-more s i (i + 1 + 1) (omega arith) mark
+      (scan-more s i (i + 1 + 1) (omega arith) first
       (scan-more s i (i + 1) (omega arith) space
       (scan-more s i i (omega arith) (λ q. no-wrong (lf-kind (f .row .kind) _ (first-kind ∙ q)) (f .right))
       (scan-start s i))))
@@ -98,7 +98,7 @@ module _ (s : List ℕ) (i : ℕ) (f : FirstRow s i) where
 
   last-lf : getD s last 0 ≡ LF
   unfolding last
-  last-lf = byte-at (suc (suc (suc (length (f .text))))) ∙ getD-append-seam (f .row .kind ∷ 32 ∷ f .mark ∷ f .text) LF
+  last-lf = byte-at (suc (suc (suc (length (f .text))))) ∙ getD-append-seam (f .row .kind ∷ 32 ∷ f .first ∷ f .text) LF
       (written (f .rest)) 0
 
 -- ## The scan for a row's end: an LF stands ahead

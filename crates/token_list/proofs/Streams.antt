@@ -9,13 +9,13 @@ use lib.Dec.{eqb}
 use lib.ListN.{length, getD, drop}
 use lib.Seq.{slice, drop-nil}
 use Rattle.token_list.specs.Row.{Row, line, rows, first}
-use Rattle.token_list.specs.Stream.{Trees, end, leaf, group, Streams, head, others, before, streams, size, firstKind, firstMark, follows, allClosed, rowsAt, at, rowStart}
+use Rattle.token_list.specs.Stream.{Trees, end, leaf, group, Streams, head, others, before, streams, size, firstKind, firstByte, follows, allClosed, rowsAt, at, rowStart}
 use Rattle.token_list.specs.Contract.{RowEnd, Whole, InList, Looked, TokenAt, LeafAt, GroupAt, Skipped, skipped, deeper}
 use Rattle.token_list.specs.declared.check.Cursor.{Cursor}
 use Rattle.token_list.specs.declared.stream.Token.{Token}
 use Rattle.token_list.proofs.Texts.{and-parts, chosen, passed-over, slice-next}
 use Rattle.token_list.proofs.Starts.{next-start}
-use Rattle.token_list.proofs.Rows.{rows-none, FirstRow, first-row, first-kind, first-mark, some-kind, whole-next}
+use Rattle.token_list.proofs.Rows.{rows-none, FirstRow, first-row, first-kind, first-at, some-kind, whole-next}
 
 -- ## The row at an offset
 
@@ -82,11 +82,11 @@ module _ (s : List ℕ) (c : Cursor) (inList : InList s c) where
       ap (λ (t : Streams). t .here) (ap streams (f .here) ∙
       before-close _ (streams (f .rest)) (first-kind s (c .at) f ∙ q))
 
-  pub look-none : at s (c .at) .here ≡ end → Looked s (c .at) (record { kind = 0; mark = 0 })
-  look-none e = record { kind = sym (ap firstKind e); mark = sym (ap firstMark e); none = λ q. e }
+  pub look-none : at s (c .at) .here ≡ end → Looked s (c .at) (record { kind = 0; first = 0 })
+  look-none e = record { kind = sym (ap firstKind e); first = sym (ap firstByte e); none = λ q. e }
 
   pub look-here : c .at < length s → (getD s (c .at) 0 ≡ 99 → ⊥) →
-      Looked s (c .at) (record { kind = getD s (c .at) 0; mark = getD s (c .at + 2) 0 })
+      Looked s (c .at) (record { kind = getD s (c .at) 0; first = getD s (c .at + 2) 0 })
   unfolding at
   look-here h x = go (eqb (f .row .kind) 111) refl
     where
@@ -97,16 +97,16 @@ module _ (s : List ℕ) (c : Cursor) (inList : InList s c) where
       k = first-kind s (c .at) f
 
       m : first (f .row .text) ≡ getD s (c .at + 2) 0
-      m = ap first (f .texts) ∙ first-mark s (c .at) f
+      m = ap first (f .texts) ∙ first-at s (c .at) f
 
       go : (b : Bool) → eqb (f .row .kind) 111 ≡ b → Looked s (c .at)
-          (record { kind = getD s (c .at) 0; mark = getD s (c .at + 2) 0 })
+          (record { kind = getD s (c .at) 0; first = getD s (c .at + 2) 0 })
       go true e =
           let b = ap (λ (t : Streams). t .here) (ap streams (f .here) ∙
           before-open (f .row) (streams (f .rest)) (eqb-true _ _ e)) in
           record {
             kind = sym k ∙ eqb-true _ _ e ∙ sym (ap firstKind b);
-            mark = sym m ∙ sym (ap firstMark b);
+            first = sym m ∙ sym (ap firstByte b);
             none = λ q. absurd (some-kind s (c .at) f (k ∙ q));
           }
       go false e =
@@ -114,7 +114,7 @@ module _ (s : List ℕ) (c : Cursor) (inList : InList s c) where
           before-leaf (f .row) (streams (f .rest)) (eqb-false _ _ e) (λ q. x (sym k ∙ q))) in
           record {
             kind = sym k ∙ sym (ap firstKind b);
-            mark = sym m ∙ sym (ap firstMark b);
+            first = sym m ∙ sym (ap firstByte b);
             none = λ q. absurd (some-kind s (c .at) f (k ∙ q));
           }
 
@@ -132,7 +132,7 @@ module _ (s : List ℕ) (c : Cursor) (inList : InList s c) (e : ℕ) (l : RowEnd
   stepped = at-row s (c .at) (e + 1) theRow the-row
 
   abbrev theToken : Token
-  theToken = record { kind = getD s (c .at) 0; mark = getD s (c .at + 2) 0; start = c .at + 2; end = e; next = e + 1 }
+  theToken = record { kind = getD s (c .at) 0; first = getD s (c .at + 2) 0; start = c .at + 2; end = e; next = e + 1 }
 
   first-byte : getD s (c .at + 2) 0 ≡ first (slice (c .at + 2) e s)
   first-byte = ap first (sym (slice-next s (c .at + 2) e (omega (arith, l .text)) (omega (arith, l .within))))
@@ -146,7 +146,7 @@ module _ (s : List ℕ) (c : Cursor) (inList : InList s c) (e : ℕ) (l : RowEnd
         text = omega (arith, l .text);
         next = refl;
         within = omega (arith, l .within);
-        mark = first-byte;
+        first = first-byte;
         whole = whole-next s (c .at) e (omega (arith, l .text)) (l .within) (inList .whole) the-row;
       }
 

@@ -16,7 +16,7 @@ use Rattle.token_list.specs.declared.check.Checked.{Checked}
 use Rattle.token_list.specs.declared.check.Checked.the-variants.{Passed, Refused}
 use Rattle.token_list.specs.declared.check.LevelEnd.{LevelEnd}
 use Rattle.token_list.specs.declared.check.LevelEnd.the-variants.{End, Close, Refused as Stopped}
-use Rattle.token_list.specs.Stream.{Trees, end, leaf, group, size, firstKind, firstMark, follows, allClosed, rowsAt, at, rowStart}
+use Rattle.token_list.specs.Stream.{Trees, end, leaf, group, size, firstKind, firstByte, follows, allClosed, rowsAt, at, rowStart}
 use Rattle.token_list.specs.declared.stream.Token.{Token}
 use Rattle.token_list.specs.declared.stream.Glance.{Glance}
 use Rattle.token_list.specs.declared.stream.Peeked.{Peeked}
@@ -57,8 +57,8 @@ abbrev pub oneByte : List ℕ → ℕ → Bool
 oneByte s i = ltb (i + 3) (length s) && (eqb (getD s (i + 1) 0) SPACE && eqb (getD s (i + 3) 0) LF)
 
 -- the form of a row of kind p, o or c whose text is the one byte b
-abbrev pub markForm : ℕ → ℕ → Form
-markForm k b =
+abbrev pub singleForm : ℕ → ℕ → Form
+singleForm k b =
     cond (eqb k PUNCT) (cond (punctuation b) plain wrong)
     (cond (eqb k OPEN) (cond (opening b) (opens b) wrong)
     (cond (eqb k CLOSE) (cond (closing b) (closed b) wrong) wrong))
@@ -119,7 +119,7 @@ pub record TokenAt (s : List ℕ) (i : ℕ) (t : Token) : Type 0 where
   pub text : t .start ≤ t .end
   pub next : t .next ≡ t .end + 1
   pub within : t .next ≤ length s
-  pub mark : t .mark ≡ first (slice (t .start) (t .end) s)
+  pub first : t .first ≡ first (slice (t .start) (t .end) s)
   pub whole : Whole s (t .next)
 
 -- a token that is no group, and the stream after it
@@ -132,7 +132,7 @@ pub record LeafAt (s : List ℕ) (i : ℕ) (t : Token) : Type 0 where
 pub record GroupAt (s : List ℕ) (i : ℕ) (t : Token) : Type 0 where
   pub token : TokenAt s i t
   pub after : Trees
-  pub here : at s i .here ≡ group (t .mark) (at s (t .next) .here) after
+  pub here : at s i .here ≡ group (t .first) (at s (t .next) .here) after
   pub outer : at s (t .next) .outer ≡ after ∷ at s i .outer
 
 abbrev pub stands : List ℕ → ℕ → Peeked → Type 0
@@ -143,7 +143,7 @@ stands s i (Group t) = GroupAt s i t
 -- what a look at i tells; no row has the kind 0
 pub record Looked (s : List ℕ) (i : ℕ) (r : Glance) : Type 0 where
   pub kind : r .kind ≡ firstKind (at s i .here)
-  pub mark : r .mark ≡ firstMark (at s i .here)
+  pub first : r .first ≡ firstByte (at s i .here)
   pub none : r .kind ≡ 0 → at s i .here ≡ end
 
 -- how many groups are open after a row of kind k, where d were before it

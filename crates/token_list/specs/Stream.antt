@@ -62,10 +62,10 @@ firstKind end = 0
 firstKind (leaf r ts) = r .kind
 firstKind (group d ts us) = OPEN
 
-abbrev pub firstMark : Trees → ℕ
-firstMark end = 0
-firstMark (leaf r ts) = first (r .text)
-firstMark (group d ts us) = d
+abbrev pub firstByte : Trees → ℕ
+firstByte end = 0
+firstByte (leaf r ts) = first (r .text)
+firstByte (group d ts us) = d
 
 -- every group that opens in the rows is closed in them
 abbrev pub follows : List Trees → Bool

@@ -16,7 +16,7 @@ ghost use lib.ListN.{length};
 ghost use lib.Seq.{slice};
 ghost use Rattle.token_list.specs.Text.{name, plainName, rawName, neverRaw, literal, literalStart, closer};
 ghost use Rattle.token_list.specs.Row.{formOf};
-ghost use Rattle.token_list.specs.Contract.{LineEnd, Shaped, ShapedUnlessWrong, shape, markForm, oneByte, TokenLine};
+ghost use Rattle.token_list.specs.Contract.{LineEnd, Shaped, ShapedUnlessWrong, shape, singleForm, oneByte, TokenLine};
 
 // The form of a line: a token, an opening or closing row with its delimiter, or no row.
 pub enum Shape {
@@ -175,8 +175,8 @@ fn text_shape(s: &[u8], kind: u8, start: usize, end: usize) -> Shape
 }
 
 // The form of a row of this kind, neither `i` nor `l`, whose text is the one byte b.
-fn mark_shape(kind: u8, b: u8) -> Shape
-    ensures { λ r. ⌜ shape r ≡ markForm kind b ⌝ }
+fn single_shape(kind: u8, b: u8) -> Shape
+    ensures { λ r. ⌜ shape r ≡ singleForm kind b ⌝ }
 {
     if kind == b'p' {
         return if is_punctuation(b) {
@@ -220,7 +220,7 @@ fn byte_shape(kind: u8, b: u8) -> Shape
             Shape::Wrong
         };
     }
-    mark_shape(kind, b)
+    single_shape(kind, b)
 }
 
 // The token whose text is at `start`, where each byte up to the line's end may stand in a name, or

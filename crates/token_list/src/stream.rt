@@ -11,7 +11,7 @@ ghost use Rattle.token_list.specs.Contract.{Whole, RowEnd, InList, Looke
 // its text starts and ends, and where the next row starts.
 pub struct Token {
     pub kind: u8,
-    pub mark: u8,
+    pub first: u8,
     pub start: usize,
     pub end: usize,
     pub next: usize,
@@ -19,7 +19,7 @@ pub struct Token {
 
 pub struct Glance {
     pub kind: u8,
-    pub mark: u8,
+    pub first: u8,
 }
 
 // What stands at a cursor: nothing more in this stream, a token, or a group's opening row.
@@ -37,15 +37,15 @@ pub fn look(s: &[u8], c: Cursor) -> Glance
 {
     let at = c.at;
     if s.len() <= at {
-        return Glance { kind: 0, mark: 0 };
+        return Glance { kind: 0, first: 0 };
     }
     let kind = s[at];
     if kind == b'c' {
-        return Glance { kind: 0, mark: 0 };
+        return Glance { kind: 0, first: 0 };
     }
     let start = at + TEXT_OFFSET;
-    let mark = s[start];
-    Glance { kind, mark }
+    let first = s[start];
+    Glance { kind, first }
 }
 
 // Where the row at `at` ends, at its LF. Kind, space and a byte of text stand before it.
@@ -76,10 +76,10 @@ pub fn peek(s: &[u8], c: Cursor) -> Peeked
     let end = row_end(s, at);
     let start = at + TEXT_OFFSET;
     let next = end + 1;
-    let mark = s[start];
+    let first = s[start];
     let t = Token {
         kind,
-        mark,
+        first,
         start,
         end,
         next,

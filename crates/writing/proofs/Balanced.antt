@@ -203,16 +203,16 @@ closer-closes d = go (eqb d 40) (eqb d 91) (eqb d 123) (eqb d 48) refl refl refl
     go false false false true i j k l e = of 48 l refl
     go false false false false i j k l e = absurd (false≢true e)
 
-right-mark : (k d : ℕ) → isRow (formOf k (d ∷ [])) ≡ true → right (record { kind = k; text = d ∷ [] }) ≡ true
-right-mark k d e = and-both _ _ e refl
+right-single : (k d : ℕ) → isRow (formOf k (d ∷ [])) ≡ true → right (record { kind = k; text = d ∷ [] }) ≡ true
+right-single k d e = and-both _ _ e refl
 
 opening-right : (d : ℕ) → text.opening d ≡ true → right (opening d) ≡ true
 unfolding formOf
-opening-right d e = right-mark OPEN d (ap (λ (b : Bool). isRow (cond b (opens d) wrong)) e)
+opening-right d e = right-single OPEN d (ap (λ (b : Bool). isRow (cond b (opens d) wrong)) e)
 
 closing-right : (d : ℕ) → text.opening d ≡ true → right (closing d) ≡ true
 unfolding formOf
-closing-right d e = right-mark CLOSE (closer d)
+closing-right d e = right-single CLOSE (closer d)
     (ap (λ (b : Bool). isRow (cond b (closed (closer d)) wrong)) (closer-closes d e))
 
 pub nests : (ts : Trees) (ds : List ℕ) (rs : List Row) → sound ts ≡ true → length ds + depth ts ≤ MAX-DEPTH

@@ -28,8 +28,8 @@ use Rattle.writing.proofs.Joined.{joined, size-joined, rows-joined, tok
 use Rattle.writing.proofs.Balanced.{sound, sound-joined, list-stream}
 use Rattle.reading.specs.Grammar as g
 use Rattle.reading.proofs.CompleteTokens.{same-path}
-use Rattle.writing.proofs.Read.{RunAt, MarkedAt, ParameterAt, CommaAt, ParametersAt, GenericsAt, Later, Within, item-read}
-use Rattle.writing.proofs.Reread.{Whole, typeConst}
+use Rattle.writing.proofs.Read.{RunAt, OptionalRun, ParameterAt, CommaAt, ParametersAt, GenericsAt, Later, Within, item-read}
+use Rattle.writing.proofs.Reread.{StandsAlone, typeConst}
 
 -- ## Bytes and depths
 
@@ -81,7 +81,7 @@ cost p = length (written (parameterRows p))
 
 -- a parameter p of the stream ts, whose run is whole
 pub record Declared (ts : Trees) (p : Parameter) : Type 0 where
-  pub whole : Whole (runOf p)
+  pub stands : StandsAlone (runOf p)
   pub plain : typeConst p ≡ false
   pub name : right (ident (nameOf p)) ≡ true
   pub run : sound (runOf p) ≡ true
@@ -104,8 +104,8 @@ right-name q e h =
     subst (λ (k : ℕ). right (record { kind = k; text = q .text }) ≡ true) (eqb-true (q .kind) IDENT e) h
 
 -- a punctuation has a text
-pub mark-bytes : (b : ℕ) (q : Row) (us : Trees) → isPunct (suc b) q ≡ true → 4 + weight us ≤ weight (leaf q us)
-mark-bytes b q us e = go (q .text) refl
+pub punct-bytes : (b : ℕ) (q : Row) (us : Trees) → isPunct (suc b) q ≡ true → 4 + weight us ≤ weight (leaf q us)
+punct-bytes b q us e = go (q .text) refl
   where
     go : (t : List ℕ) → q .text ≡ t → 4 + weight us ≤ weight (leaf q us)
     go [] h =
@@ -115,7 +115,7 @@ mark-bytes b q us e = go (q .text) refl
 
 -- a run that ends before the end of its stream
 record Run (ts b us : Trees) : Type 0 where
-  whole : Whole b
+  stands : StandsAlone b
   right : sound b ≡ true
   rest : sound us ≡ true
   deep : depth b ≤ depth ts
@@ -128,7 +128,7 @@ run-of {ts} {b} {us} r n h =
     let p = sound-joined b us (sym (ap sound (r .cut)) ∙ h) in
     let d = ap depth (r .cut) ∙ depth-joined b us in
     record {
-      whole = record { roles = r .roles; alone = r .alone n };
+      stands = record { roles = r .roles; alone = r .alone n };
       right = p .0;
       rest = p .1;
       deep = omega (arith, d);
@@ -139,7 +139,7 @@ run-of {ts} {b} {us} r n h =
 
 no-run : (us : Trees) → sound us ≡ true → Run us end us
 no-run us h = record {
-  whole = record { roles = []; alone = g.Run.ended refl };
+  stands = record { roles = []; alone = g.Run.ended refl };
   right = refl;
   rest = h;
   deep = omega arith;
@@ -155,17 +155,17 @@ bounds-bytes (leaf q us) = omega arith
 bounds-bytes (group d ts us) = omega arith
 
 -- an optional mark and its run
-record Marked (ts b us : Trees) : Type 0 where
+record CountedRun (ts b us : Trees) : Type 0 where
   run : Run ts b us
   bounds : length (written (bounds b)) + weight us ≤ weight ts
   const : length (written (constraints b)) + weight us ≤ weight ts + 4
 
-past-mark : (m : ℕ) (c : Row) {us b vs : Trees} → isPunct (suc m) c ≡ true → Run us b vs → Marked (leaf c us) b vs
-past-mark m c {us} {b} {vs} e r =
-    let more = mark-bytes m c us e in
+past-separator : (m : ℕ) (c : Row) {us b vs : Trees} → isPunct (suc m) c ≡ true → Run us b vs → CountedRun (leaf c us) b vs
+past-separator m c {us} {b} {vs} e r =
+    let more = punct-bytes m c us e in
     record {
       run = record {
-        whole = r .whole;
+        stands = r .stands;
         right = r .right;
         rest = r .rest;
         deep = r .deep;
@@ -177,19 +177,19 @@ past-mark m c {us} {b} {vs} e r =
       const = omega (arith, r .bytes);
     }
 
-marked-of : (m : ℕ) {ts b us : Trees} → MarkedAt (suc m) ts b us → isEnd us ≡ false → sound ts ≡ true → Marked ts b us
-marked-of m {ts = ts} MarkedAt.none n h = record { run = no-run ts h; bounds = omega arith; const = omega arith }
-marked-of m (MarkedAt.some {c = c} {us = us} e r) n h = past-mark m c e (run-of r n (right-leaf c us h .1))
+counted-of : (m : ℕ) {ts b us : Trees} → OptionalRun (suc m) ts b us → isEnd us ≡ false → sound ts ≡ true → CountedRun ts b us
+counted-of m {ts = ts} OptionalRun.none n h = record { run = no-run ts h; bounds = omega arith; const = omega arith }
+counted-of m (OptionalRun.some {c = c} {us = us} e r) n h = past-separator m c e (run-of r n (right-leaf c us h .1))
 
 parameter-takes : {ts us : Trees} {p : Parameter} → ParameterAt ts p us → isEnd us ≡ false → sound ts ≡ true
     → Takes ts p us
 parameter-takes (ParameterAt.lifetime {q = q} {p = p} {us = us} {b = b} e f m) n h =
     let i = right-leaf q (leaf p us) h in
     let j = right-leaf p us (i .1) in
-    let k = marked-of 57 m n (j .1) in
+    let k = counted-of 57 m n (j .1) in
     record {
       declared = record {
-        whole = k .run .whole;
+        stands = k .run .stands;
         plain = refl;
         name = right-name p f (j .0);
         run = k .run .right;
@@ -201,7 +201,7 @@ parameter-takes (ParameterAt.lifetime {q = q} {p = p} {us = us} {b = b} e f m) n
       bytes = omega (
         arith,
         k .bounds,
-        mark-bytes 38 q (leaf p us) e,
+        punct-bytes 38 q (leaf p us) e,
         row-bytes p (runRows us),
         row-bytes (ident (p .text))
             (bounds b),
@@ -210,11 +210,11 @@ parameter-takes (ParameterAt.lifetime {q = q} {p = p} {us = us} {b = b} e f m) n
 parameter-takes (ParameterAt.constant {q = q} {p = p} {us = us} {t = t} e f m) n h =
     let i = right-leaf q (leaf p us) h in
     let j = right-leaf p us (i .1) in
-    let k = marked-of 57 m n (j .1) in
+    let k = counted-of 57 m n (j .1) in
     let word = ap length (same-path (q .text) CONST (and-parts (isIdent q) _ e .1)) in
     record {
       declared = record {
-        whole = k .run .whole;
+        stands = k .run .stands;
         plain = refl;
         name = right-name p f (j .0);
         run = k .run .right;
@@ -234,10 +234,10 @@ parameter-takes (ParameterAt.constant {q = q} {p = p} {us = us} {t = t} e f m) n
     }
 parameter-takes (ParameterAt.bounded {q = q} {c = c} {us = us} {b = b} e f i r) n h =
     let j = right-leaf q (leaf c us) h in
-    let k = past-mark 57 c i (run-of r n (right-leaf c us (j .1) .1)) in
+    let k = past-separator 57 c i (run-of r n (right-leaf c us (j .1) .1)) in
     record {
       declared = record {
-        whole = k .run .whole;
+        stands = k .run .stands;
         plain = sym (and-last (isIdent q) _ f) ∙ e;
         name = right-name q f (j .0);
         run = k .run .right;
@@ -250,11 +250,11 @@ parameter-takes (ParameterAt.bounded {q = q} {c = c} {us = us} {b = b} e f i r) 
     }
 parameter-takes (ParameterAt.defaulted {q = q} {us = us} {d = d} e f m) n h =
     let j = right-leaf q us h in
-    let k = marked-of 60 m n (j .1) in
+    let k = counted-of 60 m n (j .1) in
     let none = no-run us (j .1) in
     record {
       declared = record {
-        whole = none .whole;
+        stands = none .stands;
         plain = sym (and-last (isIdent q) _ f) ∙ e;
         name = right-name q f (j .0);
         run = refl;
@@ -277,7 +277,7 @@ pub declared-in : {ts us : Trees} {ps : List Parameter} → depth us ≤ depth t
 declared-in l none = none
 declared-in {ts} l (also {p = p} d ds) =
     let deep : depth (runOf p) ≤ depth ts = omega (arith, d .deep) in
-    also (record { whole = d .whole; plain = d .plain; name = d .name; run = d .run; deep = deep }) (declared-in l ds)
+    also (record { stands = d .stands; plain = d .plain; name = d .name; run = d .run; deep = deep }) (declared-in l ds)
 
 -- the bytes of parameters, each with a `,`
 abbrev pub total : List Parameter → ℕ
@@ -302,7 +302,7 @@ comma-part (CommaAt.present {q = q} {us = us} e) h =
 
 all-declared : {ts us : Trees} {ps : List Parameter} → ParametersAt ts ps us → sound ts ≡ true → All ts ps
 all-declared (ParametersAt.close {q = q} {us = us} e) h =
-    record { declared = none; rows = omega arith; bytes = omega (arith, mark-bytes 61 q us e) }
+    record { declared = none; rows = omega arith; bytes = omega (arith, punct-bytes 61 q us e) }
 all-declared (ParametersAt.next p n c ps) h =
     let t = parameter-takes p n h in
     let v = comma-part c (t .rest) in
@@ -349,7 +349,7 @@ generic {ts} {ps} w h = go (w .stand) (later-part (w .past) h)
         record {
           declared = declared-in (p .deep) (i .declared);
           rows = omega (arith, i .rows, p .rows);
-          bytes = omega (arith, i .bytes, p .bytes, mark-bytes 59 q us e);
+          bytes = omega (arith, i .bytes, p .bytes, punct-bytes 59 q us e);
         }
 
 -- ## The law, of a list that was read

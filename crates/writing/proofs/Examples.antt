@@ -8,11 +8,11 @@ use Rattle.token_list.specs.Row.{formOf}
 use Rattle.token_list.specs.Stream.{at, before}
 use Rattle.reading.specs.Took.{refuse, ranOut}
 use Rattle.reading.specs.Reading.{item}
-use Rattle.writing.specs.Answer.{whole}
+use Rattle.writing.specs.Answer.{fullAnswer}
 use Rattle.writing.specs.Examples.{allAgree, examples}
 
 pub written-as : allAgree examples ≡ true
-unfolding whole check at before formOf
+unfolding fullAnswer check at before formOf
 written-as = refl
 
 -- two that read back otherwise: `struct A < T : X - > ;` and `struct A < const > ;`

@@ -23,7 +23,7 @@ use Rattle.writing.specs.Generics.{parameterRows, parted, angledRows, ge
 use Rattle.writing.specs.Names.{lineNames, namesOf}
 use Rattle.output.specs.Answer.{Answer, wrote, refused}
 use Rattle.output.proofs.Answers.{Within, fitted-same}
-use Rattle.writing.specs.Answer.{Writer, implGenerics, typeGenerics, withAdditional, text, itemAnswer, whole, answer, MOST, addedBytes, mostWith, mostAdded, Fits}
+use Rattle.writing.specs.Answer.{Writer, implGenerics, typeGenerics, withAdditional, text, itemAnswer, fullAnswer, answer, MOST, addedBytes, mostWith, mostAdded, Fits}
 use Rattle.writing.proofs.Balanced.{list-stream}
 use Rattle.writing.proofs.Declared.{row-bytes, rows-bytes, cost, total, declared-of}
 
@@ -140,16 +140,16 @@ module _ (w : Writer) (more : ℕ) (adds : (ps : List Parameter) → total (w .p
       by true q = let same : text w d ≡ t = cc in omega (arith, ap length same, text-short c e)
       by false q = never q
 
-  whole-short : Short (whole w s)
-  unfolding whole
-  whole-short =
+  full-short : Short (fullAnswer w s)
+  unfolding fullAnswer
+  full-short =
       framed-cases Short refused (λ rows. false) (itemAnswer w) s (λ n p c t e. never e) (λ rows c h t e. never e)
       (λ rows c h t e. item-short rows c t e)
 
   fits-by : (n : ℕ) → Fits w (MOST + more) s n
   unfolding answer
   fits-by n =
-      record { longest = whole-short; room = λ h. fitted-same n (whole w s) (within (whole w s) whole-short) h }
+      record { longest = full-short; room = λ h. fitted-same n (fullAnswer w s) (within (fullAnswer w s) full-short) h }
     where
       within : (a : Answer) → Short a → Within (MOST + more) a
       within (wrote t) k = k t refl

@@ -73,9 +73,9 @@ record Good (m : ℕ) (ts : Trees) : Type 0 where
 good-leaf : {m : ℕ} {us : Trees} (r : Row) → (token r && right r) ≡ true → Good m us → Good m (leaf r us)
 good-leaf r e g = record { right = and-both _ _ e (g .right); deep = g .deep }
 
-good-mark : {m : ℕ} {us : Trees} (b : ℕ) → punctuation b ≡ true → Good m us → Good m (leaf (punct b) us)
+good-punct : {m : ℕ} {us : Trees} (b : ℕ) → punctuation b ≡ true → Good m us → Good m (leaf (punct b) us)
 unfolding formOf
-good-mark b e g = good-leaf (punct b) (and-both _ _ (ap (λ (x : Bool). isRow (cond x plain wrong)) e) refl) g
+good-punct b e g = good-leaf (punct b) (and-both _ _ (ap (λ (x : Bool). isRow (cond x plain wrong)) e) refl) g
 
 good-name : {m : ℕ} {us : Trees} (n : List ℕ) → right (ident n) ≡ true → Good m us → Good m (leaf (ident n) us)
 good-name n e g = good-leaf (ident n) e g
@@ -96,15 +96,15 @@ module _ {m : ℕ} where
 
   good-bounds : (b us : Trees) → sound b ≡ true → depth b ≤ m → Good m us → Good m (boundsThen b us)
   good-bounds end us e l g = g
-  good-bounds (leaf r ts) us e l g = good-mark COLON refl (good-run (leaf r ts) us e l g)
-  good-bounds (group d ts vs) us e l g = good-mark COLON refl (good-run (group d ts vs) us e l g)
+  good-bounds (leaf r ts) us e l g = good-punct COLON refl (good-run (leaf r ts) us e l g)
+  good-bounds (group d ts vs) us e l g = good-punct COLON refl (good-run (group d ts vs) us e l g)
 
   good-parameter : (p : Parameter) (us : Trees) → Fine m p → Good m us → Good m (parameterThen p us)
   unfolding formOf
-  good-parameter (lifetime n b) us f g = good-mark QUOTE refl
+  good-parameter (lifetime n b) us f g = good-punct QUOTE refl
       (good-name n (f .name) (good-bounds b us (f .run) (f .deep) g))
   good-parameter (constant n t) us f g =
-      good-name CONST refl (good-name n (f .name) (good-mark COLON refl (good-run t us (f .run) (f .deep) g)))
+      good-name CONST refl (good-name n (f .name) (good-punct COLON refl (good-run t us (f .run) (f .deep) g)))
   good-parameter (type n b d) us f g = good-name n (f .name) (good-bounds b us (f .run) (f .deep) g)
 
   good-parted : (first : Bool) {ps : List Parameter} (us : Trees) → AllFine m ps → Good m us
@@ -113,7 +113,7 @@ module _ {m : ℕ} where
   good-parted true us (also {p = p} {ps = ps} f fs) g =
       good-parameter p (partedThen false ps us) f (good-parted false us fs g)
   good-parted false us (also {p = p} {ps = ps} f fs) g =
-      good-mark COMMA refl (good-parameter p (partedThen false ps us) f (good-parted false us fs g))
+      good-punct COMMA refl (good-parameter p (partedThen false ps us) f (good-parted false us fs g))
 
   fine-tokens : {ps : List Parameter} → AllFine m ps → allTokens ps ≡ true
   fine-tokens none = refl
@@ -126,8 +126,8 @@ angled-list : (s : List ℕ) {n : ℕ} {ps : List Parameter} → check s ≡ pas
     → IsList s (angledRows ps)
 angled-list s {ps = ps} c f =
     let last : Trees = leaf (punct GREATER) end in
-    let g = good-mark LESS refl (good-parted true last f
-    (good-mark GREATER refl (record { right = refl; deep = omega arith }))) in
+    let g = good-punct LESS refl (good-parted true last f
+    (good-punct GREATER refl (record { right = refl; deep = omega arith }))) in
     let rows : runRows (angledThen ps end) ≡ angledRows ps =
     ap (λ (rs : List Row). punct LESS ∷ rs) (parted-rows true ps last) in
     let stream = sym (ap (λ (rs : List Row). streams rs .here) (append-nil (angledRows ps)))

@@ -18,7 +18,8 @@ lines-without (b ∷ n) t e = go (eqb LF b) refl e (lines-without n t)
     other q = ne-eqb b LF (λ e. eqb-false LF b q (sym e))
 
     go : (x : Bool) → eqb LF b ≡ x → (x || member LF n) ≡ false
-        → (member LF n ≡ false → lines (n ++ LF ∷ t) ≡ line n (lines t)) → lines (b ∷ n ++ LF ∷ t) ≡ line (b ∷ n) (lines t)
+        → (member LF n ≡ false → lines (n ++ LF ∷ t) ≡ line n (lines t)) → lines (b ∷ n ++ LF ∷ t) ≡ line (b ∷ n)
+        (lines t)
     go true q h k = absurd (true≢false h)
     go false q h k = λ i. byte (other q i) b (k h i)
 

@@ -29,19 +29,19 @@ pub record RunAt (ts b us : Trees) : Type 0 where
   pub roles : List ℕ
   pub alone : isEnd us ≡ false → Alone 0 false b roles
 
--- an optional mark and its run
-pub data MarkedAt (m : ℕ) : Trees → Trees → Trees → Type 0 where
-  none : {ts : Trees} → MarkedAt m ts end ts
-  some : {c : Row} {us b vs : Trees} → isPunct m c ≡ true → RunAt us b vs → MarkedAt m (leaf c us) b vs
+-- an optional separator and its run
+pub data OptionalRun (m : ℕ) : Trees → Trees → Trees → Type 0 where
+  none : {ts : Trees} → OptionalRun m ts end ts
+  some : {c : Row} {us b vs : Trees} → isPunct m c ≡ true → RunAt us b vs → OptionalRun m (leaf c us) b vs
 
 pub data ParameterAt : Trees → Parameter → Trees → Type 0 where
-  lifetime : {q p : Row} {us b vs : Trees} → isPunct QUOTE q ≡ true → isIdent p ≡ true → MarkedAt COLON us b vs
+  lifetime : {q p : Row} {us b vs : Trees} → isPunct QUOTE q ≡ true → isIdent p ≡ true → OptionalRun COLON us b vs
       → ParameterAt (leaf q (leaf p us)) (Parameter.lifetime (p .text) b) vs
-  constant : {q p : Row} {us t vs : Trees} → isWord CONST q ≡ true → isIdent p ≡ true → MarkedAt COLON us t vs
+  constant : {q p : Row} {us t vs : Trees} → isWord CONST q ≡ true → isIdent p ≡ true → OptionalRun COLON us t vs
       → ParameterAt (leaf q (leaf p us)) (Parameter.constant (p .text) t) vs
   bounded : {q c : Row} {us b vs : Trees} → isWord CONST q ≡ false → isIdent q ≡ true → isPunct COLON c ≡ true
       → RunAt us b vs → ParameterAt (leaf q (leaf c us)) (Parameter.type (q .text) b end) vs
-  defaulted : {q : Row} {us d vs : Trees} → isWord CONST q ≡ false → isIdent q ≡ true → MarkedAt EQUALS us d vs
+  defaulted : {q : Row} {us d vs : Trees} → isWord CONST q ≡ false → isIdent q ≡ true → OptionalRun EQUALS us d vs
       → ParameterAt (leaf q us) (Parameter.type (q .text) end d) vs
 
 -- a `,` that may stand
@@ -92,13 +92,13 @@ CutBy ts t = Sound (λ b rs us. (ts ≡ joined b us) × (length rs ≡ size b)) 
 pub run-cut : (row : ℕ) (ts : Trees) → CutBy ts (r.run parameterStops role.bound row ts)
 run-cut row ts = weaken (run-held row ts) (λ b rs us h. (h .0 .cut, h .1))
 
-marked-read : (m row : ℕ) (ts : Trees) → Sound (λ b rs us. MarkedAt m ts b us) (r.marked-run m row ts)
-marked-read m row ts = after-met row (punctIf-sound m row ts) go
+optional-read : (m row : ℕ) (ts : Trees) → Sound (λ b rs us. OptionalRun m ts b us) (r.optional-run m row ts)
+optional-read m row ts = after-met row (punctIf-sound m row ts) go
   where
-    go : {ts : Trees} (t : Bool) (rs : List ℕ) (us : Trees) → g.Mark everything m t ts us rs → (row : ℕ)
-        → Sound (λ b qs vs. MarkedAt m ts b vs) (r.runIf t parameterStops role.bound row us)
-    go true rs us (g.Mark.present e) row = weaken (run-read row us) (λ b qs vs h. some e h)
-    go false rs us (g.Mark.absent e) row = met [] us none
+    go : {ts : Trees} (t : Bool) (rs : List ℕ) (us : Trees) → g.Separator everything m t ts us rs → (row : ℕ)
+        → Sound (λ b qs vs. OptionalRun m ts b vs) (r.runIf t parameterStops role.bound row us)
+    go true rs us (g.Separator.present e) row = weaken (run-read row us) (λ b qs vs h. some e h)
+    go false rs us (g.Separator.absent e) row = met [] us none
 
 -- a parameter, and the `,` that may follow
 data CommaedAt (ts : Trees) : Maybe Parameter → Trees → Type 0 where
@@ -107,11 +107,12 @@ data CommaedAt (ts : Trees) : Maybe Parameter → Trees → Type 0 where
 
 comma-read : (ts : Trees) (p : Parameter) (us : Trees) → ParameterAt ts p us → (row : ℕ)
     → Sound (λ m rs vs. CommaedAt ts m vs) (r.comma p row us)
-comma-read ts p us h row = after-met row (punctIf-sound COMMA row us) (λ t rs vs m row. met [] vs (commaed h (mark m)))
+comma-read ts p us h row =
+    after-met row (punctIf-sound COMMA row us) (λ t rs vs m row. met [] vs (commaed h (separator m)))
   where
-    mark : {t : Bool} {us vs : Trees} {rs : List ℕ} → g.Mark everything COMMA t us vs rs → CommaAt us vs
-    mark (g.Mark.present e) = present e
-    mark (g.Mark.absent e) = absent
+    separator : {t : Bool} {us vs : Trees} {rs : List ℕ} → g.Separator everything COMMA t us vs rs → CommaAt us vs
+    separator (g.Separator.present e) = present e
+    separator (g.Separator.absent e) = absent
 
 -- an ident as a name
 data NameAt : Trees → List ℕ → Trees → Type 0 where
@@ -129,9 +130,9 @@ module _ (q : Row) where
     where
       go : {us : Trees} (n rs : List ℕ) (vs : Trees) → NameAt us n vs → (row : ℕ)
           → Sound (λ p qs ws. ParameterAt (leaf q us) p ws)
-          ((r.marked-run COLON >>= λ b. pure (Parameter.lifetime n b)) row vs)
+          ((r.optional-run COLON >>= λ b. pure (Parameter.lifetime n b)) row vs)
       go n rs vs (name f) row =
-          after-met row (marked-read COLON row vs) (λ b qs ws h row. met [] ws (lifetime e f h))
+          after-met row (optional-read COLON row vs) (λ b qs ws h row. met [] ws (lifetime e f h))
 
   constant-read : (row : ℕ) (us : Trees) → isWord CONST q ≡ true
       → Sound (λ p rs vs. ParameterAt (leaf q us) p vs) (r.constantAfter row us)
@@ -139,20 +140,20 @@ module _ (q : Row) where
     where
       go : {us : Trees} (n rs : List ℕ) (vs : Trees) → NameAt us n vs → (row : ℕ)
           → Sound (λ p qs ws. ParameterAt (leaf q us) p ws)
-          ((r.marked-run COLON >>= λ b. pure (Parameter.constant n b)) row vs)
+          ((r.optional-run COLON >>= λ b. pure (Parameter.constant n b)) row vs)
       go n rs vs (name f) row =
-          after-met row (marked-read COLON row vs) (λ b qs ws h row. met [] ws (constant e f h))
+          after-met row (optional-read COLON row vs) (λ b qs ws h row. met [] ws (constant e f h))
 
   type-read : (row : ℕ) (us : Trees) → isWord CONST q ≡ false → isIdent q ≡ true
       → Sound (λ p rs vs. ParameterAt (leaf q us) p vs) (r.typeAfter (q .text) row us)
   type-read row us e f = after-met row (punctIf-sound COLON row us) go
     where
-      go : {us : Trees} (t : Bool) (rs : List ℕ) (vs : Trees) → g.Mark everything COLON t us vs rs → (row : ℕ)
+      go : {us : Trees} (t : Bool) (rs : List ℕ) (vs : Trees) → g.Separator everything COLON t us vs rs → (row : ℕ)
           → Sound (λ p qs ws. ParameterAt (leaf q us) p ws) (r.typeRuns (q .text) t row vs)
-      go true rs vs (g.Mark.present a) row =
+      go true rs vs (g.Separator.present a) row =
           after-met row (run-read row vs) (λ b qs ws h row. met [] ws (bounded e f a h))
-      go false rs vs (g.Mark.absent a) row =
-          after-met row (marked-read EQUALS row vs) (λ b qs ws h row. met [] ws (defaulted e f h))
+      go false rs vs (g.Separator.absent a) row =
+          after-met row (optional-read EQUALS row vs) (λ b qs ws h row. met [] ws (defaulted e f h))
 
   -- the first row of a parameter is taken
   first-read : {us : Trees} (m : Reader Parameter) (row : ℕ)

@@ -26,7 +26,7 @@ use Rattle.writing.specs.ReadBack.{behindStruct, unitStruct, withCommas,
 use Rattle.writing.proofs.Joined.{tokens}
 use Rattle.writing.proofs.Written.{partedThen, allTokens, behind-struct}
 use Rattle.writing.proofs.Runs.{AFTER}
-use Rattle.writing.proofs.Reread.{Whole, AllWhole, typeConst, anyConst, reread, refused, obeys}
+use Rattle.writing.proofs.Reread.{StandsAlone, AllStandAlone, typeConst, anyConst, reread, refused, obeys}
 use Rattle.writing.proofs.Reread as reread
 use Rattle.writing.proofs.Balanced.{sound-tokens}
 use Rattle.writing.proofs.Declared.{AllDeclared, declared-of}
@@ -69,7 +69,7 @@ same-roles {ts} {rs = rs} {qs = qs} e h =
 
 -- ## Any parameters whose runs are whole
 
-read-back : (ps : List Parameter) → AllWhole ps → allTokens ps ≡ true
+read-back : (ps : List Parameter) → AllStandAlone ps → allTokens ps ≡ true
     → ReadBack (anyConst ps || lastMinus ps) (angledRows ps) (map withoutDefault ps)
 read-back ps w t = record { same = reads; other = refuses }
   where
@@ -103,9 +103,9 @@ read-back ps w t = record { same = reads; other = refuses }
 
 -- ## The parameters of a declaration that was read
 
-whole-runs : {ts : Trees} {ps : List Parameter} → AllDeclared ts ps → AllWhole ps
-whole-runs AllDeclared.none = AllWhole.none
-whole-runs (AllDeclared.also d ds) = AllWhole.also (d .whole) (whole-runs ds)
+runs-alone : {ts : Trees} {ps : List Parameter} → AllDeclared ts ps → AllStandAlone ps
+runs-alone AllDeclared.none = AllStandAlone.none
+runs-alone (AllDeclared.also d ds) = AllStandAlone.also (d .stands) (runs-alone ds)
 
 token-runs : {ts : Trees} {ps : List Parameter} → AllDeclared ts ps → allTokens ps ≡ true
 token-runs AllDeclared.none = refl
@@ -117,13 +117,13 @@ no-const (AllDeclared.also {p = p} {ps = ps} d ds) = or-last (typeConst p) (anyC
 
 -- ## Parameters without runs
 
-whole-end : Whole end
-whole-end = record { roles = []; alone = g.Run.ended refl }
+end-alone : StandsAlone end
+end-alone = record { roles = []; alone = g.Run.ended refl }
 
 module _ {A : Type 0} (f : A → Parameter) (e : (a : A) → runOf (f a) ≡ end) where
-  bare-whole : (xs : List A) {qs : List Parameter} → AllWhole qs → AllWhole (map f xs ++ qs)
-  bare-whole [] w = w
-  bare-whole (x ∷ xs) w = AllWhole.also (subst Whole (sym (e x)) whole-end) (bare-whole xs w)
+  bare-alone : (xs : List A) {qs : List Parameter} → AllStandAlone qs → AllStandAlone (map f xs ++ qs)
+  bare-alone [] w = w
+  bare-alone (x ∷ xs) w = AllStandAlone.also (subst StandsAlone (sym (e x)) end-alone) (bare-alone xs w)
 
   bare-tokens : (xs : List A) (qs : List Parameter) → allTokens qs ≡ true → allTokens (map f xs ++ qs) ≡ true
   bare-tokens [] qs h = h
@@ -185,9 +185,9 @@ no-added : (ls : List (List ℕ)) (qs : List Parameter) → anyConst (map addedL
 no-added [] qs = refl
 no-added (l ∷ ls) qs = no-added ls qs
 
-append-whole : {ps qs : List Parameter} → AllWhole ps → AllWhole qs → AllWhole (ps ++ qs)
-append-whole AllWhole.none v = v
-append-whole (AllWhole.also w ws) v = AllWhole.also w (append-whole ws v)
+append-alone : {ps qs : List Parameter} → AllStandAlone ps → AllStandAlone qs → AllStandAlone (ps ++ qs)
+append-alone AllStandAlone.none v = v
+append-alone (AllStandAlone.also w ws) v = AllStandAlone.also w (append-alone ws v)
 
 append-tokens : (ps qs : List Parameter) → allTokens ps ≡ true → allTokens qs ≡ true → allTokens (ps ++ qs) ≡ true
 append-tokens [] qs h k = k
@@ -199,12 +199,12 @@ module _ {ts : Trees} {ps : List Parameter} (d : AllDeclared ts ps) where
   impl-back =
       subst (λ (b : Bool). ReadBack b (angledRows ps) (map withoutDefault ps))
       (or-last (anyConst ps) (lastMinus ps) (no-const d))
-      (read-back ps (whole-runs d) (token-runs d))
+      (read-back ps (runs-alone d) (token-runs d))
 
   type-back : ReadBack (constNamed ps) (angledRows (names ps)) (names ps)
   type-back =
       let bare = append-nil (names ps) in
-      let whole = subst AllWhole bare (bare-whole named named-run ps AllWhole.none) in
+      let stands = subst AllStandAlone bare (bare-alone named named-run ps AllStandAlone.none) in
       let tokens = sym (ap allTokens bare) ∙ bare-tokens named named-run ps [] refl in
       let last = sym (ap lastMinus bare) ∙ bare-last named named-run ps [] in
       let values = sym (ap (map withoutDefault) bare) ∙ without-default named named-default ps [] ∙ bare in
@@ -212,7 +212,7 @@ module _ {ts : Trees} {ps : List Parameter} (d : AllDeclared ts ps) where
       ap (λ (b : Bool). anyConst (names ps) || b) last ∙ or-false (anyConst (names ps)) ∙ named-const d in
       subst (λ (qs : List Parameter). ReadBack (constNamed ps) (angledRows (names ps)) qs) values
       (subst (λ (b : Bool). ReadBack b (angledRows (names ps)) (map withoutDefault (names ps))) exception
-      (read-back (names ps) whole tokens))
+      (read-back (names ps) stands tokens))
 
   module _ (ls us : List (List ℕ)) where
     abbrev all : List Parameter
@@ -243,11 +243,11 @@ module _ {ts : Trees} {ps : List Parameter} (d : AllDeclared ts ps) where
         (map addedLifetime ls ++ (map withoutDefault ps ++ map addedType us))
     additional-back =
         let bare = append-nil (map addedType us) in
-        let types = subst AllWhole bare (bare-whole addedType (λ t. refl) us AllWhole.none) in
+        let types = subst AllStandAlone bare (bare-alone addedType (λ t. refl) us AllStandAlone.none) in
         let tokens = sym (ap allTokens bare) ∙ bare-tokens addedType (λ t. refl) us [] refl in
         subst (λ (qs : List Parameter). ReadBack (addedException us ps) (angledRows all) qs) values
         (subst (λ (b : Bool). ReadBack b (angledRows all) (map withoutDefault all)) exception
-        (read-back all (bare-whole addedLifetime (λ t. refl) ls (append-whole (whole-runs d) types))
+        (read-back all (bare-alone addedLifetime (λ t. refl) ls (append-alone (runs-alone d) types))
         (bare-tokens addedLifetime (λ t. refl) ls (ps ++ map addedType us)
         (append-tokens ps (map addedType us) (token-runs d) tokens))))
 

@@ -18,7 +18,7 @@ use Rattle.reading.proofs.Frame.{framed-cases}
 use Rattle.reading.proofs.Places.{check-read, item-read}
 use Rattle.output.specs.Answer.{Answer, wrote, refused, fitted}
 use Rattle.output.proofs.Answers.{fitted-refused}
-use Rattle.writing.specs.Answer.{Writer, text, itemAnswer, whole, answer, writeNumber}
+use Rattle.writing.specs.Answer.{Writer, text, itemAnswer, fullAnswer, answer, writeNumber}
 
 -- ## By the list check
 
@@ -27,12 +27,12 @@ module _ (w : Writer) (s : List ℕ) (n : ℕ) where
   fittedBy a = fitted n (framed refused (λ rows. false) (itemAnswer w) s a)
 
   pub write-checked : {m p : ℕ} → list.check s ≡ list.Answer.refused m p → answer w s n ≡ refused m p
-  unfolding answer whole
+  unfolding answer fullAnswer
   write-checked e = ap fittedBy e
 
   pub write-read : {rows : ℕ} → list.check s ≡ list.Answer.passed rows
       → answer w s n ≡ fitted n (itemAnswer w (item 0 (at s FIRST-ROW .here)))
-  unfolding answer whole
+  unfolding answer fullAnswer
   write-read e = ap fittedBy e
 
 -- ## Refusals
@@ -71,7 +71,7 @@ module _ (w : Writer) (s : List ℕ) where
 
   -- in an output of n bytes
   pub write-refusal : (n : ℕ) → Told (answer w s n)
-  unfolding answer whole
+  unfolding answer fullAnswer
   write-refusal n =
-      fitted-told n (whole w s) (framed-cases Told refused (λ rows. false) (itemAnswer w) s
+      fitted-told n (fullAnswer w s) (framed-cases Told refused (λ rows. false) (itemAnswer w) s
       (λ m o e. read-told m o (check-read s m o e)) (λ rows e h. at-end 8 refl) (λ rows e h t i. item-told rows e t i))

@@ -25,14 +25,14 @@ use Rattle.writing.proofs.Runs.{Alone, ends-in-minus, before-comma, bef
 use Rattle.writing.proofs.Written.{boundsThen, parameterThen, partedThen}
 
 -- a run by itself
-pub record Whole (b : Trees) : Type 0 where
+pub record StandsAlone (b : Trees) : Type 0 where
   pub roles : List ℕ
   pub alone : Alone 0 false b roles
 
 -- the parameters' runs
-pub data AllWhole : List Parameter → Type 0 where
-  none : AllWhole []
-  also : {p : Parameter} {ps : List Parameter} → Whole (runOf p) → AllWhole ps → AllWhole (p ∷ ps)
+pub data AllStandAlone : List Parameter → Type 0 where
+  none : AllStandAlone []
+  also : {p : Parameter} {ps : List Parameter} → StandsAlone (runOf p) → AllStandAlone ps → AllStandAlone (p ∷ ps)
 
 -- a type of the name `const`, which is read as a const
 abbrev pub typeConst : Parameter → Bool
@@ -71,9 +71,9 @@ module _ (us vs : Trees) (cs : List ℕ) (comma : (p : Parameter) (row : ℕ) �
     (angle row : ℕ) where
   -- after two rows of name
   named-here : (ts : Trees) (f : Trees → Parameter) {b : Trees} {bs : List ℕ}
-      → r.marked-run COLON (row + 1 + 1) ts ≡ took b bs us
+      → r.optional-run COLON (row + 1 + 1) ts ≡ took b bs us
       → Read (onward (role.parameter-name ∷ []) (after (row + 1) (onward (role.parameter-name ∷ [])
-      (after (row + 1 + 1) (r.marked-run COLON (row + 1 + 1) ts) (λ b. pure (f b)))) r.comma)) (f b) vs
+      (after (row + 1 + 1) (r.optional-run COLON (row + 1 + 1) ts) (λ b. pure (f b)))) r.comma)) (f b) vs
   named-here ts f {b = b} {bs = bs} e = (
     _,
     ap (λ (t : Took Trees). onward (role.parameter-name ∷ []) (after (row + 1) (onward (role.parameter-name ∷ [])
@@ -118,7 +118,7 @@ pub record Stopping (q : Row) (us b : Trees) : Type 0 where
       → g.Run allowed parameterStops role.bound 0 false (joined b (leaf q us)) (leaf q us) roles
   pub counted : length roles ≡ size b
 
-stop-comma : {b : Trees} (us : Trees) → Whole b → Stopping (punct COMMA) us b
+stop-comma : {b : Trees} (us : Trees) → StandsAlone b → Stopping (punct COMMA) us b
 stop-comma us w = record {
   colon = refl;
   equals = refl;
@@ -127,7 +127,7 @@ stop-comma us w = record {
   counted = alone-length (w .alone);
 }
 
-stop-angle : {b : Trees} (us : Trees) → Whole b → endsInMinus b ≡ false → Stopping (punct GREATER) us b
+stop-angle : {b : Trees} (us : Trees) → StandsAlone b → endsInMinus b ≡ false → Stopping (punct GREATER) us b
 stop-angle {b} us w e = record {
   colon = refl;
   equals = refl;
@@ -138,8 +138,8 @@ stop-angle {b} us w e = record {
 
 module _ (q : Row) (us vs : Trees) (cs : List ℕ)
     (comma : (p : Parameter) (row : ℕ) → r.comma p row (leaf q us) ≡ took (one p) cs vs) (angle row : ℕ) where
-  no-mark : (m : ℕ) → isPunct m q ≡ false → (row : ℕ) → r.marked-run m row (leaf q us) ≡ took end [] (leaf q us)
-  no-mark m e row =
+  no-separator : (m : ℕ) → isPunct m q ≡ false → (row : ℕ) → r.optional-run m row (leaf q us) ≡ took end [] (leaf q us)
+  no-separator m e row =
       ap (λ (t : Took Bool). after row t (λ t. r.runIf t parameterStops role.bound)) (passed-over (isPunct m q) _ _ e)
 
   with-run : (p : Parameter) → Stopping q us (runOf p) → typeConst p ≡ false
@@ -151,7 +151,8 @@ module _ (q : Row) (us vs : Trees) (cs : List ℕ)
   parameter-here : (p : Parameter) → Stopping q us (runOf p) → typeConst p ≡ false
       → Read (r.parameter angle row (parameterThen p (leaf q us))) (withoutDefault p) vs
   parameter-here (lifetime n end) s c =
-      named-here (leaf q us) vs cs comma angle row (leaf q us) (lifetime n) (no-mark COLON (s .colon) (row + 1 + 1))
+      named-here (leaf q us) vs cs comma angle row (leaf q us) (lifetime n)
+      (no-separator COLON (s .colon) (row + 1 + 1))
   parameter-here (lifetime n (leaf p ts)) s c = with-run (lifetime n (leaf p ts)) s c
   parameter-here (lifetime n (group d ts ws)) s c = with-run (lifetime n (group d ts ws)) s c
   parameter-here (constant n t) s c = with-run (constant n t) s c
@@ -159,7 +160,7 @@ module _ (q : Row) (us vs : Trees) (cs : List ℕ)
       typed-here (leaf q us) vs cs comma angle row (leaf q us) n {rs = []} c
       (ap (λ (t : Took Bool). after (row + 1) t (r.typeRuns n)) (passed-over (isPunct COLON q) _ _ (s .colon))
       ∙ ap (λ (t : Took Trees). onward [] (after (row + 1 + 0) t (λ d. pure (type n end d))))
-      (no-mark EQUALS (s .equals) (row + 1 + 0)))
+      (no-separator EQUALS (s .equals) (row + 1 + 0)))
   parameter-here (type n (leaf p ts) d) s c = with-run (type n (leaf p ts) d) s c
   parameter-here (type n (group e ts ws) d) s c = with-run (type n (group e ts ws) d) s c
 
@@ -178,7 +179,7 @@ module _ (angle : ℕ) where
       ∙ ap (λ (t : Took (Maybe Parameter)). after row t (more (every (r.parameter angle)))) e
       ∙ ap (λ (t : Took (List Parameter)). onward rs (after (row + length rs) t (λ ps. pure (p ∷ ps)))) f
 
-  pub reread : (ps : List Parameter) → AllWhole ps → anyConst ps ≡ false → lastMinus ps ≡ false → (row : ℕ)
+  pub reread : (ps : List Parameter) → AllStandAlone ps → anyConst ps ≡ false → lastMinus ps ≡ false → (row : ℕ)
       → (rs : List ℕ) × (every (r.parameter angle) row (partedThen true ps AFTER) ≡ took
       (map withoutDefault ps) rs REST)
   reread [] w c l row = (_, every-step (r.parameter angle) (parameter-round angle) row AFTER)
@@ -226,7 +227,7 @@ module _ (angle : ℕ) where
       at-once row (leaf (ident n) (leaf q us))
       (chosen (same n CONST) _ _ c
       ∙ ap (λ (t : Took (List ℕ)). onward (role.parameter-name ∷ []) (after (row + 1) (after (row + 1) t
-      (λ n. r.marked-run COLON >>= λ t. pure (constant n t))) r.comma)) (passed-over (isIdent q) _ _ i))
+      (λ n. r.optional-run COLON >>= λ t. pure (constant n t))) r.comma)) (passed-over (isIdent q) _ _ i))
   const-refused (type n (leaf p ts) d) q us c i row =
       at-once row (leaf (ident n) (leaf (punct COLON) (joined (leaf p ts) (leaf q us)))) (chosen (same n CONST) _ _ c)
   const-refused (type n (group e ts vs) d) q us c i row =
@@ -234,7 +235,7 @@ module _ (angle : ℕ) where
       (chosen (same n CONST) _ _ c)
 
   -- a run that ends in `-`: the `>` belongs to it, and the stream gives out
-  minus-refused : (p : Parameter) → Whole (runOf p) → typeConst p ≡ false → endsInMinus (runOf p) ≡ true → (row : ℕ)
+  minus-refused : (p : Parameter) → StandsAlone (runOf p) → typeConst p ≡ false → endsInMinus (runOf p) ≡ true → (row : ℕ)
       → Stopped (every (r.parameter angle) row (parameterThen p AFTER))
   minus-refused p w c e row =
       let i = before-arrow (sym (ends-in-minus (runOf p)) ∙ e) (w .alone) in
@@ -252,7 +253,7 @@ module _ (angle : ℕ) where
       some-run (type n (leaf q ts) d) e = refl
       some-run (type n (group b ts us) d) e = refl
 
-  pub refused : (ps : List Parameter) → AllWhole ps → (anyConst ps || lastMinus ps) ≡ true → (row : ℕ)
+  pub refused : (ps : List Parameter) → AllStandAlone ps → (anyConst ps || lastMinus ps) ≡ true → (row : ℕ)
       → Stopped (every (r.parameter angle) row (partedThen true ps AFTER))
   refused [] w e row = absurd (false≢true e)
   refused (p ∷ []) (also w ws) e row = by (typeConst p) refl
@@ -299,15 +300,15 @@ module _ (q : Row) (us : Trees) where
   parameter-obeys (type n (group e ts vs) d) s c =
       (role.parameter-name ∷ role.separator ∷ s .roles, g.Parameter.bounded c refl refl (s .run withCommas))
 
-pub obeys : (ps : List Parameter) → AllWhole ps → anyConst ps ≡ false → lastMinus ps ≡ false
+pub obeys : (ps : List Parameter) → AllStandAlone ps → anyConst ps ≡ false → lastMinus ps ≡ false
     → (rs : List ℕ) × g.Parameters withCommas (partedThen true ps AFTER) REST rs
 obeys [] w c l = (role.angle ∷ [], g.Parameters.close refl)
 obeys (p ∷ []) (also w ws) c l =
     let i = parameter-obeys (punct GREATER) REST p (stop-angle REST w l) (or-parts _ _ c .0) in
-    (_, g.Parameters.next (i .1) (g.Mark.absent refl) refl refl (g.Parameters.close refl))
+    (_, g.Parameters.next (i .1) (g.Separator.absent refl) refl refl (g.Parameters.close refl))
 obeys (p ∷ o ∷ ps) (also w ws) c l =
     let us = partedThen true (o ∷ ps) AFTER in
     let n = or-parts (typeConst p) (anyConst (o ∷ ps)) c in
     let i = parameter-obeys (punct COMMA) us p (stop-comma us w) (n .0) in
     let j = obeys (o ∷ ps) ws (n .1) l in
-    (_, g.Parameters.next (i .1) (g.Mark.present refl) refl refl (j .1))
+    (_, g.Parameters.next (i .1) (g.Separator.present refl) refl refl (j .1))

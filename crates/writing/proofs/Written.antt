@@ -40,24 +40,24 @@ angledThen ps us = leaf (punct LESS) (partedThen true ps (leaf (punct GREATER) u
 abbrev put : (Trees → Trees) → Streams → Streams
 put f st = record { here = f (st .here); outer = st .outer }
 
-abbrev mark : Row → Streams → Streams
-mark r st = put (leaf r) st
+abbrev put-leaf : Row → Streams → Streams
+put-leaf r st = put (leaf r) st
 
 streams-bounds : (b : Trees) (rs : List Row) → tokens b ≡ true
     → streams (bounds b ++ rs) ≡ put (boundsThen b) (streams rs)
 unfolding before
 streams-bounds end rs e = refl
-streams-bounds (leaf r us) rs e = ap (mark (punct COLON)) (streams-rows (leaf r us) rs e)
-streams-bounds (group d ts us) rs e = ap (mark (punct COLON)) (streams-rows (group d ts us) rs e)
+streams-bounds (leaf r us) rs e = ap (put-leaf (punct COLON)) (streams-rows (leaf r us) rs e)
+streams-bounds (group d ts us) rs e = ap (put-leaf (punct COLON)) (streams-rows (group d ts us) rs e)
 
 streams-parameter : (p : Parameter) (rs : List Row) → tokens (runOf p) ≡ true
     → streams (parameterRows p ++ rs) ≡ put (parameterThen p) (streams rs)
 unfolding before
 streams-parameter (lifetime n b) rs e =
-    ap (λ (st : Streams). mark (punct QUOTE) (mark (ident n) st)) (streams-bounds b rs e)
+    ap (λ (st : Streams). put-leaf (punct QUOTE) (put-leaf (ident n) st)) (streams-bounds b rs e)
 streams-parameter (constant n t) rs e =
-    ap (λ (st : Streams). mark (ident CONST) (mark (ident n) (mark (punct COLON) st))) (streams-rows t rs e)
-streams-parameter (type n b d) rs e = ap (mark (ident n)) (streams-bounds b rs e)
+    ap (λ (st : Streams). put-leaf (ident CONST) (put-leaf (ident n) (put-leaf (punct COLON) st))) (streams-rows t rs e)
+streams-parameter (type n b d) rs e = ap (put-leaf (ident n)) (streams-bounds b rs e)
 
 -- the runs of all parameters are tokens
 abbrev pub allTokens : List Parameter → Bool
@@ -75,7 +75,7 @@ streams-parted true (p ∷ ps) rs e =
     ∙ ap (put (parameterThen p)) (streams-parted false ps rs (q .1))
 streams-parted false (p ∷ ps) rs e =
     let q = and-parts (tokens (runOf p)) (allTokens ps) e in
-    ap (mark (punct COMMA)) (ap streams (append-assoc (parameterRows p) (parted false ps) rs)
+    ap (put-leaf (punct COMMA)) (ap streams (append-assoc (parameterRows p) (parted false ps) rs)
     ∙ streams-parameter p (parted false ps ++ rs) (q .0)
     ∙ ap (put (parameterThen p)) (streams-parted false ps rs (q .1)))
 
@@ -83,7 +83,7 @@ pub streams-angled : (ps : List Parameter) (rs : List Row) → allTokens ps ≡ 
     → streams (angledRows ps ++ rs) ≡ put (angledThen ps) (streams rs)
 unfolding before
 streams-angled ps rs e =
-    ap (mark (punct LESS)) (ap streams (append-assoc (parted true ps) (punct GREATER ∷ []) rs)
+    ap (put-leaf (punct LESS)) (ap streams (append-assoc (parted true ps) (punct GREATER ∷ []) rs)
     ∙ streams-parted true ps (punct GREATER ∷ rs) e)
 
 -- put behind `struct` and a name, before `;`

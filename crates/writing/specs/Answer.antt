@@ -45,12 +45,12 @@ itemAnswer w (took d rs us) = cond (w .right) (wrote (text w d)) (refused 30 lis
 itemAnswer w (stopped c n p) = refused n p
 
 -- for a list, where there is room
-unfoldable pub whole : Writer → List ℕ → Answer
-whole w s = framed refused (λ rows. false) (itemAnswer w) s (list.check s)
+unfoldable pub fullAnswer : Writer → List ℕ → Answer
+fullAnswer w s = framed refused (λ rows. false) (itemAnswer w) s (list.check s)
 
 -- for a list and an output of n bytes
 unfoldable pub answer : Writer → List ℕ → ℕ → Answer
-answer w s n = fitted n (whole w s)
+answer w s n = fitted n (fullAnswer w s)
 
 -- the numbers of a writer's refusals
 abbrev pub writeNumber : ℕ → Bool
@@ -75,6 +75,6 @@ mostAdded l t = MOST + (12 * l + 8 * t)
 
 -- a writer that never needs more than `most` bytes, of a list s and an output of n bytes
 pub record Fits (w : Writer) (most : ℕ) (s : List ℕ) (n : ℕ) : Type 0 where
-  pub longest : (t : List ℕ) → whole w s ≡ wrote t → length t ≤ most
+  pub longest : (t : List ℕ) → fullAnswer w s ≡ wrote t → length t ≤ most
   -- an output of that length has room
-  pub room : most ≤ n → answer w s n ≡ whole w s
+  pub room : most ≤ n → answer w s n ≡ fullAnswer w s

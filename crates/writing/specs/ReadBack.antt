@@ -1,7 +1,7 @@
 -- How what was written reads, put behind `struct` and a name, before `;` (document 01, "Role grammar"; GenericParams of
 -- the Reference). Limits aside: it is read as a stream.
 use mathlib.Core.Path.{_≡_}
-use mathlib.Core.Bool.{Bool, true, false, cond, _||_}
+use mathlib.Core.Bool.{Bool, true, false, _||_}
 use mathlib.Core.List.{List, [], _∷_, _++_, map}
 use Prim.Native.Nat.{ℕ}
 use Rattle.token_list.specs.Byte.{SEMICOLON, MINUS}

@@ -1,4 +1,4 @@
-use mathlib.Core.Path.{refl, sym, _∙_, ap}
+use mathlib.Core.Path.{sym, _∙_, ap}
 use Rattle.token_list.specs.Contract.{checked}
 use Rattle.exports.specs.Code.{code, checkCase}
 use Rattle.exports.proofs.Codes.{coded-as, checked-told, check-small}
@@ -22,15 +22,17 @@ coded-requires c κs =
 
 returns : tie.Need-returns
 returns c =
-    let s = c .before .before .before .before .before .args .list .now in
+    let args = c .before .before .before .before .before .args in
+    let s = args .list .now in
     let check = c .before .before .before .check in
     let answer = sym (ap checked (c .before .rows .given .1)) ∙ check .ensures .answer in
     coded-as (checked-told s) (ap (λ a. code (checkCase a)) answer)
 
 returns-2 : tie.Need-returns-2
 returns-2 c =
-    let s = c .before .before .before .before .before .before .args .list .now in
+    let args = c .before .before .before .before .before .before .args in
     let check = c .before .before .before .before .check in
+    let s = args .list .now in
     let answer = sym (ap checked (c .before .before .r .given .1)) ∙ check .ensures .answer in
     coded-as (checked-told s) (c .coded .ensures ∙ ap (λ a. code (checkCase a)) answer)
 

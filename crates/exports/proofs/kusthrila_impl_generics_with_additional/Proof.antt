@@ -15,7 +15,8 @@ slice-aggregate-impl-generics-with-additional :
     tie.Need-slice-aggregate-impl-generics-with-additional
 slice-aggregate-impl-generics-with-additional c =
     let args = c .before .before .before .before .before .before .args in
-    used-length (withAdditional (args .lifetimes .now) (args .types .now)) (args .list .now) (args .out .now) _ (c .before .used .ensures)
+    used-length (withAdditional (args .lifetimes .now) (args .types .now)) (args .list .now) (args .out .now) _
+    (c .before .used .ensures)
 
 impl-generics-with-additional-requires : tie.Need-impl-generics-with-additional-requires
 impl-generics-with-additional-requires c κs = search needs
@@ -23,7 +24,9 @@ impl-generics-with-additional-requires c κs = search needs
 written-requires : tie.Need-written-requires
 written-requires c κs =
     let args = c .before .before .before .before .before .before .before .before .before .args in
-    generated-low (withAdditional (args .lifetimes .now) (args .types .now)) (args .list .now) (args .out .now) _ (c .before .before .before .before .used .ensures) (c .before .before .impl-generics-with-additional .ensures)
+    let used = c .before .before .before .before .used in
+    generated-low (withAdditional (args .lifetimes .now) (args .types .now)) (args .list .now) (args .out .now) _
+    (used .ensures) (c .before .before .impl-generics-with-additional .ensures)
 
 same-length : tie.Need-same-length
 same-length c = search needs
@@ -31,7 +34,9 @@ same-length c = search needs
 returns : tie.Need-returns
 returns c =
     let args = c .before .before .before .before .before .before .before .before .before .before .args in
-    generated-into (withAdditional (args .lifetimes .now) (args .types .now)) (args .list .now) (args .out .now) _ (c .before .before .before .before .before .used .ensures) (c .before .before .before .impl-generics-with-additional .ensures) (c .written .ensures)
+    let used = c .before .before .before .before .before .used in
+    generated-into (withAdditional (args .lifetimes .now) (args .types .now)) (args .list .now) (args .out .now) _
+    (used .ensures) (c .before .before .before .impl-generics-with-additional .ensures) (c .written .ensures)
 
 pub kusthrila-impl-generics-with-additional-spec : {M : Type 1} → statement M
 kusthrila-impl-generics-with-additional-spec =

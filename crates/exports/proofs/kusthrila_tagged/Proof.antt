@@ -24,9 +24,10 @@ enum-known-r c = search needs
 
 coded-requires : tie.Need-coded-requires
 coded-requires c κs =
-    let r = c .before .r in
     let parse-tagged-attribute = c .before .before .before .before .before .parse-tagged-attribute in
-    let earlier = c .before .before .before .before .before in
+    let before = c .before .before .before .before .before in
+    let r = c .before .r in
+    let earlier = before in
     let args = earlier .before .before .before .before .before .args in
     let s = args .list .now in
     let a = answer (args .prefix .now) s (length (args .roles .now)) in
@@ -39,9 +40,9 @@ same-length c = search needs
 
 returns : tie.Need-returns
 returns c =
-    let enum-told = c .enum-told in
-    let parse-tagged-attribute = c .before .before .before .before .parse-tagged-attribute in
     let args = c .before .before .before .before .before .before .before .before .before .args in
+    let parse-tagged-attribute = c .before .before .before .before .parse-tagged-attribute in
+    let enum-told = c .enum-told in
     let s = args .list .now in
     let a = answer (args .prefix .now) s (length (args .roles .now)) in
     let e = parse-tagged-attribute .ensures .0 in
@@ -53,9 +54,9 @@ same-length-2 c = search needs
 
 returns-2 : tie.Need-returns-2
 returns-2 c =
-    let enum-told2 = c .enum-told2 in
-    let parse-tagged-attribute = c .before .before .before .before .parse-tagged-attribute in
     let args = c .before .before .before .before .before .before .before .before .before .args in
+    let parse-tagged-attribute = c .before .before .before .before .parse-tagged-attribute in
+    let enum-told2 = c .enum-told2 in
     let s = args .list .now in
     let a = answer (args .prefix .now) s (length (args .roles .now)) in
     let e = parse-tagged-attribute .ensures .0 in
@@ -67,10 +68,11 @@ same-length-3 c = search needs
 
 returns-3 : tie.Need-returns-3
 returns-3 c =
+    let parse-tagged-attribute = c .before .before .before .before .before .before .parse-tagged-attribute in
+    let before = c .before .before .before .before .before .before in
     let coded = c .coded in
     let r = c .before .before .r in
-    let parse-tagged-attribute = c .before .before .before .before .before .before .parse-tagged-attribute in
-    let earlier = c .before .before .before .before .before .before in
+    let earlier = before in
     let args = earlier .before .before .before .before .before .args in
     let s = args .list .now in
     let a = answer (args .prefix .now) s (length (args .roles .now)) in

@@ -21,7 +21,9 @@ type-generics-requires c κs = search needs
 written-requires : tie.Need-written-requires
 written-requires c κs =
     let args = c .before .before .before .before .before .before .before .args in
-    generated-low typeGenerics (args .list .now) (args .out .now) _ (c .before .before .before .before .used .ensures) (c .before .before .type-generics .ensures)
+    let used = c .before .before .before .before .used in
+    generated-low typeGenerics (args .list .now) (args .out .now) _ (used .ensures)
+    (c .before .before .type-generics .ensures)
 
 same-length : tie.Need-same-length
 same-length c = search needs
@@ -29,7 +31,9 @@ same-length c = search needs
 returns : tie.Need-returns
 returns c =
     let args = c .before .before .before .before .before .before .before .before .args in
-    generated-into typeGenerics (args .list .now) (args .out .now) _ (c .before .before .before .before .before .used .ensures) (c .before .before .before .type-generics .ensures) (c .written .ensures)
+    let used = c .before .before .before .before .before .used in
+    generated-into typeGenerics (args .list .now) (args .out .now) _ (used .ensures)
+    (c .before .before .before .type-generics .ensures) (c .written .ensures)
 
 pub kusthrila-type-generics-spec : {M : Type 1} → statement M
 kusthrila-type-generics-spec =

@@ -20,13 +20,15 @@ enum-known-start c = search needs
 
 mul-result : tie.Need-mul-result
 mul-result c =
-    let place = c .before .before .before .before .before .value-of .ensures .0 in
+    let value-of = c .before .before .before .before .before .value-of in
+    let place = value-of .ensures .0 in
     let range = subst InRange (c .before .start .given .1) (place .range) in
     omega (arith, range .1, range .2)
 
 add-result : tie.Need-add-result
 add-result c =
-    let place = c .before .before .before .before .before .value-of .ensures .0 in
+    let value-of = c .before .before .before .before .before .value-of in
+    let place = value-of .ensures .0 in
     let range = subst InRange (c .before .start .given .1) (place .range) in
     omega (arith, range .1, range .2)
 
@@ -36,7 +38,8 @@ enum-known-r c = search needs
 coded-requires : tie.Need-coded-requires
 coded-requires c κs =
     let args = c .before .before .before .before .before .before .before .before .before .args in
-    let placed = c .before .before .before .before .before .value-of .ensures in
+    let value-of = c .before .before .before .before .before .value-of in
+    let placed = value-of .ensures in
     value-low (args .list .now) (args .position) (args .scratch .now) _ (placed .0) (placed .1) _
     (c .before .r .given .1)
 
@@ -46,7 +49,8 @@ same-length c = search needs
 returns : tie.Need-returns
 returns c =
     let args = c .before .before .before .before .before .before .before .before .args in
-    let placed = c .before .before .before .before .value-of .ensures in
+    let value-of = c .before .before .before .before .value-of in
+    let placed = value-of .ensures in
     value-into (args .list .now) (args .position) (args .scratch .now) _ (placed .0) (placed .1)
     (c .enum-told .given .1) (refl)
 
@@ -56,7 +60,8 @@ same-length-2 c = search needs
 returns-2 : tie.Need-returns-2
 returns-2 c =
     let args = c .before .before .before .before .before .before .before .before .before .args in
-    let placed = c .before .before .before .before .before .value-of .ensures in
+    let value-of = c .before .before .before .before .before .value-of in
+    let placed = value-of .ensures in
     value-into (args .list .now) (args .position) (args .scratch .now) _ (placed .0) (placed .1)
     (c .before .n .given .1) (refl)
 
@@ -66,7 +71,8 @@ same-length-3 c = search needs
 returns-3 : tie.Need-returns-3
 returns-3 c =
     let args = c .before .before .before .before .before .before .before .before .before .args in
-    let placed = c .before .before .before .before .before .value-of .ensures in
+    let value-of = c .before .before .before .before .before .value-of in
+    let placed = value-of .ensures in
     value-into (args .list .now) (args .position) (args .scratch .now) _ (placed .0) (placed .1)
     (c .before .start .given .1) (refl)
 
@@ -76,7 +82,8 @@ same-length-4 c = search needs
 returns-4 : tie.Need-returns-4
 returns-4 c =
     let args = c .before .before .before .before .before .before .before .before .before .before .args in
-    let placed = c .before .before .before .before .before .before .value-of .ensures in
+    let value-of = c .before .before .before .before .before .before .value-of in
+    let placed = value-of .ensures in
     value-into (args .list .now) (args .position) (args .scratch .now) _ (placed .0) (placed .1)
     (c .before .before .r .given .1) (c .coded .ensures)
 

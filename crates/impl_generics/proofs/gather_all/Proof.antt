@@ -1,4 +1,4 @@
-use mathlib.Core.Path.{_≡_, _∙_}
+use mathlib.Core.Path.{_≡_}
 use Prim.Native.Nat.{_-_}
 use native.Mathlib.Omega.{arith}
 use borrow.Author.Needs.{needs}
@@ -7,7 +7,8 @@ use Rattle.impl_generics.proofs.gather_all.Statement.{statement}
 use Rattle.impl_generics.proofs.gather_all.Tie as tie
 
 abbrev Inv-loop : tie.InvT-loop
-Inv-loop lifetimes₀ types₀ at₀ count i₀ lifetimes types at i = (length lifetimes ≡ length lifetimes₀) × (length types ≡ length types₀)
+Inv-loop lifetimes₀ types₀ at₀ count i₀ lifetimes types at i =
+    (length lifetimes ≡ length lifetimes₀) × (length types ≡ length types₀)
 
 abbrev μ-loop : tie.MeasureT-loop
 μ-loop lifetimes₀ types₀ at₀ count i₀ lifetimes types at i = count - i

@@ -44,22 +44,27 @@ array-share-prefix-lifetimes c = search needs
 
 slice-aggregate-report : tie.Need-slice-aggregate-report
 slice-aggregate-report c =
-    let gathered = c .before .before .before .before .before .gather-all in
+    let name-buffer = c .before .before .before .before .before .before .before .before .before .name-buffer in
+    let gather-all = c .before .before .before .before .before .gather-all in
+    let gathered = gather-all in
     sym (length-take-le (gathered .result .lifetimes) (gathered .last .0)
-    (omega (arith, gathered .kept .0, c .before .before .before .before .before .before .before .before .before .name-buffer .ensures)))
+    (omega (arith, gathered .kept .0, name-buffer .ensures)))
 
 array-share-prefix-types : tie.Need-array-share-prefix-types
 array-share-prefix-types c = search needs
 
 slice-aggregate-report-2 : tie.Need-slice-aggregate-report-2
 slice-aggregate-report-2 c =
-    let gathered = c .before .before .before .before .before .before .gather-all in
+    let name-buffer2 = c .before .before .before .before .before .before .before .before .before .name-buffer2 in
+    let gather-all = c .before .before .before .before .before .before .gather-all in
+    let gathered = gather-all in
     sym (length-take-le (gathered .result .types) (gathered .last .1 .0)
-    (omega (arith, gathered .kept .1 .0, c .before .before .before .before .before .before .before .before .before .name-buffer2 .ensures)))
+    (omega (arith, gathered .kept .1 .0, name-buffer2 .ensures)))
 
 report-requires : tie.Need-report-requires
 report-requires c κs =
-    let gathered = c .before .before .before .before .before .before .gather-all in (
+    let gather-all = c .before .before .before .before .before .before .gather-all in
+    let gathered = gather-all in (
       omega (arith, length-take (gathered .result .lifetimes) (gathered .last .0)),
       omega (arith, length-take (gathered .result .types) (gathered .last .1 .0)),
     )

@@ -34,8 +34,9 @@ array-share-prefix-out c = search needs
 
 slice-aggregate-write-all : tie.Need-slice-aggregate-write-all
 slice-aggregate-write-all c =
+    let pre = c .before .before .before .before .before .before .before .before .before .before .before .before .pre in
     let d = c .before .before .report-impl-generics in
-    sym (length-take-le (d .result) _ (omega (arith, d .ensures .short, d .kept .1 .1 .1 .0, c .before .before .before .before .before .before .before .before .before .before .before .before .pre)))
+    sym (length-take-le (d .result) _ (omega (arith, d .ensures .short, d .kept .1 .1 .1 .0, pre)))
 
 write-all-requires : tie.Need-write-all-requires
 write-all-requires c κs = search needs

@@ -11,7 +11,8 @@ use Rattle.replay.proofs.compare.Tie as tie
 
 returns : tie.Need-returns
 returns c =
-    let args = c .before .before .before .before .before .args in
+    let args-2 = c .before .before .before .before .before .args in
+    let args = args-2 in
     rw (eq-eqb (args .s .cases) 0 (c .if1 .taken))
 
 sub-if2 : tie.Need-sub-if2
@@ -19,7 +20,8 @@ sub-if2 c = search needs
 
 returns-2 : tie.Need-returns-2
 returns-2 c =
-    let args = c .before .before .before .before .before .before .before .args in
+    let args-2 = c .before .before .before .before .before .before .before .args in
+    let args = args-2 in
     let case = ne-eqb (args .s .cases) 0 (c .before .before .if1 .left) in
     rw (case, lt-ltb (size (args .s .at)) (args .size) (c .if2 .taken))
 
@@ -28,7 +30,8 @@ add-end c = search needs
 
 slice-aggregate-is-right : tie.Need-slice-aggregate-is-right
 slice-aggregate-is-right c =
-    let start = c .before .before .before .before .before .before .before .before in
+    let before = c .before .before .before .before .before .before .before .before in
+    let start = before in
     sym (length-take-le (start .args .s .list) (start .args .list .now) (start .pre .list))
 
 is-right-requires : tie.Need-is-right-requires
@@ -48,7 +51,8 @@ counted-requires c κs = search needs
 
 returns-3 : tie.Need-returns-3
 returns-3 c =
-    let compared = c .before .before .before .before .before in
+    let before = c .before .before .before .before .before in
+    let compared = before in
     let there = compared .before .before in
     let start = there .before .before .before .before .before .before .before in
     let n = start .args .size in

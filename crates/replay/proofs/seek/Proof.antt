@@ -7,13 +7,15 @@ use Rattle.replay.proofs.seek.Tie as tie
 
 returns : tie.Need-returns
 returns c =
-    let args = c .before .before .before .before .before .args in
+    let args-2 = c .before .before .before .before .before .args in
+    let args = args-2 in
     let s = args .s in
     rw (eq-eqb (s .at .from) (s .at .to) (c .before .before .if1 .taken), lt-ltb 0 (s .skip) (c .if2 .taken))
 
 returns-2 : tie.Need-returns-2
 returns-2 c =
-    let args = c .before .before .before .before .before .args in
+    let args-2 = c .before .before .before .before .before .args in
+    let args = args-2 in
     let s = args .s in
     rw (eq-eqb (s .at .from) (s .at .to) (c .before .before .if1 .taken), le-ltb 0 (s .skip) (c .if2 .left))
 
@@ -22,7 +24,8 @@ passed-requires c κs = search needs
 
 returns-3 : tie.Need-returns-3
 returns-3 c =
-    let s = c .before .before .before .before .before .before .args .s in
+    let args = c .before .before .before .before .before .before .args in
+    let s = args .s in
     let more = ne-eqb (s .at .from) (s .at .to) (c .before .before .before .if1 .left) in
     rw (more, lt-ltb 0 (s .skip) (c .before .if3 .taken), c .passed .ensures)
 
@@ -34,8 +37,10 @@ begin-requires c κs = search needs
 
 returns-4 : tie.Need-returns-4
 returns-4 c =
-    let s = c .before .before .before .before .before .before .before .args .s in
-    let more = ne-eqb (s .at .from) (s .at .to) (c .before .before .before .before .if1 .left) in
+    let args = c .before .before .before .before .before .before .before .args in
+    let if1 = c .before .before .before .before .if1 in
+    let s = args .s in
+    let more = ne-eqb (s .at .from) (s .at .to) (if1 .left) in
     let none = le-ltb 0 (s .skip) (c .before .before .if3 .left) in
     rw (more, none) (c .begin .ensures ∙ ap (begun s) (c .before .read-header .ensures))
 

@@ -13,7 +13,8 @@ use Rattle.replay.proofs.take_list.Tie as tie
 
 returns : tie.Need-returns
 returns c =
-    let args = c .before .before .before .before .args in
+    let args-2 = c .before .before .before .before .args in
+    let args = args-2 in
     rw (lt-ltb (length (args .list .now)) (args .size) (c .if1 .taken)) (refl, refl)
 
 sub-if2 : tie.Need-sub-if2
@@ -21,7 +22,8 @@ sub-if2 c = search needs
 
 returns-2 : tie.Need-returns-2
 returns-2 c =
-    let args = c .before .before .before .before .before .before .args in
+    let args-2 = c .before .before .before .before .before .before .args in
+    let args = args-2 in
     let room = le-ltb (length (args .list .now)) (args .size) (c .before .before .if1 .left) in
     rw (room, lt-ltb (size (args .s .at)) (args .size) (c .if2 .taken)) (refl, refl)
 
@@ -54,7 +56,9 @@ same-length c = search needs
 
 returns-3 : tie.Need-returns-3
 returns-3 c =
-    let there = c .before .before .before .before .before .before .before .before in
+    let before = c .before .before .before .before .before .before .before .before in
+    let put-bytes = c .before .before .before .before .before .put-bytes in
+    let there = before in
     let start = there .before .before .before .before .before .before in
     let n = start .args .size in
     let w = start .args .s .at in
@@ -65,7 +69,7 @@ returns-3 c =
     let bytes = take-part buf n (w .from) (w .to) within (placed .room) ∙ drop-of-take (w .from) (w .from + n) buf in
     let state = c .before .moved .ensures in
     let rest = c .before .before .advanced .ensures in
-    let put = c .before .before .before .before .before .put-bytes .ensures .bytes in
+    let put = put-bytes .ensures .bytes in
     rw (le-ltb (length list) n (there .before .before .if1 .left), le-ltb (size w) n (there .if2 .left))
     (rw (state, rest, c .count .ensures), put ∙ ap (sets list 0) (sym bytes))
 

@@ -34,8 +34,9 @@ array-share-prefix-out c = search needs
 
 slice-aggregate-write-all : tie.Need-slice-aggregate-write-all
 slice-aggregate-write-all c =
+    let output = c .before .before .before .before .before .output in
     let d = c .before .before .report-type-generics in
-    sym (length-take-le (d .result) _ (omega (arith, d .ensures .short, d .kept .1 .0, c .before .before .before .before .before .output .ensures)))
+    sym (length-take-le (d .result) _ (omega (arith, d .ensures .short, d .kept .1 .0, output .ensures)))
 
 write-all-requires : tie.Need-write-all-requires
 write-all-requires c κs = search needs

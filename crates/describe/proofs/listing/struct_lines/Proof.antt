@@ -24,7 +24,7 @@ returns c =
     let args = args-2 in
     let named-lines = named-lines-2 in
     λ f k.
-    let a = subst (λ z. fieldsIn z (args .s .now) (args .c) f) (eq-eqb (args .mark) 123 (omega arith)) k in
+    let a = subst (λ z. fieldsIn z (args .s .now) (args .c) f) (eq-eqb (args .delimiter) 123 (omega arith)) k in
     put-as (ap fieldLines (a .1)) (named-lines .ensures (a .0) (a .2))
 
 tuple-lines-requires : tie.Need-tuple-lines-requires
@@ -43,7 +43,7 @@ returns-2 c =
     let args = args-2 in
     let tuple-lines = tuple-lines-2 in
     λ f k.
-    let a = subst (λ z. fieldsIn z (args .s .now) (args .c) f) (ne-eqb (args .mark) 123 (λ e. omega arith)) k in
+    let a = subst (λ z. fieldsIn z (args .s .now) (args .c) f) (ne-eqb (args .delimiter) 123 (λ e. omega arith)) k in
     put-as (ap fieldLines (a .1)) (tuple-lines .ensures (a .0) (a .2))
 
 pub struct-lines-spec : {M : Type 1} → statement M

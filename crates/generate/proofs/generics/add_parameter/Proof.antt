@@ -14,7 +14,8 @@ same-length c = search needs
 returns : tie.Need-returns
 returns c =
     let args = c .before .before .before .before .before .before .before .args in
-    λ a i. as-first (shaped (args .names) a) (c .before .before .before .before .if1 .taken) (c .before .before .append-parameter .ensures a i)
+    let if1 = c .before .before .before .before .if1 in
+    λ a i. as-first (shaped (args .names) a) (if1 .taken) (c .before .before .append-parameter .ensures a i)
 
 punct-requires : tie.Need-punct-requires
 punct-requires c κs = search needs
@@ -28,7 +29,11 @@ same-length-2 c = search needs
 returns-2 : tie.Need-returns-2
 returns-2 c =
     let args = c .before .before .before .before .before .before .before .before .before .before .before .args in
-    λ a i. as-next (shaped (args .names) a) (c .before .before .before .before .before .before .before .before .if1 .left) (then (c .before .before .before .before .before .before .punct .ensures) (c .before .before .append-parameter2 .ensures a i))
+    let if1 = c .before .before .before .before .before .before .before .before .if1 in
+    let punct = c .before .before .before .before .before .before .punct in
+    λ a i.
+    as-next (shaped (args .names) a) (if1 .left)
+    (then (punct .ensures) (c .before .before .append-parameter2 .ensures a i))
 
 pub add-parameter-spec : {M : Type 1} → statement M
 add-parameter-spec =

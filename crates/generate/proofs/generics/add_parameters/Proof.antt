@@ -31,20 +31,33 @@ enum-known-p c = search needs
 
 add-parameter-requires : tie.Need-add-parameter-requires Inv-loop μ-loop
 add-parameter-requires c κs =
-    let passes = c .before .before .before .before .before .before .before .before .before .before .before .before .before .pre .0 .1 in
-    turned-in (c .before .before .before .before .before .before .before .before .loop .inv) _ (turn (c .before .before .p .given .1) (c .before .before .before .before .before .before .parameter .ensures)) passes
+    let back8 = c .before .before .before .before .before .before .before .before in
+    let pre = back8 .before .before .before .before .before .pre in
+    let loop = back8 .loop in
+    let parameter = c .before .before .before .before .before .before .parameter in
+    let passes = pre .0 .1 in
+    turned-in (loop .inv) _ (turn (c .before .before .p .given .1) (parameter .ensures)) passes
 
 loop-less : tie.Need-loop-less Inv-loop μ-loop
 loop-less c =
-    let p = c .before .before .before .before .before .before .p .given in
-    turned-less (c .before .before .before .before .before .before .before .before .before .before .before .before .loop .inv) (p .0 .0) (turn (p .1) (c .before .before .before .before .before .before .before .before .before .before .parameter .ensures))
+    let back8 = c .before .before .before .before .before .before .before .before in
+    let loop = back8 .before .before .before .before .loop in
+    let parameter = back8 .before .before .parameter in
+    let p-2 = c .before .before .before .before .before .before .p in
+    let p = p-2 .given in
+    turned-less (loop .inv) (p .0 .0) (turn (p .1) (parameter .ensures))
 
 loop-again : tie.Need-loop-again Inv-loop μ-loop
 loop-again c =
-    let passes = c .before .before .before .before .before .before .before .before .before .before .before .before .before .before .before .before .before .pre .0 .1 in
-    let parameter = c .before .before .before .before .before .before .before .before .before .before .parameter in
+    let back8 = c .before .before .before .before .before .before .before .before in
+    let back16 = back8 .before .before .before .before .before .before .before .before in
+    let pre = back16 .before .pre in
+    let loop = back8 .before .before .before .before .loop in
+    let parameter = back8 .before .before .parameter in
+    let p = c .before .before .before .before .before .before .p in
+    let passes = pre .0 .1 in
     let add = c .before .before .before .add-parameter in
-    turned-more (c .before .before .before .before .before .before .before .before .before .before .before .before .loop .inv) _ (turn (c .before .before .before .before .before .before .p .given .1) (parameter .ensures)) passes (add .ensures)
+    turned-more (loop .inv) _ (turn (p .given .1) (parameter .ensures)) passes (add .ensures)
     (parameter .kept .1 .1 .0) (add .kept .1 .0)
 
 enum-told : tie.Need-enum-told Inv-loop μ-loop
@@ -61,7 +74,10 @@ same-length-2 c = search needs
 
 returns : tie.Need-returns Inv-loop μ-loop
 returns c =
-    turned-done (c .before .before .before .before .before .before .before .before .before .before .loop .inv) (turn (c .before .before .before .before .enum-told .given .1) (c .before .before .before .before .before .before .before .before .parameter .ensures)) (c .before .before .add-names .ensures)
+    let loop = c .before .before .before .before .before .before .before .before .before .before .loop in
+    let parameter = c .before .before .before .before .before .before .before .before .parameter in
+    let enum-told = c .before .before .before .before .enum-told in
+    turned-done (loop .inv) (turn (enum-told .given .1) (parameter .ensures)) (c .before .before .add-names .ensures)
 
 enum-told-2 : tie.Need-enum-told-2 Inv-loop μ-loop
 enum-told-2 c = search needs
@@ -74,7 +90,9 @@ same-length-4 c = search needs
 
 returns-2 : tie.Need-returns-2 Inv-loop μ-loop
 returns-2 c ps inside =
-    turned-refused (c .before .before .before .before .before .before .loop .inv) (turn (c .enum-told2 .given .1) (c .before .before .before .before .parameter .ensures)) ps inside
+    let loop = c .before .before .before .before .before .before .loop in
+    let parameter = c .before .before .before .before .parameter in
+    turned-refused (loop .inv) (turn (c .enum-told2 .given .1) (parameter .ensures)) ps inside
 
 pub add-parameters-spec : {M : Type 1} → statement M
 add-parameters-spec =

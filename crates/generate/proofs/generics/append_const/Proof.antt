@@ -14,7 +14,9 @@ same-length : tie.Need-same-length
 same-length c = search needs
 
 returns : tie.Need-returns
-returns c = rw (c .before .before .before .before .before .if1 .taken) (c .before .before .ident-str .ensures)
+returns c =
+    let if1 = c .before .before .before .before .before .if1 in
+    rw (if1 .taken) (c .before .before .ident-str .ensures)
 
 returns-2 : tie.Need-returns-2
 returns-2 c = rw (c .if1 .left) (unchanged (omega (arith, c .before .before .good)))

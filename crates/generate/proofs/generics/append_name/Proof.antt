@@ -15,7 +15,9 @@ same-length c = search needs
 
 returns : tie.Need-returns
 returns c =
-    λ a i. lifetime-name a i (sym (c .before .before .before .before .before .is-lifetime .ensures) ∙ c .before .before .before .before .if1 .taken) (c .before .before .lifetime .ensures)
+    let is-lifetime = c .before .before .before .before .before .is-lifetime in
+    let if1 = c .before .before .before .before .if1 in
+    λ a i. lifetime-name a i (sym (is-lifetime .ensures) ∙ if1 .taken) (c .before .before .lifetime .ensures)
 
 ident-requires : tie.Need-ident-requires
 ident-requires c κs = search needs
@@ -25,7 +27,9 @@ same-length-2 c = search needs
 
 returns-2 : tie.Need-returns-2
 returns-2 c =
-    λ a i. ident-name a i (sym (c .before .before .before .before .before .is-lifetime .ensures) ∙ c .before .before .before .before .if1 .left) (c .before .before .ident .ensures)
+    let is-lifetime = c .before .before .before .before .before .is-lifetime in
+    let if1 = c .before .before .before .before .if1 in
+    λ a i. ident-name a i (sym (is-lifetime .ensures) ∙ if1 .left) (c .before .before .ident .ensures)
 
 pub append-name-spec : {M : Type 1} → statement M
 append-name-spec =

@@ -10,7 +10,9 @@ same-length : tie.Need-same-length
 same-length c = search needs
 
 returns : tie.Need-returns
-returns c = λ a i. as-name a (c .before .before .before .before .before .if1 .taken) (c .before .before .append-name .ensures a (i .name))
+returns c =
+    let if1 = c .before .before .before .before .before .if1 in
+    λ a i. as-name a (if1 .taken) (c .before .before .append-name .ensures a (i .name))
 
 append-to-result-with-constraints-requires : tie.Need-append-to-result-with-constraints-requires
 append-to-result-with-constraints-requires c κs = search needs
@@ -20,7 +22,8 @@ same-length-2 c = search needs
 
 returns-2 : tie.Need-returns-2
 returns-2 c =
-    λ a i. as-it-stands a (c .before .before .before .before .if1 .left) (c .before .before .append-to-result-with-constraints .ensures a i)
+    let if1 = c .before .before .before .before .if1 in
+    λ a i. as-it-stands a (if1 .left) (c .before .before .append-to-result-with-constraints .ensures a i)
 
 pub append-parameter-spec : {M : Type 1} → statement M
 append-parameter-spec =

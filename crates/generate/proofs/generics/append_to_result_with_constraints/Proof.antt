@@ -1,5 +1,4 @@
 use mathlib.Core.Path.{sym, subst}
-use Rattle.reading.specs.Declaration.{Parameter}
 use Rattle.parse.specs.Contract.{boundOf}
 use Rattle.generate.specs.Contract.{RunIn}
 use Rattle.generate.specs.declared.generics.ConstraintsAt.{ConstraintsAt}
@@ -22,7 +21,10 @@ constraints-requires c κs = search needs
 
 put-constraints-requires : tie.Need-put-constraints-requires
 put-constraints-requires c κs =
-    let start = c .before .before .before .before .before .before .before .before .before .before .before .before .before .before .before .before .before in
+    let back8 = c .before .before .before .before .before .before .before .before in
+    let back16 = back8 .before .before .before .before .before .before .before .before in
+    let before = back16 .before in
+    let start = before in
     let s = start .args .s .now in
     let same = c .before .before .before .constraints .ensures in
     let pre = start .pre in
@@ -33,12 +35,19 @@ same-length c = search needs
 
 returns : tie.Need-returns
 returns c =
-    let s = c .before .before .before .before .before .before .before .before .before .before .before .before .before .before .before .before .before .before .before .before .args .s .now in
-    let same = c .before .before .before .before .before .before .constraints .ensures in
-    let const = c .before .before .before .before .before .before .before .before .before .before .before .before .before .before .before .is-const .ensures in
+    let back8 = c .before .before .before .before .before .before .before .before in
+    let back16 = back8 .before .before .before .before .before .before .before .before in
+    let args = back16 .before .before .before .before .args in
+    let is-const = back8 .before .before .before .before .before .before .before .is-const in
+    let append-const = back8 .before .before .before .before .before .append-const in
+    let append-name = back8 .before .append-name in
+    let constraints = c .before .before .before .before .before .before .constraints in
+    let s = args .s .now in
+    let same = constraints .ensures in
+    let const = is-const .ensures in
     λ a i.
     let run = subst (λ (x : ConstraintsAt). RunIn s x (boundOf a)) (sym same) (i .run) in
-    by-parts a i const (c .before .before .before .before .before .before .before .before .before .before .before .before .before .append-const .ensures) (c .before .before .before .before .before .before .before .before .before .append-name .ensures a (i .name))
+    by-parts a i const (append-const .ensures) (append-name .ensures a (i .name))
     (c .before .before .put-constraints .ensures (boundOf a) (run .bytes) (run .rows))
 
 pub append-to-result-with-constraints-spec : {M : Type 1} → statement M

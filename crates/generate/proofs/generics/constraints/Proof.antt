@@ -21,7 +21,9 @@ returns-2 : tie.Need-returns-2
 returns-2 c = sym (ap (λ (r : ParameterRun). constraintsOf r (c .before .before .args .next)) (c .enum-told2 .given .1))
 
 returns-3 : tie.Need-returns-3
-returns-3 c = sym (ap (λ (r : ParameterRun). constraintsOf r (c .before .before .before .before .before .args .next)) (c .before .before .before .run .given .1))
+returns-3 c =
+    let args = c .before .before .before .before .before .args in
+    sym (ap (λ (r : ParameterRun). constraintsOf r (args .next)) (c .before .before .before .run .given .1))
 
 pub constraints-spec : {M : Type 1} → statement M
 constraints-spec =

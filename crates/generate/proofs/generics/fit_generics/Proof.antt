@@ -18,8 +18,10 @@ same-length c = search needs
 
 returns : tie.Need-returns
 returns c =
-    let args = c .before .before .before .before .before .before .before .before .before .before .before .before .before .args in
-    let put = c .before .before .before .before .before .put-generics in
+    let back8 = c .before .before .before .before .before .before .before .before in
+    let args = back8 .before .before .before .before .before .args in
+    let put-generics = c .before .before .before .before .before .put-generics in
+    let put = put-generics in
     let f = parametersBy (args .names) (args .lifetimes .now) (args .types .now) in
     λ g k. fits-not (listOf (genericsRows f g)) (put .result .bytes) (put .ensures g k .put .next) (omega arith)
 
@@ -34,12 +36,16 @@ same-length-3 c = search needs
 
 returns-2 : tie.Need-returns-2
 returns-2 c =
-    let args = c .before .before .before .before .before .before .before .before .before .before .before .before .before .before .before .before .before .before .before .before .args in
-    let put = c .before .before .before .before .before .before .before .before .before .before .before .before .put-generics in
+    let back8 = c .before .before .before .before .before .before .before .before in
+    let back16 = back8 .before .before .before .before .before .before .before .before in
+    let args = back16 .before .before .before .before .args in
+    let put = back8 .before .before .before .before .put-generics in
+    let put-generics2 = c .before .before .before .before .put-generics2 in
+    let room = c .before .before .before .before .before .before .before .if1 .left in
     let f = parametersBy (args .names) (args .lifetimes .now) (args .types .now) in
     λ g k.
-    fits (listOf (genericsRows f g)) (put .result .bytes) (put .ensures g k .put .next) (omega arith)
-    (c .before .before .before .before .put-generics2 .ensures g k .put)
+    fits (listOf (genericsRows f g)) (put .result .bytes) (put .ensures g k .put .next) (omega (arith, room))
+    (put-generics2 .ensures g k .put)
 
 pub fit-generics-spec : {M : Type 1} → statement M
 fit-generics-spec =

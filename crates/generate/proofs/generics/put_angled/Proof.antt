@@ -24,10 +24,16 @@ same-length-2 c = search needs
 
 returns : tie.Need-returns
 returns c =
-    let args = c .before .before .before .before .before .before .before .before .before .before .before .before .before .before .before .before .before .before .before .before .before .before .before .before .args in
+    let back8 = c .before .before .before .before .before .before .before .before in
+    let back16 = back8 .before .before .before .before .before .before .before .before in
+    let back24 = back16 .before .before .before .before .before .before .before .before in
+    let args = back24 .args in
+    let punct = back16 .before .punct in
+    let add-names = back8 .before .before .before .before .before .add-names in
+    let add-parameters = back8 .add-parameters in
     λ ps inside.
-    angled (args .names) (args .lifetimes .now) (args .types .now) ps refl (c .before .before .before .before .before .before .before .before .before .before .before .before .before .before .before .before .before .punct .ensures) (c .before .before .before .before .before .before .before .before .before .before .before .before .before .add-names .ensures)
-    (c .before .before .before .before .before .before .before .before .add-parameters .ensures ps inside) (c .before .before .punct2 .ensures)
+    angled (args .names) (args .lifetimes .now) (args .types .now) ps refl (punct .ensures) (add-names .ensures)
+    (add-parameters .ensures ps inside) (c .before .before .punct2 .ensures)
 
 pub put-angled-spec : {M : Type 1} → statement M
 put-angled-spec =

@@ -32,20 +32,31 @@ same-length c = search needs
 
 returns : tie.Need-returns
 returns c =
-    let args = c .before .before .before .before .before .before .before .before .before .before .before .before .before .before .before .args in
-    let leaf = meeting.peeked _ _ (c .before .before .before .before .before .peek .ensures) (c .before .before .before .t .given .1) in
-    let other = meeting.punct-of _ _ _ _ (leaf .token) ∙ sym (c .before .is-punct .ensures) ∙ not-true _ (c .if1 .taken) in
+    let back8 = c .before .before .before .before .before .before .before .before in
+    let args = back8 .before .before .before .before .before .before .before .args in
+    let new = back8 .new in
+    let peek = c .before .before .before .before .before .peek in
+    let leaf = meeting.peeked _ _ (peek .ensures) (c .before .before .before .t .given .1) in
+    let punct = meeting.punct-of _ _ _ _ (leaf .token) in
+    let other = punct ∙ sym (c .before .is-punct .ensures) ∙ not-true _ (c .if1 .taken) in
     let f = parametersBy (args .names) (args .lifetimes .now) (args .types .now) in
-    λ g k. none-built f (generics-other k _ leaf other) (c .before .before .before .before .before .before .before .before .new .ensures)
+    λ g k. none-built f (generics-other k _ leaf other) (new .ensures)
 
 past-requires : tie.Need-past-requires
 past-requires c κs =
-    (c .before .before .before .before .before .before .before .before .before .before .before .before .before .before .before .pre .1, meeting.peeked _ _ (c .before .before .before .before .before .peek .ensures) (c .before .before .before .t .given .1) .token)
+    let back8 = c .before .before .before .before .before .before .before .before in
+    let pre = back8 .before .before .before .before .before .before .before .pre in
+    let peek = c .before .before .before .before .before .peek in
+    (pre .1, meeting.peeked _ _ (peek .ensures) (c .before .before .before .t .given .1) .token)
 
 put-angled-requires : tie.Need-put-angled-requires
 put-angled-requires c κs =
-    let pre = c .before .before .before .before .before .before .before .before .before .before .before .before .before .before .before .before .before .before .pre in
-    let leaf = meeting.peeked _ _ (c .before .before .before .before .before .before .before .before .peek .ensures) (c .before .before .before .before .before .before .t .given .1) in
+    let back8 = c .before .before .before .before .before .before .before .before in
+    let back16 = back8 .before .before .before .before .before .before .before .before in
+    let pre = back16 .before .before .pre in
+    let peek = back8 .peek in
+    let t = c .before .before .before .before .before .before .t in
+    let leaf = meeting.peeked _ _ (peek .ensures) (t .given .1) in
     (pre .0, meeting.past-in-of _ _ _ _ (c .before .before .past .ensures) (pre .1) (leaf .token))
 
 same-length-2 : tie.Need-same-length-2
@@ -53,20 +64,24 @@ same-length-2 c = search needs
 
 returns-2 : tie.Need-returns-2
 returns-2 c =
-    let args = c .before .before .before .before .before .before .before .before .before .before .before .before .args in
+    let back8 = c .before .before .before .before .before .before .before .before in
+    let args = back8 .before .before .before .before .args in
+    let new = c .before .before .before .before .before .new in
     let end = meeting.peeked _ _ (c .before .before .peek .ensures) (c .enum-told .given .1) in
     let f = parametersBy (args .names) (args .lifetimes .now) (args .types .now) in
-    λ g k. none-built f (generics-end k end) (c .before .before .before .before .before .new .ensures)
+    λ g k. none-built f (generics-end k end) (new .ensures)
 
 same-length-3 : tie.Need-same-length-3
 same-length-3 c = search needs
 
 returns-3 : tie.Need-returns-3
 returns-3 c =
-    let args = c .before .before .before .before .before .before .before .before .before .before .before .before .args in
+    let back8 = c .before .before .before .before .before .before .before .before in
+    let args = back8 .before .before .before .before .args in
+    let new = c .before .before .before .before .before .new in
     let group = meeting.peeked _ _ (c .before .before .peek .ensures) (c .enum-told2 .given .1) in
     let f = parametersBy (args .names) (args .lifetimes .now) (args .types .now) in
-    λ g k. none-built f (generics-group k _ group) (c .before .before .before .before .before .new .ensures)
+    λ g k. none-built f (generics-group k _ group) (new .ensures)
 
 same-length-4 : tie.Need-same-length-4
 same-length-4 c = search needs
@@ -76,14 +91,23 @@ same-length-5 c = search needs
 
 returns-4 : tie.Need-returns-4
 returns-4 c =
-    let args = c .before .before .before .before .before .before .before .before .before .before .before .before .before .before .before .before .before .before .before .before .before .before .before .args in
-    let leaf = meeting.peeked _ _ (c .before .before .before .before .before .before .before .before .before .before .before .before .before .peek .ensures) (c .before .before .before .before .before .before .before .before .before .before .before .t .given .1) in
-    let angle = meeting.punct-of _ _ _ _ (leaf .token) ∙ sym (c .before .before .before .before .before .before .before .before .before .is-punct .ensures) ∙ not-false _ (c .before .before .before .before .before .before .before .before .if1 .left) in
+    let back8 = c .before .before .before .before .before .before .before .before in
+    let back16 = back8 .before .before .before .before .before .before .before .before in
+    let args = back16 .before .before .before .before .before .before .before .args in
+    let new = back16 .new in
+    let peek = back8 .before .before .before .before .before .peek in
+    let t = back8 .before .before .before .t in
+    let is-punct = back8 .before .is-punct in
+    let if1 = back8 .if1 in
+    let past = c .before .before .before .before .before .before .before .past in
+    let put-angled = c .before .before .before .before .put-angled in
+    let leaf = meeting.peeked _ _ (peek .ensures) (t .given .1) in
+    let angle = meeting.punct-of _ _ _ _ (leaf .token) ∙ sym (is-punct .ensures) ∙ not-false _ (if1 .left) in
     let f = parametersBy (args .names) (args .lifetimes .now) (args .types .now) in
     λ g k.
-    let inside = generics-angle k _ _ leaf (c .before .before .before .before .before .before .before .past .ensures) angle in
-    some-built f (parametersOf g) (inside .0) (c .before .before .before .before .before .before .before .before .before .before .before .before .before .before .before .before .new .ensures)
-    (c .before .before .before .before .put-angled .ensures (parametersOf g) (inside .1))
+    let inside = generics-angle k _ _ leaf (past .ensures) angle in
+    some-built f (parametersOf g) (inside .0) (new .ensures)
+    (put-angled .ensures (parametersOf g) (inside .1))
 
 pub put-generics-spec : {M : Type 1} → statement M
 put-generics-spec =

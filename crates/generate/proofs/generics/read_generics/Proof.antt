@@ -15,7 +15,9 @@ use Rattle.generate.proofs.generics.read_generics.Statement.{statement}
 use Rattle.generate.proofs.generics.read_generics.Tie as tie
 
 item-requires : tie.Need-item-requires
-item-requires c κs = first-in _ _ (c .before .before .before .before .before .before .pre .1)
+item-requires c κs =
+    let pre = c .before .before .before .before .before .before .pre in
+    first-in _ _ (pre .1)
 
 enum-known-r : tie.Need-enum-known-r
 enum-known-r c = search needs
@@ -31,16 +33,24 @@ same-length c = search needs
 
 returns : tie.Need-returns
 returns c =
-    let args = c .before .before .before .before .before .before .before .before .before .before .before .before .before .before .args in
-    let told = meeting.say (itemShown (args .s .now) first) itemSaid (c .before .before .before .d .given .1) (c .before .before .before .before .before .before .before .item .ensures) in
+    let back8 = c .before .before .before .before .before .before .before .before in
+    let args = back8 .before .before .before .before .before .before .args in
+    let item = c .before .before .before .before .before .before .before .item in
+    let d = c .before .before .before .d in
+    let told = meeting.say (itemShown (args .s .now) first) itemSaid (d .given .1) (item .ensures) in
     let w = writer (args .names) (args .lifetimes .now) (args .types .now) in
     let wrong = sym (c .before .right-texts .ensures) ∙ not-true _ (c .if1 .taken) in
     written-refused (wrong-answer w (length (args .out .now)) (meets-tells told .3) wrong)
 
 fit-generics-requires : tie.Need-fit-generics-requires
 fit-generics-requires c κs =
-    let start = c .before .before .before .before .before .before .before .before .before .before .before .before .before .before .before .before .before in
-    let told = meeting.say (itemShown (start .args .s .now) first) itemSaid (c .before .before .before .before .before .before .d .given .1) (c .before .before .before .before .before .before .before .before .before .before .item .ensures) in
+    let back8 = c .before .before .before .before .before .before .before .before in
+    let back16 = back8 .before .before .before .before .before .before .before .before in
+    let before = back16 .before in
+    let item = back8 .before .before .item in
+    let d = c .before .before .before .before .before .before .d in
+    let start = before in
+    let told = meeting.say (itemShown (start .args .s .now) first) itemSaid (d .given .1) (item .ensures) in
     (start .pre, meets-tells told .4 .0 .generics .inList)
 
 same-length-2 : tie.Need-same-length-2
@@ -48,8 +58,10 @@ same-length-2 c = search needs
 
 returns-2 : tie.Need-returns-2
 returns-2 c =
-    let args = c .before .before .before .before .before .before .before .before .before .before .before .before .args in
-    let told = meeting.say (itemShown (args .s .now) first) itemSaid (c .before .r .given .1) (c .before .before .before .before .before .item .ensures) in
+    let back8 = c .before .before .before .before .before .before .before .before in
+    let args = back8 .before .before .before .before .args in
+    let item = c .before .before .before .before .before .item in
+    let told = meeting.say (itemShown (args .s .now) first) itemSaid (c .before .r .given .1) (item .ensures) in
     let w = writer (args .names) (args .lifetimes .now) (args .types .now) in
     written-refused (ap (λ t. fitted (length (args .out .now)) (itemAnswer w t)) (meets-refusal told .1))
 
@@ -61,12 +73,19 @@ same-length-4 c = search needs
 
 returns-3 : tie.Need-returns-3
 returns-3 c =
-    let args = c .before .before .before .before .before .before .before .before .before .before .before .before .before .before .before .before .before .before .before .before .before .before .args in
-    let told = meets-tells (meeting.say (itemShown (args .s .now) first) itemSaid (c .before .before .before .before .before .before .before .before .before .before .before .d .given .1) (c .before .before .before .before .before .before .before .before .before .before .before .before .before .before .before .item .ensures)) in
+    let back8 = c .before .before .before .before .before .before .before .before in
+    let back16 = back8 .before .before .before .before .before .before .before .before in
+    let args = back16 .before .before .before .before .before .before .args in
+    let item = back8 .before .before .before .before .before .before .before .item in
+    let d = back8 .before .before .before .d in
+    let right-texts = back8 .before .right-texts in
+    let if1 = back8 .if1 in
+    let fit-generics = c .before .before .before .before .fit-generics in
+    let told = meets-tells (meeting.say (itemShown (args .s .now) first) itemSaid (d .given .1) (item .ensures)) in
     let w = writer (args .names) (args .lifetimes .now) (args .types .now) in
-    let right = sym (c .before .before .before .before .before .before .before .before .before .right-texts .ensures) ∙ not-false _ (c .before .before .before .before .before .before .before .before .if1 .left) in
+    let right = sym (right-texts .ensures) ∙ not-false _ (if1 .left) in
     written-as (right-answer w (length (args .out .now)) (told .3) right)
-    (c .before .before .before .before .fit-generics .ensures (told .0 .generics) (told .4 .0 .generics))
+    (fit-generics .ensures (told .0 .generics) (told .4 .0 .generics))
 
 pub read-generics-spec : {M : Type 1} → statement M
 read-generics-spec =

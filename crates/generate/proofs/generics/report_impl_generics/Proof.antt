@@ -14,9 +14,11 @@ same-length c = search needs
 
 returns : tie.Need-returns
 returns c =
-    let args = c .before .before .before .before .before .before .before .before .before .before .before .before .args in
+    let back8 = c .before .before .before .before .before .before .before .before in
+    let args = back8 .before .before .before .before .args in
+    let call = c .before .before .before .before .before .before in
     let put = c .before .before .put-answer .ensures in
-    let written = c .before .before .before .before .before .before .impl-generics-with-additional .ensures in
+    let written = call .impl-generics-with-additional .ensures in
     reported-additional (args .lifetimes .now) (args .types .now) (args .list .now) (args .out .now) _ written (put .1)
     (put .0 _ _ (written .answered))
 

@@ -15,8 +15,9 @@ same-length c = search needs
 returns : tie.Need-returns
 returns c =
     let args = c .before .before .before .before .before .before .before .before .before .before .args in
+    let type-generics = c .before .before .before .before .before .before .type-generics in
     let put = c .before .before .put-answer .ensures in
-    let written = c .before .before .before .before .before .before .type-generics .ensures in
+    let written = type-generics .ensures in
     reported-type (args .list .now) (args .out .now) _ written (put .1) (put .0 _ _ (written .answered))
 
 pub report-type-generics-spec : {M : Type 1} → statement M

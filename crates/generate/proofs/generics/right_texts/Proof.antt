@@ -16,7 +16,8 @@ right-names-requires-2 c κs = search needs
 
 returns-2 : tie.Need-returns-2
 returns-2 c =
-    c .right-names2 .ensures ∙ sym (and-last _ _ (sym (c .before .before .right-names .ensures) ∙ not-false _ (c .before .if1 .left)))
+    c .right-names2 .ensures ∙ sym
+    (and-last _ _ (sym (c .before .before .right-names .ensures) ∙ not-false _ (c .before .if1 .left)))
 
 pub right-texts-spec : {M : Type 1} → statement M
 right-texts-spec =

@@ -21,7 +21,9 @@ slice-aggregate-read-generics : tie.Need-slice-aggregate-read-generics
 slice-aggregate-read-generics c = search needs
 
 read-generics-requires : tie.Need-read-generics-requires
-read-generics-requires c κs = (_, sym (c .before .before .before .before .check .ensures .answer) ∙ ap checked (c .before .before .enum-told .given .1))
+read-generics-requires c κs =
+    let check = c .before .before .before .before .check in
+    (_, sym (check .ensures .answer) ∙ ap checked (c .before .before .enum-told .given .1))
 
 returns : tie.Need-returns
 returns c =
@@ -35,10 +37,14 @@ same-length c = search needs
 
 returns-2 : tie.Need-returns-2
 returns-2 c =
-    let args = c .before .before .before .before .before .before .before .before .before .before .before .before .before .args in
+    let back8 = c .before .before .before .before .before .before .before .before in
+    let args = back8 .before .before .before .before .before .args in
+    let check = back8 .check in
+    let enum-told = c .before .before .before .before .before .before .enum-told in
     let w = writer (args .names) (args .lifetimes .now) (args .types .now) in
-    let passed = sym (c .before .before .before .before .before .before .before .before .check .ensures .answer) ∙ ap checked (c .before .before .before .before .before .before .enum-told .given .1) in
-    written-as (write-read w (args .list .now) (length (args .out .now)) passed) (c .before .before .before .read-generics .ensures)
+    let passed = sym (check .ensures .answer) ∙ ap checked (enum-told .given .1) in
+    written-as (write-read w (args .list .now) (length (args .out .now)) passed)
+    (c .before .before .before .read-generics .ensures)
 
 pub write-spec : {M : Type 1} → statement M
 write-spec =

@@ -10,12 +10,14 @@ is-quoted-requires c κs = search needs
 
 sub-put-line : tie.Need-sub-put-line
 sub-put-line c =
-    let arg = c .before .before .before .before .before .before .args .arg .now in
+    let args = c .before .before .before .before .before .before .args in
+    let arg = args .arg .now in
     omega (arith, quoted-some arg (sym (c .before .before .is-quoted .ensures) ∙ c .before .if1 .taken))
 
 part-put-line-start : tie.Need-part-put-line-start
 part-put-line-start c =
-    let arg = c .before .before .before .before .before .before .args .arg .now in
+    let args = c .before .before .before .before .before .before .args in
+    let arg = args .arg .now in
     omega (arith, quoted-some arg (sym (c .before .before .is-quoted .ensures) ∙ c .before .if1 .taken))
 
 part-put-line-end : tie.Need-part-put-line-end
@@ -29,7 +31,10 @@ same-length c = search needs
 
 returns : tie.Need-returns
 returns c =
-    as-lifetime (sym (c .before .before .before .before .before .before .is-quoted .ensures) ∙ c .before .before .before .before .before .if1 .taken) (c .before .before .put-line .ensures) (omega (arith, c .before .before .before .before .before .before .before .before .before .before .good))
+    let good = c .before .before .before .before .before .before .before .before .before .before .good in
+    let is-quoted = c .before .before .before .before .before .before .is-quoted in
+    let if1 = c .before .before .before .before .before .if1 in
+    as-lifetime (sym (is-quoted .ensures) ∙ if1 .taken) (c .before .before .put-line .ensures) (omega (arith, good))
 
 put-line-requires-2 : tie.Need-put-line-requires-2
 put-line-requires-2 c κs = search needs
@@ -39,7 +44,10 @@ same-length-2 c = search needs
 
 returns-2 : tie.Need-returns-2
 returns-2 c =
-    as-type (sym (c .before .before .before .before .before .is-quoted .ensures) ∙ c .before .before .before .before .if1 .left) (c .before .before .put-line2 .ensures) (omega (arith, c .before .before .before .before .before .before .before .before .before .good))
+    let good = c .before .before .before .before .before .before .before .before .before .good in
+    let is-quoted = c .before .before .before .before .before .is-quoted in
+    let if1 = c .before .before .before .before .if1 in
+    as-type (sym (is-quoted .ensures) ∙ if1 .left) (c .before .before .put-line2 .ensures) (omega (arith, good))
 
 pub add-argument-spec : {M : Type 1} → statement M
 add-argument-spec =

@@ -72,7 +72,8 @@ same-length c = adding-kept (c .before .loop .inv .1)
 
 returns : tie.Need-returns Inv-loop μ-loop
 returns c =
-    let text = c .before .before .before .before .args .text .now in
+    let args = c .before .before .before .before .args in
+    let text = args .text .now in
     let loop = c .before .loop in
     adding-done (rw (no-names text (loop .i) (omega arith)) at (loop .inv .1))
 

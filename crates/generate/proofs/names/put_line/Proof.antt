@@ -14,7 +14,10 @@ same-length : tie.Need-same-length
 same-length c = search needs
 
 returns : tie.Need-returns
-returns c = rw (sym (c .before .before .before .before .before .is-one-of .ensures) ∙ c .before .before .before .before .if1 .taken) (c .before .before .put-byte .ensures)
+returns c =
+    let is-one-of = c .before .before .before .before .before .is-one-of in
+    let if1 = c .before .before .before .before .if1 in
+    rw (sym (is-one-of .ensures) ∙ if1 .taken) (c .before .before .put-byte .ensures)
 
 put-bytes-requires : tie.Need-put-bytes-requires
 put-bytes-requires c κs = search needs
@@ -27,7 +30,10 @@ same-length-2 c = search needs
 
 returns-2 : tie.Need-returns-2
 returns-2 c =
-    rw (sym (c .before .before .before .before .before .before .before .before .before .is-one-of .ensures) ∙ c .before .before .before .before .before .before .before .before .if1 .left) (joined (c .before .before .before .before .before .before .put-bytes .ensures) (c .before .before .put-byte2 .ensures))
+    let is-one-of = c .before .before .before .before .before .before .before .before .before .is-one-of in
+    let if1 = c .before .before .before .before .before .before .before .before .if1 in
+    let put-bytes = c .before .before .before .before .before .before .put-bytes in
+    rw (sym (is-one-of .ensures) ∙ if1 .left) (joined (put-bytes .ensures) (c .before .before .put-byte2 .ensures))
 
 pub put-line-spec : {M : Type 1} → statement M
 put-line-spec =

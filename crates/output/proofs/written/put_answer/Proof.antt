@@ -23,7 +23,8 @@ same-length c = search needs
 
 returns-2 : tie.Need-returns-2
 returns-2 c =
-    let same = c .before .before .before .before .before .answer2 .given .1 in
+    let answer2 = c .before .before .before .before .before .answer2 in
+    let same = answer2 .given .1 in
     let put = c .before .before .put-refusal .ensures in
     (λ before a w. refusal-printed (rw same at w) (put .0), rw same (put .1))
 

@@ -18,8 +18,8 @@ returns c =
       refl,
     )
 
-marked-attribute-requires : tie.Need-marked-attribute-requires
-marked-attribute-requires c κs = search needs
+after-hash-requires : tie.Need-after-hash-requires
+after-hash-requires c κs = search needs
 
 same-length : tie.Need-same-length
 same-length c = search needs
@@ -30,4 +30,4 @@ returns-2 c = search needs
 pub attribute-spec : {M : Type 1} → statement M
 attribute-spec =
     tie.close
-    (tie.spec stands-punct-requires returns marked-attribute-requires same-length returns-2)
+    (tie.spec stands-punct-requires returns after-hash-requires same-length returns-2)

@@ -3,8 +3,8 @@ use borrow.Author.Needs.{needs}
 use Rattle.parse.proofs.fields.close_group.Statement.{statement}
 use Rattle.parse.proofs.fields.close_group.Tie as tie
 
-mark-requires : tie.Need-mark-requires
-mark-requires c κs = search needs
+set-role-requires : tie.Need-set-role-requires
+set-role-requires c κs = search needs
 
 skip-requires : tie.Need-skip-requires
 skip-requires c κs = search needs
@@ -19,4 +19,4 @@ returns c =
     (skipped-open (d .args .s .now) (d .args .c) (c .skip .result) (d .pre .1) (c .skip .ensures), search needs)
 
 pub close-group-spec : {M : Type 1} → statement M
-close-group-spec = tie.close (tie.spec mark-requires skip-requires same-length returns)
+close-group-spec = tie.close (tie.spec set-role-requires skip-requires same-length returns)

@@ -7,8 +7,8 @@ use borrow.Author.Needs.{needs}
 use Rattle.parse.proofs.generics.bounds.Statement.{statement}
 use Rattle.parse.proofs.generics.bounds.Tie as tie
 
-marked-run-requires : tie.Need-marked-run-requires
-marked-run-requires c κs = search needs
+optional-run-requires : tie.Need-optional-run-requires
+optional-run-requires c κs = search needs
 
 enum-known-r : tie.Need-enum-known-r
 enum-known-r c = search needs
@@ -28,13 +28,13 @@ same-length c = search needs
 returns : tie.Need-returns
 returns c =
     let args-2 = c .before .before .before .before .before .before .before .before .before .args in
-    let marked-run-2 = c .before .before .before .before .before .marked-run in
+    let optional-run-2 = c .before .before .before .before .before .optional-run in
     let args = args-2 in
-    let marked-run = marked-run-2 in
+    let optional-run = optional-run-2 in
     let r = c .before .r in
     meeting.meets-none
-    (meeting.say (contract.markedRunShown (args .s .now) COLON (contract.point (args .s .now) (args .c)))
-    (contract.markedRunSaid (args .c)) (r .given .1) (marked-run .ensures))
+    (meeting.say (contract.optionalRunShown (args .s .now) COLON (contract.point (args .s .now) (args .c)))
+    (contract.optionalRunSaid (args .c)) (r .given .1) (optional-run .ensures))
 
 same-length-2 : tie.Need-same-length-2
 same-length-2 c = search needs
@@ -42,12 +42,12 @@ same-length-2 c = search needs
 returns-2 : tie.Need-returns-2
 returns-2 c =
     let args-2 = c .before .before .before .before .before .before .before .before .before .args in
-    let marked-run-2 = c .before .before .before .before .before .marked-run in
+    let optional-run-2 = c .before .before .before .before .before .optional-run in
     let args = args-2 in
-    let marked-run = marked-run-2 in
+    let optional-run = optional-run-2 in
     let enum-told = c .before .enum-told in
-    let none = meeting.say (contract.markedRunShown (args .s .now) COLON (contract.point (args .s .now) (args .c)))
-    (contract.markedRunSaid (args .c)) (enum-told .given .1) (marked-run .ensures) in
+    let none = meeting.say (contract.optionalRunShown (args .s .now) COLON (contract.point (args .s .now) (args .c)))
+    (contract.optionalRunSaid (args .c)) (enum-told .given .1) (optional-run .ensures) in
     meeting.meets-say (ap (λ (r : Run). contract.on (r .to)) (sym (c .empty-run .ensures)))
     (meeting.meets-show (λ v h. (h .0, h .1, refl)) none)
 
@@ -57,19 +57,19 @@ same-length-3 c = search needs
 returns-3 : tie.Need-returns-3
 returns-3 c =
     let args-2 = c .before .before .before .before .before .before .before .before .before .args in
-    let marked-run-2 = c .before .before .before .before .before .marked-run in
+    let optional-run-2 = c .before .before .before .before .before .optional-run in
     let args = args-2 in
-    let marked-run = marked-run-2 in
+    let optional-run = optional-run-2 in
     let r2 = c .before .r2 in
     meeting.meets-show (λ v h. (h, refl))
-    (meeting.say (contract.markedRunShown (args .s .now) COLON (contract.point (args .s .now) (args .c))) (contract.markedRunSaid (args .c)) (r2 .given .1)
-    (marked-run .ensures))
+    (meeting.say (contract.optionalRunShown (args .s .now) COLON (contract.point (args .s .now) (args .c))) (contract.optionalRunSaid (args .c)) (r2 .given .1)
+    (optional-run .ensures))
 
 pub bounds-spec : {M : Type 1} → statement M
 bounds-spec =
     tie.close
     (tie.spec
-    marked-run-requires
+    optional-run-requires
     enum-known-r
     enum-told
     empty-run-requires

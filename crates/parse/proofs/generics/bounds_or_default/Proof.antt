@@ -33,8 +33,8 @@ returns c =
     λ n. meeting.meets-as (type-bounded n (args .c .row) (contract.stream (args .s .now) (args .c)) colon)
     (meeting.meets-map (args .c .row) (λ b. type n b end) (type-shown _ _ n (bounds .result)) (bounds .ensures))
 
-marked-run-requires : tie.Need-marked-run-requires
-marked-run-requires c κs = search needs
+optional-run-requires : tie.Need-optional-run-requires
+optional-run-requires c κs = search needs
 
 enum-known-r : tie.Need-enum-known-r
 enum-known-r c = search needs
@@ -56,15 +56,15 @@ returns-2 c =
     let args-2 = c .before .before .before .before .before .before .before .before .before .before .before .args in
     let stands-punct-2 = c .before .before .before .before .before .before .before .before .stands-punct in
     let if1-2 = c .before .before .before .before .before .before .before .if1 in
-    let marked-run-2 = c .before .before .before .before .before .marked-run in
+    let optional-run-2 = c .before .before .before .before .before .optional-run in
     let args = args-2 in
     let stands-punct = stands-punct-2 in
     let if1 = if1-2 in
-    let marked-run = marked-run-2 in
+    let optional-run = optional-run-2 in
     let r = c .before .r in
     let other = sym (stands-punct .ensures) ∙ if1 .left in
-    let run = meeting.say (contract.markedRunShown (args .s .now) EQUALS (contract.point (args .s .now) (args .c))) (contract.markedRunSaid (args .c)) (r .given .1)
-    (marked-run .ensures) in
+    let run = meeting.say (contract.optionalRunShown (args .s .now) EQUALS (contract.point (args .s .now) (args .c))) (contract.optionalRunSaid (args .c)) (r .given .1)
+    (optional-run .ensures) in
     λ n.
     meeting.meets-as (type-defaulted n (args .c .row) (contract.stream (args .s .now) (args .c)) other)
     (meeting.meets-no (λ d. pure (type n end d)) run)
@@ -77,15 +77,15 @@ returns-3 c =
     let args-2 = c .before .before .before .before .before .before .before .before .before .before .before .args in
     let stands-punct-2 = c .before .before .before .before .before .before .before .before .stands-punct in
     let if1-2 = c .before .before .before .before .before .before .before .if1 in
-    let marked-run-2 = c .before .before .before .before .before .marked-run in
+    let optional-run-2 = c .before .before .before .before .before .optional-run in
     let args = args-2 in
     let stands-punct = stands-punct-2 in
     let if1 = if1-2 in
-    let marked-run = marked-run-2 in
+    let optional-run = optional-run-2 in
     let enum-told = c .before .enum-told in
     let other = sym (stands-punct .ensures) ∙ if1 .left in
-    let run = meeting.say (contract.markedRunShown (args .s .now) EQUALS (contract.point (args .s .now) (args .c))) (contract.markedRunSaid (args .c))
-    (enum-told .given .1) (marked-run .ensures) in
+    let run = meeting.say (contract.optionalRunShown (args .s .now) EQUALS (contract.point (args .s .now) (args .c))) (contract.optionalRunSaid (args .c))
+    (enum-told .given .1) (optional-run .ensures) in
     λ n. meeting.meets-say (ap (λ (r : Run). contract.on (r .to)) (sym (c .empty-run .ensures)))
     (meeting.meets-as (type-defaulted n (args .c .row) (contract.stream (args .s .now) (args .c)) other)
     (meeting.meets-map (args .c .row) (λ d. type n end d) (λ d h. (refl, refl, (other, refl, h .1))) run))
@@ -98,15 +98,15 @@ returns-4 c =
     let args-2 = c .before .before .before .before .before .before .before .before .before .before .before .args in
     let stands-punct-2 = c .before .before .before .before .before .before .before .before .stands-punct in
     let if1-2 = c .before .before .before .before .before .before .before .if1 in
-    let marked-run-2 = c .before .before .before .before .before .marked-run in
+    let optional-run-2 = c .before .before .before .before .before .optional-run in
     let args = args-2 in
     let stands-punct = stands-punct-2 in
     let if1 = if1-2 in
-    let marked-run = marked-run-2 in
+    let optional-run = optional-run-2 in
     let r2 = c .before .r2 in
     let other = sym (stands-punct .ensures) ∙ if1 .left in
-    let run = meeting.say (contract.markedRunShown (args .s .now) EQUALS (contract.point (args .s .now) (args .c))) (contract.markedRunSaid (args .c)) (r2 .given .1)
-    (marked-run .ensures) in
+    let run = meeting.say (contract.optionalRunShown (args .s .now) EQUALS (contract.point (args .s .now) (args .c))) (contract.optionalRunSaid (args .c)) (r2 .given .1)
+    (optional-run .ensures) in
     λ n. meeting.meets-as (type-defaulted n (args .c .row) (contract.stream (args .s .now) (args .c)) other)
     (meeting.meets-map (args .c .row) (λ d. type n end d) (λ d h. (refl, refl, (other, refl, h))) run)
 
@@ -118,7 +118,7 @@ bounds-or-default-spec =
     bounds-requires
     same-length
     returns
-    marked-run-requires
+    optional-run-requires
     enum-known-r
     enum-told
     empty-run-requires

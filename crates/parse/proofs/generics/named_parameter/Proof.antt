@@ -15,7 +15,7 @@ use Rattle.parse.proofs.generics.named_parameter.Statement.{statement}
 use Rattle.parse.proofs.generics.named_parameter.Tie as tie
 
 abbrev made : ParameterKind → List ℕ → Reader Parameter
-made k x = reading.marked-run COLON >>= λ b. pure (contract.parameterMade k x b)
+made k x = reading.optional-run COLON >>= λ b. pure (contract.parameterMade k x b)
 
 abbrev rest : ParameterKind → List ℕ → Reader (reading.Maybe Parameter)
 rest k x = made k x >>= reading.comma
@@ -42,8 +42,8 @@ bounds-requires c κs =
 enum-known-r-2 : tie.Need-enum-known-r-2
 enum-known-r-2 c = search needs
 
-enum-known-mark : tie.Need-enum-known-mark
-enum-known-mark c = search needs
+enum-known-part : tie.Need-enum-known-part
+enum-known-part c = search needs
 
 parameter-end-requires : tie.Need-parameter-end-requires
 parameter-end-requires c κs =
@@ -54,9 +54,9 @@ parameter-end-requires c κs =
     let args = back16 .before .args in
     let name = back8 .before .name in
     let bounds = bounds-2 in
-    let mark = c .before .before .mark in
+    let part = c .before .before .part in
     meeting.landed (meeting.say (contract.boundShown (args .s .now) (contract.point (args .s .now)
-    (name .given .0 .1 .0))) contract.parameterRunSaid (mark .given .1) (bounds .ensures))
+    (name .given .0 .1 .0))) contract.parameterRunSaid (part .given .1) (bounds .ensures))
 
 same-length : tie.Need-same-length
 same-length c = search needs
@@ -99,7 +99,7 @@ returns-2 c =
     (made (args .kind)) reading.comma)
     (meeting.meets-then (rest (args .kind)) named
     (λ x h. meeting.meets-as
-    (meeting.after-pure (d .row) (reading.marked-run COLON (d .row) (contract.stream (args .s .now) d))
+    (meeting.after-pure (d .row) (reading.optional-run COLON (d .row) (contract.stream (args .s .now) d))
     (contract.parameterMade (args .kind) x) reading.comma)
     (meeting.meets-no _ bound)))
 
@@ -109,28 +109,28 @@ same-length-3 c = search needs
 returns-3 : tie.Need-returns-3
 returns-3 c =
     let before = c .before .before .before .before .before .before .before .before in
-    let mark-2 = c .before .before .before .before .before .mark in
+    let part-2 = c .before .before .before .before .before .part in
     let back8 = before in
     let back16 = back8 .before .before .before .before .before .before .before .before in
     let args = back16 .before .before .before .before .args in
     let parameter-name = back16 .parameter-name in
     let name = back8 .before .before .before .before .name in
     let bounds = back8 .before .bounds in
-    let mark = mark-2 in
+    let part = part-2 in
     let parameter-end = c .before .before .parameter-end in
     let named = meeting.say (contract.nameShown (args .s .now) (contract.point (args .s .now) (args .c)))
     contract.nameSaid (name .given .1) (parameter-name .ensures) in
     let d = name .given .0 .1 .0 in
     let kind = args .kind in
-    let read = contract.parameterRun (mark .given .0 .0) (mark .given .0 .1 .0) in
+    let read = contract.parameterRun (part .given .0 .0) (part .given .0 .1 .0) in
     let bound = meeting.say (contract.boundShown (args .s .now) (contract.point (args .s .now) d))
-    contract.parameterRunSaid (mark .given .1) (bounds .ensures) in
+    contract.parameterRunSaid (part .given .1) (bounds .ensures) in
     meeting.meets-as (meeting.after-assoc (args .c .row)
     (reading.parameterName (args .number) (args .or) (args .c .row) (contract.stream (args .s .now) (args .c)))
     (made kind) reading.comma)
     (meeting.meets-then (rest kind) named
     (λ x h. meeting.meets-as
-    (meeting.after-pure (d .row) (reading.marked-run COLON (d .row) (contract.stream (args .s .now) d))
+    (meeting.after-pure (d .row) (reading.optional-run COLON (d .row) (contract.stream (args .s .now) d))
     (contract.parameterMade kind x) reading.comma)
     (meeting.meets-then (λ b. reading.comma (contract.parameterMade kind x b)) bound
     (λ b u.
@@ -147,7 +147,7 @@ named-parameter-spec =
     enum-known-name
     bounds-requires
     enum-known-r-2
-    enum-known-mark
+    enum-known-part
     parameter-end-requires
     same-length
     returns

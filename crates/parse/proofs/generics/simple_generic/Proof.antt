@@ -14,8 +14,8 @@ bounds-or-default-requires c κs = search needs
 enum-known-r : tie.Need-enum-known-r
 enum-known-r c = search needs
 
-enum-known-mark : tie.Need-enum-known-mark
-enum-known-mark c = search needs
+enum-known-part : tie.Need-enum-known-part
+enum-known-part c = search needs
 
 parameter-end-requires : tie.Need-parameter-end-requires
 parameter-end-requires c κs =
@@ -23,9 +23,9 @@ parameter-end-requires c κs =
     let bounds-or-default-2 = c .before .before .before .before .before .before .bounds-or-default in
     let args = args-2 in
     let bounds-or-default = bounds-or-default-2 in
-    let mark = c .before .before .mark in
+    let part = c .before .before .part in
     meeting.landed (meeting.say (contract.typeShown (args .s .now) (contract.point (args .s .now) (args .c)) [])
-    contract.parameterRunSaid (mark .given .1) (bounds-or-default .ensures []))
+    contract.parameterRunSaid (part .given .1) (bounds-or-default .ensures []))
 
 same-length : tie.Need-same-length
 same-length c = search needs
@@ -48,17 +48,17 @@ same-length-2 c = search needs
 returns-2 : tie.Need-returns-2
 returns-2 c =
     let before = c .before .before .before .before .before .before .before .before in
-    let mark-2 = c .before .before .before .before .before .mark in
+    let part-2 = c .before .before .before .before .before .part in
     let back8 = before in
     let args = back8 .before .before .before .before .before .args in
     let bounds-or-default = back8 .before .bounds-or-default in
-    let mark = mark-2 in
+    let part = part-2 in
     let parameter-end = c .before .before .parameter-end in
-    let read = contract.parameterRun (mark .given .0 .0) (mark .given .0 .1 .0) in
+    let read = contract.parameterRun (part .given .0 .0) (part .given .0 .1 .0) in
     λ n x h place past.
     meeting.meets-then reading.comma
     (meeting.say (contract.typeShown (args .s .now) (contract.point (args .s .now) (args .c)) n)
-    contract.parameterRunSaid (mark .given .1) (bounds-or-default .ensures n))
+    contract.parameterRunSaid (part .given .1) (bounds-or-default .ensures n))
     (λ a k. parameter-end .ensures a x
     (record { kind = k .0; text = subst⁻¹ (contract.TextOf (args .s .now) (args .name)) (k .1) h }) place
     (subst (λ (p : Point). contract.ParameterRunAt (args .s .now) p (contract.boundOf a) (contract.defaultOf a) read) past (k .2)))
@@ -69,7 +69,7 @@ simple-generic-spec =
     (tie.spec
     bounds-or-default-requires
     enum-known-r
-    enum-known-mark
+    enum-known-part
     parameter-end-requires
     same-length
     returns

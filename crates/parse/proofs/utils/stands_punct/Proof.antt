@@ -17,7 +17,7 @@ returns c =
     let args = c .before .before .before .before .before .args in
     let l = c .before .before .before .look .ensures in
     let a = args in
-    ap (λ (m : ℕ). eqb m (a .b)) (l .mark) ∙ sym (and-last _ _ (eq-eqb _ _ (sym (l .kind) ∙ c .before .if1 .taken))) ∙
+    ap (λ (m : ℕ). eqb m (a .b)) (l .first) ∙ sym (and-last _ _ (eq-eqb _ _ (sym (l .kind) ∙ c .before .if1 .taken))) ∙
     starts-punct (a .b) (stream (a .s .now) (a .c))
 
 returns-2 : tie.Need-returns-2

@@ -42,7 +42,7 @@ returns-3 c =
     let l = look .ensures in
     meeting.meets-same reading.visibility (args .s .now) (args .c) pre _ _ _ _ refl
     (no-visibility (args .c .row) (contract.stream (args .s .now) (args .c)) (λ e. if1 .left (l .kind ∙ e))
-    (λ e. if2 .left (l .mark ∙ e)))
+    (λ e. if2 .left (l .first ∙ e)))
     tt
 
 pub past-visibility-spec : {M : Type 1} → statement M

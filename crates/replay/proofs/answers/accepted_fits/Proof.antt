@@ -1,4 +1,3 @@
-use native.Mathlib.Omega.{arith}
 use mathlib.Core.Path.{sym, _∙_}
 use borrow.Author.Tests.{not-true, not-false}
 use Rattle.token_list.proofs.Texts.{and-last, and-fails}
@@ -12,9 +11,10 @@ sub-if1 c = search needs
 
 returns : tie.Need-returns
 returns c =
+    let pre = c .before .before .before .pre in
     let a = (c .before .before .before .args) in
-    sym (accepted-short (a .every) (a .s .now) (a .roles .now) (a .start) (a .end) ((c .before .before .before .pre) .0)
-    ((c .before .before .before .pre) .1) ((c .if1) .taken))
+    sym (accepted-short (a .every) (a .s .now) (a .roles .now) (a .start) (a .end) (pre .0)
+    (pre .1) ((c .if1) .taken))
 
 add-letters : tie.Need-add-letters
 add-letters c = search needs
@@ -27,10 +27,12 @@ text-is-requires c κs = search needs
 
 returns-2 : tie.Need-returns-2
 returns-2 c =
-    let a = (c .before .before .before .before .before .before .args) in
+    let args = c .before .before .before .before .before .before .args in
+    let pre = c .before .before .before .before .before .before .pre in
+    let a = args in
     sym (accepted-parts (a .every) (a .s .now) (a .roles .now) (a .start) (a .end)
-    ((c .before .before .before .before .before .before .pre) .0)
-    ((c .before .before .before .before .before .before .pre) .1) ((c .before .before .before .if1) .left) ∙
+    (pre .0)
+    (pre .1) ((c .before .before .before .if1) .left) ∙
     and-fails _ _ (sym ((c .before .text-is) .ensures) ∙ not-true _ ((c .if2) .taken)))
 
 letters-fit-requires : tie.Need-letters-fit-requires
@@ -38,11 +40,14 @@ letters-fit-requires c κs = search needs
 
 returns-3 : tie.Need-returns-3
 returns-3 c =
-    let a = (c .before .before .before .before .before .before .before .args) in
+    let args = c .before .before .before .before .before .before .before .args in
+    let pre = c .before .before .before .before .before .before .before .pre in
+    let if1 = c .before .before .before .before .if1 in
+    let a = args in
     (c .letters-fit) .ensures ∙ sym (accepted-parts (a .every) (a .s .now) (a .roles .now) (a .start) (a .end)
-    ((c .before .before .before .before .before .before .before .pre) .0)
-    ((c .before .before .before .before .before .before .before .pre) .1)
-    ((c .before .before .before .before .if1) .left) ∙
+    (pre .0)
+    (pre .1)
+    (if1 .left) ∙
     and-last _ _ (sym ((c .before .before .text-is) .ensures) ∙ not-false _ ((c .before .if2) .left)))
 
 pub accepted-fits-spec : {M : Type 1} → statement M

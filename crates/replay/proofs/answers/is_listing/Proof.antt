@@ -22,7 +22,8 @@ is-written-requires c κs = search needs
 returns : tie.Need-returns
 returns c =
     let args = c .before .before .before .before .before .before .before .before .args in
-    let room = sym (ap (answer (args .list .now)) (c .before .before .before .before .before .output-buffer .ensures)) in
+    let output-buffer = c .before .before .before .before .before .output-buffer in
+    let room = sym (ap (answer (args .list .now)) (output-buffer .ensures)) in
     c .is-written .ensures _ (c .before .before .before .write-listing .ensures .0 .answer ∙ room)
 
 pub is-listing-spec : {M : Type 1} → statement M

@@ -1,7 +1,7 @@
-use mathlib.Core.Path.{_≡_, sym, ap, _∙_}
+use mathlib.Core.Path.{sym, ap, _∙_}
 use lib.ListN.{length}
 use lib.Seq.{slice, length-take-le}
-use Rattle.replay.specs.Answer.{everyFits, rolesFit}
+use Rattle.replay.specs.Answer.{rolesFit}
 use Rattle.reading.specs.Answer.{answer}
 use Rattle.report.proofs.Lines.{found, not-found}
 use borrow.Author.Needs.{needs}
@@ -28,47 +28,62 @@ enum-known-n c = search needs
 
 array-share-prefix-roles : tie.Need-array-share-prefix-roles
 array-share-prefix-roles c =
+    let args = c .before .before .before .before .before .before .before .before .before .args in
+    let role-buffer = c .before .before .before .before .before .before .role-buffer in
+    let read-roles = c .before .before .before .before .read-roles in
     let f = found ((c .before .n) .given .0 .0) (answer
-    ((c .before .before .before .before .before .before .before .before .before .args) .list .now)
-    (length ((c .before .before .before .before .before .before .role-buffer) .result))) ((c .before .n) .given .1)
-    ((c .before .before .before .before .read-roles) .ensures .0) in
+    (args .list .now)
+    (length (role-buffer .result))) ((c .before .n) .given .1)
+    (read-roles .ensures .0) in
     f .within
 
 slice-aggregate-accepted-fits : tie.Need-slice-aggregate-accepted-fits
 slice-aggregate-accepted-fits c =
-    let f = found ((c .before .before .n) .given .0 .0)
-    (answer ((c .before .before .before .before .before .before .before .before .before .before .args) .list .now)
-    (length ((c .before .before .before .before .before .before .before .role-buffer) .result)))
-    ((c .before .before .n) .given .1) ((c .before .before .before .before .before .read-roles) .ensures .0) in
-    sym (length-take-le ((c .before .before .n) .given .0 .0)
-    ((c .before .before .before .before .before .read-roles) .last .1 .0) (f .within))
+    let args = c .before .before .before .before .before .before .before .before .before .before .args in
+    let role-buffer = c .before .before .before .before .before .before .before .role-buffer in
+    let read-roles = c .before .before .before .before .before .read-roles in
+    let n = c .before .before .n in
+    let f = found (n .given .0 .0)
+    (answer (args .list .now)
+    (length (role-buffer .result)))
+    (n .given .1) (read-roles .ensures .0) in
+    sym (length-take-le (n .given .0 .0)
+    (read-roles .last .1 .0) (f .within))
 
 accepted-fits-requires : tie.Need-accepted-fits-requires
 accepted-fits-requires c κs = search needs
 
 returns : tie.Need-returns
 returns c =
-    let a = (c .before .before .before .before .before .before .before .before .before .before .args) in
-    let none = not-found ((c .before .before .before .before .before .read-roles) .last .1 .0)
-    ((c .before .before .r) .given .0 .0) (answer (a .list .now)
-    (length ((c .before .before .before .before .before .before .before .role-buffer) .result)))
-    ((c .before .before .r) .given .1) ((c .before .before .before .before .before .read-roles) .ensures .0) in
+    let args = c .before .before .before .before .before .before .before .before .before .before .args in
+    let role-buffer = c .before .before .before .before .before .before .before .role-buffer in
+    let read-roles = c .before .before .before .before .before .read-roles in
+    let r = c .before .before .r in
+    let a = args in
+    let none = not-found (read-roles .last .1 .0)
+    (r .given .0 .0) (answer (a .list .now)
+    (length (role-buffer .result)))
+    (r .given .1) (read-roles .ensures .0) in
     (c .is-refusal) .ensures ∙ sym (ap (rolesFit (slice (a .start) (a .end) (a .s .now)))
     (ap (answer (a .list .now))
-    ((c .before .before .before .before .before .before .before .role-buffer) .ensures) ∙ none))
+    (role-buffer .ensures) ∙ none))
 
 returns-2 : tie.Need-returns-2
 returns-2 c =
-    let f = found ((c .before .before .before .n) .given .0 .0)
+    let args = c .before .before .before .before .before .before .before .before .before .before .before .args in
+    let role-buffer = c .before .before .before .before .before .before .before .before .role-buffer in
+    let read-roles = c .before .before .before .before .before .before .read-roles in
+    let n = c .before .before .before .n in
+    let f = found (n .given .0 .0)
     (answer
-    ((c .before .before .before .before .before .before .before .before .before .before .before .args) .list .now)
-    (length ((c .before .before .before .before .before .before .before .before .role-buffer) .result)))
-    ((c .before .before .before .n) .given .1)
-    ((c .before .before .before .before .before .before .read-roles) .ensures .0) in
-    let a = (c .before .before .before .before .before .before .before .before .before .before .before .args) in
+    (args .list .now)
+    (length (role-buffer .result)))
+    (n .given .1)
+    (read-roles .ensures .0) in
+    let a = args in
     (c .accepted-fits) .ensures ∙ sym (ap (rolesFit (slice (a .start) (a .end) (a .s .now)))
     (ap (answer (a .list .now))
-    ((c .before .before .before .before .before .before .before .before .role-buffer) .ensures) ∙ f .same))
+    (role-buffer .ensures) ∙ f .same))
 
 pub is-roles-spec : {M : Type 1} → statement M
 is-roles-spec =

@@ -39,20 +39,22 @@ enum-known-e c = search needs
 
 array-share-prefix-roles : tie.Need-array-share-prefix-roles
 array-share-prefix-roles c =
-    let e = c .before .e in
-    let parse-tagged-attribute = c .before .before .before .before .parse-tagged-attribute in
     let role-buffer = c .before .before .before .before .before .before .before .role-buffer in
-    let earlier = c .before .before .before .before .before .before .before in
+    let before = c .before .before .before .before .before .before .before in
+    let parse-tagged-attribute = c .before .before .before .before .parse-tagged-attribute in
+    let e = c .before .e in
+    let earlier = before in
     let args = earlier .before .before .before .args in
     let p = parse-tagged-attribute in
     reports.rows-within PREFIX (args .list .now) (role-buffer .result) _ _ (p .ensures .0) _ (e .given .1)
 
 slice-aggregate-accepted-fits : tie.Need-slice-aggregate-accepted-fits
 slice-aggregate-accepted-fits c =
-    let e = c .before .before .e in
-    let parse-tagged-attribute = c .before .before .before .before .before .parse-tagged-attribute in
     let role-buffer = c .before .before .before .before .before .before .before .before .role-buffer in
-    let earlier = c .before .before .before .before .before .before .before .before in
+    let before = c .before .before .before .before .before .before .before .before in
+    let parse-tagged-attribute = c .before .before .before .before .before .parse-tagged-attribute in
+    let e = c .before .before .e in
+    let earlier = before in
     let args = earlier .before .before .before .args in
     let p = parse-tagged-attribute in
     let within =
@@ -64,11 +66,12 @@ accepted-fits-requires c κs = search needs
 
 returns : tie.Need-returns
 returns c =
+    let role-buffer = c .before .before .before .before .before .before .before .before .role-buffer in
+    let before = c .before .before .before .before .before .before .before .before in
+    let parse-tagged-attribute = c .before .before .before .before .before .parse-tagged-attribute in
     let text-is = c .text-is in
     let enum-told = c .before .before .enum-told in
-    let parse-tagged-attribute = c .before .before .before .before .before .parse-tagged-attribute in
-    let role-buffer = c .before .before .before .before .before .before .before .before .role-buffer in
-    let earlier = c .before .before .before .before .before .before .before .before in
+    let earlier = before in
     let args = earlier .before .before .before .args in
     let p = parse-tagged-attribute in
     let fits = taggedFits (slice (args .start) (args .end) (args .s .now)) in
@@ -78,11 +81,12 @@ returns c =
 
 returns-2 : tie.Need-returns-2
 returns-2 c =
+    let role-buffer = c .before .before .before .before .before .before .before .before .role-buffer in
+    let before = c .before .before .before .before .before .before .before .before in
+    let parse-tagged-attribute = c .before .before .before .before .before .parse-tagged-attribute in
     let is-refusal = c .is-refusal in
     let r = c .before .before .r in
-    let parse-tagged-attribute = c .before .before .before .before .before .parse-tagged-attribute in
-    let role-buffer = c .before .before .before .before .before .before .before .before .role-buffer in
-    let earlier = c .before .before .before .before .before .before .before .before in
+    let earlier = before in
     let args = earlier .before .before .before .args in
     let p = parse-tagged-attribute in
     let fits = taggedFits (slice (args .start) (args .end) (args .s .now)) in
@@ -91,11 +95,12 @@ returns-2 c =
 
 returns-3 : tie.Need-returns-3
 returns-3 c =
+    let role-buffer = c .before .before .before .before .before .before .before .before .before .role-buffer in
+    let before = c .before .before .before .before .before .before .before .before .before in
+    let parse-tagged-attribute = c .before .before .before .before .before .before .parse-tagged-attribute in
     let accepted-fits = c .accepted-fits in
     let e = c .before .before .before .e in
-    let parse-tagged-attribute = c .before .before .before .before .before .before .parse-tagged-attribute in
-    let role-buffer = c .before .before .before .before .before .before .before .before .before .role-buffer in
-    let earlier = c .before .before .before .before .before .before .before .before .before in
+    let earlier = before in
     let args = earlier .before .before .before .args in
     let p = parse-tagged-attribute in
     let fits = taggedFits (slice (args .start) (args .end) (args .s .now)) in

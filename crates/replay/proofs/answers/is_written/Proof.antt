@@ -17,9 +17,11 @@ enum-known-answer-2 c = search needs
 
 slice-aggregate-text-is : tie.Need-slice-aggregate-text-is
 slice-aggregate-text-is c =
-    let out = c .before .before .before .before .before .before .args .out .now in
+    let args = c .before .before .before .before .before .before .args in
+    let pre = c .before .before .before .before .before .before .pre in
+    let out = args .out .now in
     let n = c .before .before .answer2 .given in
-    sym (length-take-le (n .0 .0) out (rw (n .1) at (c .before .before .before .before .before .before .pre .1)))
+    sym (length-take-le (n .0 .0) out (rw (n .1) at (pre .1)))
 
 text-is-requires : tie.Need-text-is-requires
 text-is-requires c κs = search needs

@@ -1,7 +1,7 @@
 use Rattle.replay.specs.Answer.{letterFits}
 use borrow.Author.Tests.{eq-eqb, ne-eqb}
-use mathlib.Core.Bool.{true, false, not}
-use mathlib.Core.Path.{_≡_, sym, ap, _∙_}
+use mathlib.Core.Bool.{not}
+use mathlib.Core.Path.{ap}
 use borrow.Author.Needs.{needs}
 use Rattle.replay.proofs.answers.letter_fits.Statement.{statement}
 use Rattle.replay.proofs.answers.letter_fits.Tie as tie
@@ -19,8 +19,9 @@ is-one-of-requires c κs = search needs
 returns-2 : tie.Need-returns-2
 unfolding letterFits
 returns-2 c =
+    let args = c .before .before .before .before .args in
     rw (
-      eq-eqb ((c .before .before .before .before .args) .letter) 46 ((c .before .before .before .if1) .taken),
+      eq-eqb (args .letter) 46 ((c .before .before .before .if1) .taken),
       (c .before .before .if2) .left,
     ) (ap not ((c .is-one-of) .ensures))
 

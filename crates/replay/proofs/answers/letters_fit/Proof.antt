@@ -22,9 +22,11 @@ loop-holds c = refl
 
 returns : tie.Need-returns Inv-loop μ-loop
 returns c =
-    let a = (c .before .before .before .before .before .args) in
-    sym ((c .before .before .loop) .inv ∙ fits-short (a .every) (a .s .now) (a .roles .now) (a .end) (omega arith)
-    ((c .before .before .loop) .at) ((c .before .before .loop) .i) (omega arith) (omega arith))
+    let args = c .before .before .before .before .before .args in
+    let loop = c .before .before .loop in
+    let a = args in
+    sym (loop .inv ∙ fits-short (a .every) (a .s .now) (a .roles .now) (a .end) (omega arith)
+    (loop .at) (loop .i) (omega arith) (omega arith))
 
 shared-slice-read-letter-fits : tie.Need-shared-slice-read-letter-fits Inv-loop μ-loop
 shared-slice-read-letter-fits c = omega arith
@@ -37,11 +39,13 @@ letter-fits-requires c κs = search needs
 
 returns-2 : tie.Need-returns-2 Inv-loop μ-loop
 returns-2 c =
-    let a = (c .before .before .before .before .before .before .before .before .before .args) in
-    sym ((c .before .before .before .before .before .before .loop) .inv ∙
+    let args = c .before .before .before .before .before .before .before .before .before .args in
+    let loop = c .before .before .before .before .before .before .loop in
+    let a = args in
+    sym (loop .inv ∙
     fits-fails (a .every) (a .s .now) (a .roles .now) (a .end) (omega arith)
-    ((c .before .before .before .before .before .before .loop) .at)
-    ((c .before .before .before .before .before .before .loop) .i) (omega arith) (omega arith)
+    (loop .at)
+    (loop .i) (omega arith) (omega arith)
     (sym ((c .before .letter-fits) .ensures) ∙ not-true _ ((c .if2) .taken)))
 
 add-at : tie.Need-add-at Inv-loop μ-loop
@@ -55,11 +59,13 @@ loop-less c = omega arith
 
 loop-again : tie.Need-loop-again Inv-loop μ-loop
 loop-again c =
-    let a = (c .before .before .before .before .before .before .before .before .before .args) in
-    (c .before .before .before .before .before .before .loop) .inv ∙
+    let args = c .before .before .before .before .before .before .before .before .before .args in
+    let loop = c .before .before .before .before .before .before .loop in
+    let a = args in
+    loop .inv ∙
     fits-next (a .every) (a .s .now) (a .roles .now) (a .end) (omega arith)
-    ((c .before .before .before .before .before .before .loop) .at)
-    ((c .before .before .before .before .before .before .loop) .i) (omega arith) (omega arith)
+    (loop .at)
+    (loop .i) (omega arith) (omega arith)
     (sym ((c .before .letter-fits) .ensures) ∙ not-false _ ((c .if2) .left))
 
 slice-aggregate-text-is : tie.Need-slice-aggregate-text-is Inv-loop μ-loop
@@ -70,10 +76,12 @@ text-is-requires c κs = search needs
 
 returns-3 : tie.Need-returns-3 Inv-loop μ-loop
 returns-3 c =
-    let a = (c .before .before .before .before .before .before .args) in
-    (c .text-is) .ensures ∙ sym ((c .before .before .before .loop) .inv ∙
-    fits-end (a .every) (a .s .now) (a .roles .now) (a .end) (omega arith) ((c .before .before .before .loop) .at)
-    ((c .before .before .before .loop) .i) (omega arith))
+    let args = c .before .before .before .before .before .before .args in
+    let loop = c .before .before .before .loop in
+    let a = args in
+    (c .text-is) .ensures ∙ sym (loop .inv ∙
+    fits-end (a .every) (a .s .now) (a .roles .now) (a .end) (omega arith) (loop .at)
+    (loop .i) (omega arith))
 
 pub letters-fit-spec : {M : Type 1} → statement M
 letters-fit-spec =

@@ -32,19 +32,25 @@ same-length : tie.Need-same-length
 same-length c = search needs
 
 returns : tie.Need-returns
-returns c = rw (c .before .before .before .before .enum-told .given .1) (c .before .before .impl-generics .ensures .answered)
+returns c =
+    let enum-told = c .before .before .before .before .enum-told in
+    rw (enum-told .given .1) (c .before .before .impl-generics .ensures .answered)
 
 same-length-2 : tie.Need-same-length-2
 same-length-2 c = search needs
 
 returns-2 : tie.Need-returns-2
-returns-2 c = rw (c .before .before .before .before .enum-told2 .given .1) (c .before .before .type-generics .ensures .answered)
+returns-2 c =
+    let enum-told2 = c .before .before .before .before .enum-told2 in
+    rw (enum-told2 .given .1) (c .before .before .type-generics .ensures .answered)
 
 same-length-3 : tie.Need-same-length-3
 same-length-3 c = search needs
 
 returns-3 : tie.Need-returns-3
-returns-3 c = rw (c .before .before .before .before .before .before .enum-told3 .given .1) (c .before .before .impl-generics-with-additional .ensures .answered)
+returns-3 c =
+    let enum-told3 = c .before .before .before .before .before .before .enum-told3 in
+    rw (enum-told3 .given .1) (c .before .before .impl-generics-with-additional .ensures .answered)
 
 pub write-generics-spec : {M : Type 1} → statement M
 write-generics-spec =

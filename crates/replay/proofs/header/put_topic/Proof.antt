@@ -102,7 +102,9 @@ same-length-6 : tie.Need-same-length-6
 same-length-6 c = search needs
 
 returns-6 : tie.Need-returns-6
-returns-6 c = rw (c .before .before .before .before .before .topic .given .1) (c .before .before .put-writer .ensures)
+returns-6 c =
+    let topic = c .before .before .before .before .before .topic in
+    rw (topic .given .1) (c .before .before .put-writer .ensures)
 
 pub put-topic-spec : {M : Type 1} → statement M
 put-topic-spec =

@@ -24,8 +24,8 @@ fill-requires c κs = search needs
 enum-known-t : tie.Need-enum-known-t
 enum-known-t c = search needs
 
-mark-tag-requires : tie.Need-mark-tag-requires
-mark-tag-requires c κs =
+set-tag-requires : tie.Need-set-tag-requires
+set-tag-requires c κs =
     let t = c .before .before .before .t in
     let entry = c .before .before .before .before .before .entry in
     let pre = c .before .before .before .before .before .before .before .before .pre in
@@ -35,8 +35,8 @@ mark-tag-requires c κs =
 enum-known-p : tie.Need-enum-known-p
 enum-known-p c = search needs
 
-mark-property-requires : tie.Need-mark-property-requires
-mark-property-requires c κs =
+set-property-requires : tie.Need-set-property-requires
+set-property-requires c κs =
     let p = c .before .before .before .p in
     let entry = c .before .before .before .before .before .entry in
     let pre = c .before .before .before .before .before .before .before .before .pre in
@@ -70,20 +70,20 @@ same-length-2 c = search needs
 
 returns-4 : tie.Need-returns-4
 returns-4 c =
-    let mark-tag = c .before .before .mark-tag in
+    let set-tag = c .before .before .set-tag in
     let t = c .before .before .before .before .before .before .t in
     let entry = c .before .before .before .before .before .before .before .before .entry in
-    turns.turned-tag (turns.entry-told _ _ _ (entry .ensures) (t .given .1)) (mark-tag .ensures)
+    turns.turned-tag (turns.entry-told _ _ _ (entry .ensures) (t .given .1)) (set-tag .ensures)
 
 same-length-3 : tie.Need-same-length-3
 same-length-3 c = search needs
 
 returns-5 : tie.Need-returns-5
 returns-5 c =
-    let mark-property = c .before .before .mark-property in
+    let set-property = c .before .before .set-property in
     let p = c .before .before .before .before .before .before .p in
     let entry = c .before .before .before .before .before .before .before .before .entry in
-    turns.turned-property (turns.entry-told _ _ _ (entry .ensures) (p .given .1)) (mark-property .ensures)
+    turns.turned-property (turns.entry-told _ _ _ (entry .ensures) (p .given .1)) (set-property .ensures)
 
 pub turn-spec : {M : Type 1} → statement M
 turn-spec =
@@ -95,9 +95,9 @@ turn-spec =
     enum-known-d
     fill-requires
     enum-known-t
-    mark-tag-requires
+    set-tag-requires
     enum-known-p
-    mark-property-requires
+    set-property-requires
     returns
     returns-2
     same-length

@@ -1,7 +1,7 @@
 use mathlib.Core.Path.{sym, _∙_, ap}
 use mathlib.Core.Bool.{Bool, cond}
 use Rattle.token_list.specs.Row.{plain, wrong}
-use Rattle.token_list.proofs.Forms.{ident-form, literal-form, mark-form, name-byte, literal-byte}
+use Rattle.token_list.proofs.Forms.{ident-form, literal-form, single-form, name-byte, literal-byte}
 use borrow.Author.Needs.{needs}
 use Rattle.token_list.proofs.row.byte_shape.Statement.{statement}
 use Rattle.token_list.proofs.row.byte_shape.Tie as tie
@@ -36,11 +36,11 @@ returns-4 c =
     ap (λ (x : Bool). cond x plain wrong) (literal-byte (args .b) ∙ sym (c .before .starts-literal .ensures) ∙
     c .if4 .left))
 
-mark-shape-requires : tie.Need-mark-shape-requires
-mark-shape-requires c κs = search needs
+single-shape-requires : tie.Need-single-shape-requires
+single-shape-requires c κs = search needs
 
 returns-5 : tie.Need-returns-5
-returns-5 c = c .mark-shape .ensures ∙ sym (mark-form _ _ (c .before .before .if1 .left) (c .before .if3 .left))
+returns-5 c = c .single-shape .ensures ∙ sym (single-form _ _ (c .before .before .if1 .left) (c .before .if3 .left))
 
 pub byte-shape-spec : {M : Type 1} → statement M
 byte-shape-spec =
@@ -52,5 +52,5 @@ byte-shape-spec =
     starts-literal-requires
     returns-3
     returns-4
-    mark-shape-requires
+    single-shape-requires
     returns-5)

@@ -1,4 +1,4 @@
-use Rattle.token_list.proofs.Forms.{ident-form, literal-form, mark-wrong}
+use Rattle.token_list.proofs.Forms.{ident-form, literal-form, single-wrong}
 use Rattle.token_list.proofs.Texts.{chosen, passed-over, not-one}
 use mathlib.Core.Path.{sym, _∙_}
 use borrow.Author.Needs.{needs}
@@ -39,7 +39,7 @@ returns-5 c =
     let pre = c .before .before .before .pre in
     let a = c .before .before .before .args in
     sym
-    (mark-wrong (a .kind) _ (c .before .if1 .left) (c .if3 .left)
+    (single-wrong (a .kind) _ (c .before .if1 .left) (c .if3 .left)
     (not-one (a .s .now) (a .start) (a .end) (pre .0) (pre .1)))
 
 pub text-shape-spec : {M : Type 1} → statement M

@@ -22,8 +22,8 @@ returns-2 c =
 add-start : tie.Need-add-start
 add-start c = search needs
 
-shared-slice-read-mark : tie.Need-shared-slice-read-mark
-shared-slice-read-mark c =
+shared-slice-read-first : tie.Need-shared-slice-read-first
+shared-slice-read-first c =
     let d = c .before .before .before .before in
     let f = first-row (d .args .s .now) (d .args .c .at) (d .pre .whole) (c .before .before .before .if1 .left) in
     omega (arith, three-bytes _ _ f)
@@ -37,4 +37,4 @@ returns-3 c =
 pub look-spec : {M : Type 1} → statement M
 look-spec =
     tie.close
-    (tie.spec returns shared-slice-read-kind returns-2 add-start shared-slice-read-mark returns-3)
+    (tie.spec returns shared-slice-read-kind returns-2 add-start shared-slice-read-first returns-3)

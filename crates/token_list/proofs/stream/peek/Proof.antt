@@ -24,8 +24,8 @@ add-start c = search needs
 add-next : tie.Need-add-next
 add-next c = search needs
 
-shared-slice-read-mark : tie.Need-shared-slice-read-mark
-shared-slice-read-mark c = search needs
+shared-slice-read-first : tie.Need-shared-slice-read-first
+shared-slice-read-first c = search needs
 
 returns-3 : tie.Need-returns-3
 returns-3 c =
@@ -52,6 +52,6 @@ peek-spec =
     row-end-requires
     add-start
     add-next
-    shared-slice-read-mark
+    shared-slice-read-first
     returns-3
     returns-4)

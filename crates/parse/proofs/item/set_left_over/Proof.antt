@@ -3,8 +3,8 @@ use lib.ListN.{length, replicate}
 use Prim.Native.Nat.{_-_}
 use mathlib.Core.Path.{_∙_, ap}
 use borrow.Author.Needs.{needs}
-use Rattle.parse.proofs.item.mark_left_over.Statement.{statement}
-use Rattle.parse.proofs.item.mark_left_over.Tie as tie
+use Rattle.parse.proofs.item.set_left_over.Statement.{statement}
+use Rattle.parse.proofs.item.set_left_over.Tie as tie
 
 fill-requires : tie.Need-fill-requires
 fill-requires c κs = search needs
@@ -26,5 +26,5 @@ returns c =
     sets (sets (a .roles .now) (a .end) (replicate (a .rows - a .end) 0)) (a .rows) (replicate (n - a .rows) 255))
     (length-sets (a .roles .now) (a .end) (replicate (a .rows - a .end) 0))
 
-pub mark-left-over-spec : {M : Type 1} → statement M
-mark-left-over-spec = tie.close (tie.spec fill-requires fill-requires-2 same-length returns)
+pub set-left-over-spec : {M : Type 1} → statement M
+set-left-over-spec = tie.close (tie.spec fill-requires fill-requires-2 same-length returns)

@@ -2,8 +2,8 @@ use Rattle.token_list.proofs.Texts.{chosen, passed-over}
 use borrow.Author.Tests.{eq-eqb, ne-eqb}
 use mathlib.Core.Path.{sym, _∙_}
 use borrow.Author.Needs.{needs}
-use Rattle.token_list.proofs.row.mark_shape.Statement.{statement}
-use Rattle.token_list.proofs.row.mark_shape.Tie as tie
+use Rattle.token_list.proofs.row.single_shape.Statement.{statement}
+use Rattle.token_list.proofs.row.single_shape.Tie as tie
 
 is-punctuation-requires : tie.Need-is-punctuation-requires
 is-punctuation-requires c κs = search needs
@@ -68,8 +68,8 @@ returns-7 c =
     (passed-over _ _ _ (ne-eqb _ _ (c .before .before .if1 .left)) ∙ passed-over _ _ _
     (ne-eqb _ _ (c .before .if3 .left)) ∙ passed-over _ _ _ (ne-eqb _ _ (c .if5 .left)))
 
-pub mark-shape-spec : {M : Type 1} → statement M
-mark-shape-spec =
+pub single-shape-spec : {M : Type 1} → statement M
+single-shape-spec =
     tie.close
     (tie.spec
     is-punctuation-requires

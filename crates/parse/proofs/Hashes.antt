@@ -13,7 +13,7 @@ use Rattle.token_list.specs.declared.check.Cursor.{Cursor}
 use Rattle.token_list.specs.declared.stream.Token.{Token}
 use Rattle.token_list.proofs.Texts.{chosen, passed-over}
 use Rattle.reading.specs.Took.{Took, took, refuse, ranOut, onward, gathered}
-use Rattle.reading.specs.Reading.{isPunct, attributes, marked, copied, whole}
+use Rattle.reading.specs.Reading.{isPunct, attributes, afterHash, copied, groupSize}
 use Rattle.parse.specs.Contract.{Moved, stream, pastOf, Gained}
 use Rattle.parse.proofs.Loops.{gathered-onward, gathered-one}
 use Rattle.parse.proofs.Meeting.{leaf-taken, leaf-then, moved-on, group-stream}
@@ -22,31 +22,31 @@ module _ (s : List ℕ) (c : Cursor) (inList : InList s c) (t : Token) (l : Leaf
   abbrev here : Took (List Trees)
   here = attributes (c .row) (stream s c)
 
-  pub no-mark : isPunct 35 (rowOf s t) ≡ false → here ≡ took [] [] (stream s c)
-  no-mark e = ap (attributes (c .row)) (l .here) ∙ passed-over _ _ _ e ∙ ap (took [] []) (sym (l .here))
+  pub no-hash : isPunct 35 (rowOf s t) ≡ false → here ≡ took [] [] (stream s c)
+  no-hash e = ap (attributes (c .row)) (l .here) ∙ passed-over _ _ _ e ∙ ap (took [] []) (sym (l .here))
 
   module _ (e : isPunct 35 (rowOf s t) ≡ true) (d : Cursor) (p : d ≡ pastOf c t) where
-    after-mark : (us : Trees) → stream s d ≡ us → here ≡ marked (c .row) us
-    after-mark us q = ap (attributes (c .row)) (leaf-then s c d t us l p q) ∙ chosen _ _ _ e
+    past-hash : (us : Trees) → stream s d ≡ us → here ≡ afterHash (c .row) us
+    past-hash us q = ap (attributes (c .row)) (leaf-then s c d t us l p q) ∙ chosen _ _ _ e
 
-    pub mark-end : stream s d ≡ end → here ≡ ranOut 13 END
-    mark-end q = after-mark end q
+    pub hash-end : stream s d ≡ end → here ≡ ranOut 13 END
+    hash-end q = past-hash end q
 
     below : d .row ≡ c .row + 1
     below = ap (λ (x : Cursor). x .row) p
 
     module _ (q : Token) (n : LeafAt s (d .at) q) where
-      pub mark-other : isPunct 35 (rowOf s q) ≡ false → here ≡ refuse 13 (d .row)
-      mark-other f = after-mark _ (n .here) ∙ passed-over _ _ _ f ∙ ap (λ (n : ℕ). refuse 13 n) (sym below)
+      pub hash-other : isPunct 35 (rowOf s q) ≡ false → here ≡ refuse 13 (d .row)
+      hash-other f = past-hash _ (n .here) ∙ passed-over _ _ _ f ∙ ap (λ (n : ℕ). refuse 13 n) (sym below)
 
-      pub mark-idle : (b0 b1 : List ℕ) → b1 ≡ set b0 (c .row) 3 → isPunct 35 (rowOf s q) ≡ true →
+      pub hash-idle : (b0 b1 : List ℕ) → b1 ≡ set b0 (c .row) 3 → isPunct 35 (rowOf s q) ≡ true →
           Gained s c d b0 b1 [] here (attributes (d .row) (stream s d))
-      mark-idle b0 b1 w f =
+      hash-idle b0 b1 w f =
           record {
             roles = 3 ∷ [];
             moved = leaf-taken attributes s c inList (λ x. Unit) t l d b0 b1 3 p w;
             some = omega arith;
-            same = after-mark _ (n .here) ∙ chosen _ _ _ f ∙ sym
+            same = past-hash _ (n .here) ∙ chosen _ _ _ f ∙ sym
                 (ap (onward (3 ∷ [])) ((λ i. attributes (below i) (n .here i)) ∙ chosen _ _ _ f)) ∙
                 gathered-onward (3 ∷ []) (attributes (d .row) (stream s d));
           }
@@ -58,23 +58,23 @@ module _ (s : List ℕ) (c : Cursor) (inList : InList s c) (t : Token) (l : Leaf
       abbrev aft : Trees
       aft = head (at s (q .next) .outer)
 
-      pub mark-wrong : (q .mark ≡ 91 → ⊥) → here ≡ refuse 12 (d .row)
-      mark-wrong f = after-mark _ (group-stream s d q k g) ∙ passed-over _ _ _ (ne-eqb _ _ f) ∙
+      pub hash-wrong : (q .first ≡ 91 → ⊥) → here ≡ refuse 12 (d .row)
+      hash-wrong f = past-hash _ (group-stream s d q k g) ∙ passed-over _ _ _ (ne-eqb _ _ f) ∙
           ap (λ (n : ℕ). refuse 12 n) (sym below)
 
-      pub mark-group : (b0 b1 b2 : List ℕ) (x : Cursor) → q .mark ≡ 91 → b1 ≡ set b0 (c .row) 1 →
+      pub hash-group : (b0 b1 b2 : List ℕ) (x : Cursor) → q .first ≡ 91 → b1 ≡ set b0 (c .row) 1 →
           Moved s d x (copied 2 ins) aft b1 b2
           → Gained s c x b0 b2 (ins ∷ []) here (attributes (x .row) (stream s x))
-      mark-group b0 b1 b2 x f w m =
-          let h : length (copied 2 ins) ≡ whole ins = length-replicate (whole ins) 2 in
-          let r : c .row + 1 + whole ins ≡ x .row = omega (arith, m .row, h, below) in
+      hash-group b0 b1 b2 x f w m =
+          let h : length (copied 2 ins) ≡ groupSize ins = length-replicate (groupSize ins) 2 in
+          let r : c .row + 1 + groupSize ins ≡ x .row = omega (arith, m .row, h, below) in
           let n = moved-on (leaf-taken attributes s c inList (λ x. Unit) t l d b0 b1 1 p w) m in
           record {
             roles = 1 ∷ copied 2 ins;
             moved = record
                 { inList = n .inList; row = n .row; forth = n .forth; here = refl; outer = n .outer; roles = n .roles };
             some = omega arith;
-            same = after-mark _ (group-stream s d q k g) ∙ chosen _ _ _ (eq-eqb _ _ f) ∙
-                gathered-one (c .row + 1 + whole ins) ins (1 ∷ copied 2 ins) (attributes (c .row + 1 + whole ins) aft) ∙
+            same = past-hash _ (group-stream s d q k g) ∙ chosen _ _ _ (eq-eqb _ _ f) ∙
+                gathered-one (c .row + 1 + groupSize ins) ins (1 ∷ copied 2 ins) (attributes (c .row + 1 + groupSize ins) aft) ∙
                 (λ i. gathered (ins ∷ []) (1 ∷ copied 2 ins) (attributes (r i) (sym (m .here) i)));
           }

@@ -2,7 +2,7 @@ use Rattle.parse.proofs.Places as places
 use Rattle.token_list.specs.declared.check.Cursor.{Cursor}
 use Prim.Native.Nat.{ℕ}
 use Rattle.reading.specs.Took.{misfit, gaveOut}
-use Rattle.parse.proofs.Marks as marks
+use Rattle.parse.proofs.Hashes as hashes
 use Rattle.reading.specs.Took.{took}
 use mathlib.Core.List.{[]}
 use Rattle.parse.proofs.Meeting as meeting
@@ -11,8 +11,8 @@ use Rattle.reading.specs.Reading as reading
 use borrow.Author.Tests.{not-true, not-false}
 use mathlib.Core.Path.{subst, refl, sym, _∙_, ap}
 use borrow.Author.Needs.{needs}
-use Rattle.parse.proofs.attributes.marked_attribute.Statement.{statement}
-use Rattle.parse.proofs.attributes.marked_attribute.Tie as tie
+use Rattle.parse.proofs.attributes.after_hash.Statement.{statement}
+use Rattle.parse.proofs.attributes.after_hash.Tie as tie
 
 peek-requires : tie.Need-peek-requires
 peek-requires c κs = search needs
@@ -34,7 +34,7 @@ returns c =
     let pre = c .before .before .before .before .before .before .before .before .pre in
     let peek = c .before .before .before .before .before .peek in
     let t = c .before .before .before .t in (
-      marks.no-mark _ _ pre _ (meeting.peeked _ _ (peek .ensures) (t .given .1))
+      hashes.no-hash _ _ pre _ (meeting.peeked _ _ (peek .ensures) (t .given .1))
           (meeting.punct-of _ _ _ _ ((meeting.peeked _ _ (peek .ensures) (t .given .1)) .token) ∙
           sym ((c .before .is-punct) .ensures) ∙ not-true _ ((c .if1) .taken)),
       refl,
@@ -74,7 +74,7 @@ returns-2 c =
     let peek2 = c .before .before .before .before .before .peek2 in
     let q = c .before .before .before .q in (
       misfit,
-      marks.mark-other _ _ pre _ (meeting.peeked _ _ (peek .ensures) (t .given .1))
+      hashes.hash-other _ _ pre _ (meeting.peeked _ _ (peek .ensures) (t .given .1))
           (meeting.punct-of _ _ _ _ ((meeting.peeked _ _ (peek .ensures) (t .given .1)) .token) ∙ sym
           (is-punct .ensures) ∙ not-false _ (if1 .left))
           _ (past .ensures) _ (meeting.peeked _ _ (peek2 .ensures) (q .given .1))
@@ -83,8 +83,8 @@ returns-2 c =
       refl,
     )
 
-mark-requires : tie.Need-mark-requires
-mark-requires c κs = search needs
+set-role-requires : tie.Need-set-role-requires
+set-role-requires c κs = search needs
 
 enum-known-g : tie.Need-enum-known-g
 enum-known-g c = search needs
@@ -100,7 +100,7 @@ returns-3 c =
     let past = c .before .before .before .before .before .before .past in
     let peek2 = c .before .before .before .before .before .peek2 in (
       misfit,
-      marks.mark-wrong _ _ pre _ (meeting.peeked _ _ (peek .ensures) (t .given .1))
+      hashes.hash-wrong _ _ pre _ (meeting.peeked _ _ (peek .ensures) (t .given .1))
           (meeting.punct-of _ _ _ _ ((meeting.peeked _ _ (peek .ensures) (t .given .1)) .token) ∙ sym
           (is-punct .ensures) ∙ not-false _ (if1 .left))
           _ (past .ensures) _
@@ -109,8 +109,8 @@ returns-3 c =
       refl,
     )
 
-mark-requires-2 : tie.Need-mark-requires-2
-mark-requires-2 c κs = search needs
+set-role-requires-2 : tie.Need-set-role-requires-2
+set-role-requires-2 c κs = search needs
 
 take-group-requires : tie.Need-take-group-requires
 take-group-requires c κs =
@@ -148,7 +148,7 @@ returns-6 c =
     let is-punct = c .before .before .before .before .before .is-punct in
     let if1 = c .before .before .before .before .if1 in (
       gaveOut,
-      marks.mark-end _ _ pre _ (meeting.peeked _ _ (peek .ensures) (t .given .1))
+      hashes.hash-end _ _ pre _ (meeting.peeked _ _ (peek .ensures) (t .given .1))
           (meeting.punct-of _ _ _ _ ((meeting.peeked _ _ (peek .ensures) (t .given .1)) .token) ∙ sym
           (is-punct .ensures) ∙ not-false _ (if1 .left))
           _ ((c .before .before .before .past) .ensures)
@@ -157,7 +157,7 @@ returns-6 c =
     )
 
 same-length : tie.Need-same-length
-same-length c = (c .before .before .mark) .kept .0
+same-length c = (c .before .before .set-role) .kept .0
 
 returns-7 : tie.Need-returns-7
 returns-7 c =
@@ -177,9 +177,9 @@ returns-7 c =
     let l = meeting.peeked _ _ (peek .ensures) (t .given .1) in
     let k = meeting.peeked _ _ (peek2 .ensures) (q .given .1) in
     let below = meeting.past-in-of _ _ _ _ (past .ensures) pre (l .token) in (
-      marks.mark-idle _ _ pre _ l
+      hashes.hash-idle _ _ pre _ l
           (meeting.punct-of _ _ _ _ (l .token) ∙ sym (is-punct .ensures) ∙ not-false _ (if1 .left))
-          _ (past .ensures) _ k _ _ ((c .before .before .mark) .ensures)
+          _ (past .ensures) _ k _ _ ((c .before .before .set-role) .ensures)
           (meeting.punct-of _ _ _ _ (k .token) ∙ sym (is-punct2 .ensures) ∙ not-false _ (if2 .left)),
       subst (λ (n : ℕ). contract.TokenIn (args .s .now) n (q .given .0 .0)) (ap (λ (x : Cursor). x .row) (past .ensures))
           (places.token-in _ _ _ below (k .token)),
@@ -187,8 +187,8 @@ returns-7 c =
 
 same-length-2 : tie.Need-same-length-2
 same-length-2 c =
-    let mark2 = c .before .before .before .before .before .before .mark2 in
-    (c .before .before .take-group) .kept .1 .1 .1 .0 ∙ mark2 .kept .0
+    let set-role2 = c .before .before .before .before .before .before .set-role2 in
+    (c .before .before .take-group) .kept .1 .1 .1 .0 ∙ set-role2 .kept .0
 
 returns-8 : tie.Need-returns-8
 returns-8 c =
@@ -204,20 +204,20 @@ returns-8 c =
     let peek2 = back8 .before .before .before .before .before .peek2 in
     let g = back8 .before .before .before .g in
     let if3 = back8 .if3 in
-    let mark2 = c .before .before .before .before .before .before .mark2 in
+    let set-role2 = c .before .before .before .before .before .before .set-role2 in
     let l = meeting.peeked _ _ (peek .ensures) (t .given .1) in
     let below = meeting.past-in-of _ _ _ _ (past .ensures) pre (l .token) in
     let k = meeting.peeked _ _ (peek2 .ensures) (g .given .1) in (
-      marks.mark-group _ _ pre _ l
+      hashes.hash-group _ _ pre _ l
           (meeting.punct-of _ _ _ _ (l .token) ∙ sym (is-punct .ensures) ∙ not-false _ (if1 .left))
-          _ (past .ensures) _ below k _ _ _ _ (if3 .left) (mark2 .ensures)
+          _ (past .ensures) _ below k _ _ _ _ (if3 .left) (set-role2 .ensures)
           ((c .before .before .take-group) .ensures),
       subst (λ (n : ℕ). contract.TokenIn (args .s .now) n (g .given .0 .0)) (ap (λ (x : Cursor). x .row) (past .ensures))
           (places.token-in _ _ _ below (k .token)),
     )
 
-pub marked-attribute-spec : {M : Type 1} → statement M
-marked-attribute-spec =
+pub after-hash-spec : {M : Type 1} → statement M
+after-hash-spec =
     tie.close
     (tie.spec
     peek-requires
@@ -232,10 +232,10 @@ marked-attribute-spec =
     enum-known-q
     is-punct-requires-2
     returns-2
-    mark-requires
+    set-role-requires
     enum-known-g
     returns-3
-    mark-requires-2
+    set-role-requires-2
     take-group-requires
     returns-4
     returns-5

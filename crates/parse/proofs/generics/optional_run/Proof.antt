@@ -12,8 +12,8 @@ use Rattle.parse.specs.declared.runs.Ending.{Ending}
 use Rattle.parse.specs.declared.runs.Run.{Run}
 use mathlib.Core.Path.{refl, sym, _∙_, ap, subst}
 use borrow.Author.Tests.{not-true, not-false}
-use Rattle.parse.proofs.generics.marked_run.Statement.{statement}
-use Rattle.parse.proofs.generics.marked_run.Tie as tie
+use Rattle.parse.proofs.generics.optional_run.Statement.{statement}
+use Rattle.parse.proofs.generics.optional_run.Tie as tie
 
 abbrev run-of : Cursor → Cursor → Ending → Bool → Run
 run-of c d e u = record { from = c; to = d; ending = e; unclosed = u }
@@ -99,8 +99,8 @@ returns-3 c =
     (meeting.meets-show
     (λ v h. (there, subst (λ (x : Point). contract.RunAt (args .s .now) reading.parameterStops role.bound x (run-of (consume-punct-if .result .next) (to .given .0 .0) (to .given .0 .1 .0) (to .given .0 .1 .1 .0)) v) past h)) run))
 
-pub marked-run-spec : {M : Type 1} → statement M
-marked-run-spec =
+pub optional-run-spec : {M : Type 1} → statement M
+optional-run-spec =
     tie.close
     (tie.spec
     consume-punct-if-requires
