@@ -57,14 +57,13 @@ module _ (s : List ℕ) (i : ℕ) where
 
 module _ (s : List ℕ) (c : Cursor) where
   goes-on : (d : Cursor) → d ≡ onward c (lines (drop (c .at) s)) → bytesFrom s (d .at) ≡ drop 1 (bytesFrom s (c .at))
-      → d .row ≡ c .row + 1 → c .at < d .at → d .at ≤ length s → GoesOn s c d
-  goes-on d e rest row past within =
+      → d .row ≡ c .row + 1 → c .at < d .at → GoesOn s c d
+  goes-on d e rest row past =
       record {
         answer = e;
         rest = rest;
         row = λ h. record {
           counted = omega (arith, h .counted);
-          within = within;
           rows = rest ∙ ap (drop 1) (h .rows) ∙ drop-drop 1 (c .row) (bytesFrom s FIRST-ROW)
               ∙ ap (λ (n : ℕ). drop n (bytesFrom s FIRST-ROW)) (sym row);
         };
@@ -90,7 +89,7 @@ module _ (s : List ℕ) (c : Cursor) where
       (ap (λ (n : ℕ). record { at = n; row = c .row + 1 }) size ∙ sym (ap (onward c) here))
       (ap (λ (t : List ℕ). rowBytes (lines t)) (drop-length s)
       ∙ sym (ap (λ (ls : Lines). drop 1 (rowBytes ls)) here))
-      refl h (omega arith)
+      refl h
 
   pub on-line : (e : ℕ) → e < length s → LineEnd s (c .at) e → GoesOn s c (record { at = e + 1; row = c .row + 1 })
   on-line e h l =
@@ -100,8 +99,8 @@ module _ (s : List ℕ) (c : Cursor) where
       goes-on (record { at = e + 1; row = c .row + 1 })
       (ap (λ (n : ℕ). record { at = n; row = c .row + 1 }) size ∙ sym (ap (onward c) here))
       (sym (ap (λ (ls : Lines). drop 1 (rowBytes ls)) here))
-      refl (omega (arith, l .start)) (omega arith)
+      refl (omega (arith, l .start))
 
 -- a reader of a list at its first row
-pub at-first : (s : List ℕ) → FIRST-ROW ≤ length s → AtRow s (record { at = FIRST-ROW; row = 0 })
-at-first s h = record { counted = omega arith; within = h; rows = refl }
+pub at-first : (s : List ℕ) → AtRow s (record { at = FIRST-ROW; row = 0 })
+at-first s = record { counted = omega arith; rows = refl }

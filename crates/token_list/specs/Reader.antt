@@ -23,10 +23,9 @@ abbrev pub bytesFrom : List ℕ → ℕ → List (List ℕ)
 bytesFrom s i = rowBytes (lines (drop i s))
 
 -- The row and the offset belong together: the rows from the offset on are those from the row on. Past the last row both
--- are the end.
+-- are none.
 pub record AtRow (s : List ℕ) (c : Cursor) : Type 0 where
   pub counted : c .row ≤ c .at
-  pub within : c .at ≤ length s
   pub rows : bytesFrom s (c .at) ≡ drop (c .row) (bytesFrom s FIRST-ROW)
 
 -- what is shown of lines that start at i: the first, from i to its LF or the list's end, or that none is left

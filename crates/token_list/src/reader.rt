@@ -76,3 +76,23 @@ pub fn next<'a>(r: Reader<'a>) -> Reader<'a>
         at: c.at,
     }
 }
+
+// What a reader of the list shows at a row that starts at `at`. Those who go through rows call this and `next_at`, which
+// take a plain slice and numbers.
+pub fn peek_at(list: &[u8], row: usize, at: usize) -> Shown
+    ensures { λ r. ⌜ Shows (now (list .entry)) at r ⌝ }
+{
+    peek(Reader { list, row, at })
+}
+
+// Where a reader of the list goes on from a row that starts at `at`.
+pub fn next_at(list: &[u8], row: usize, at: usize) -> Cursor
+    requires { ⌜ row ≤ at ⌝ }
+    ensures { λ r. ⌜ GoesOn (now (list .entry)) (record { at = at; row = row }) r ⌝ }
+{
+    let r = next(Reader { list, row, at });
+    Cursor {
+        at: r.at,
+        row: r.row,
+    }
+}
