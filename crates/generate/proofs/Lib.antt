@@ -5,3 +5,4 @@ pub mod Constrained
 pub mod Parameters
 pub mod Answers
 pub mod Arguments
+pub mod LentBuilder
