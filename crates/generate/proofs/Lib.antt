@@ -6,3 +6,7 @@ pub mod Parameters
 pub mod Answers
 pub mod Arguments
 pub mod LentBuilder
+pub mod LentByte
+pub mod LentName
+pub mod LentToken
+pub mod LentPart

@@ -3,7 +3,7 @@ use contract.Running.{givenOf, tables, tablesOf}
 use denote.Triple.Spec.{tripleOf}
 use denote.Triple.Table.{entered, cited}
 use Rattle.writing.specs.Rows.{ident}
-use Rattle.generate.proofs.LentBuilder.{Method, meets}
+use Rattle.generate.proofs.LentName.{Method, meets}
 use Rattle.generate.proofs.stream_builder.StreamBuilder.ident_str.Symbol as method-def
 use Rattle.generate.proofs.stream_builder.StreamBuilder.ident_str.Symbol.{name as #method}
 use Rattle.generate.proofs.stream_builder.StreamBuilder.ident_str.Met as method-thm
