@@ -25,7 +25,8 @@ use Rattle.generate.proofs.stream_builder.StreamBuilder.Laws as T′
 abbrev pub slice : Lifetime → Mutability → Ty
 slice ℓ m = tyStruct (38 ∷ 91 ∷ 93 ∷ []) (tcons (tyRef ℓ m (tyInt w8)) (tcons (tyInt w64) tnil))
 
-module _ {M : Type 1} {𝓤 : URA M} {H : Heap 𝓤} {A : Atoms 𝓤} {K : Type 0} {W : Given 𝓤 H A} {Γ : List (Item 𝓤)} {G : Goal 𝓤 H} where
+module _ {M : Type 1} {𝓤 : URA M} {H : Heap 𝓤} {A : Atoms 𝓤} {K : Type 0} {W : Given 𝓤 H A} {Γ : List (Item 𝓤)}
+    {G : Goal 𝓤 H} where
   pub opened : K → Soaks G → {κ : Lft} {q : Share} {γ : GName} (h : StreamBuilder) (b o : ℕ)
       → (Is T.the-row h (T′.lowered h ∷ [])
       → Seq K W (‵ (fat fullShare T′.mir b o (T′.lowered h)) ∷ ‵ (fobor κ q (Body (mem T.the-row) b o γ))

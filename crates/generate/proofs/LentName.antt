@@ -1,5 +1,5 @@
--- Functions that append rows by a builder that is lent, beside an output and a name: a walk of their MIR, by hand. All that
--- it knows of the by-value method is that it meets its contract, which says what the function's own says.
+-- Rows appended by a builder that is lent, beside an output and a name: a walk of the MIR, by hand. All that it
+-- knows of the by-value method is that it meets its contract, which says what the function's own says.
 -- The builder's borrow is opened, the counts are read, the method is called, its answer is stored, and the borrow is
 -- closed at it. The output is not needed after the call: it goes to the method at its own lifetime, share and name.
 -- Assumes nothing.
@@ -59,7 +59,8 @@ function m = record {
   body = seq (assign (place 4 []) (rvOpd (copy (place 1 (deref T′.mir ∷ [])))))
       (seq (assign (place 6 []) (addrOf (place 2 (field 0 ∷ deref (tyInt w8) ∷ []))))
       (seq (assign (place 7 []) (aggregate (copy (place 6 []) ∷ copy (place 2 (field 1 ∷ [])) ∷ [])))
-      (seq (call m (copy (place 4 []) ∷ copy (place 7 []) ∷ copy (place 3 []) ∷ []) (place 5 []))
+      (seq (call m (copy (place 4 []) ∷ copy (place 7 []) ∷ copy (place 3 []) ∷ [])
+      (place 5 []))
       (seq (assign (place 1 (deref T′.mir ∷ [])) (rvOpd (copy (place 5 []))))
       (seq (assign (place 0 []) (rvOpd opdUnit)) return)))));
 }
@@ -69,20 +70,22 @@ abbrev listSlot : Slot 3
 listSlot = shrSliceOf (2 ∷ []) tt (plain (λ _. u8))
 
 abbrev stayed : Stays (f.ended .signature .params) (f.ended .kept)
-stayed = (
-  stay-ref (0 ∷ []) tt (plain (λ _. T.the-row)),
-  (gave-slice (1 ∷ []) tt (plain (λ _. u8)), (stay-dropped listSlot yes, tt)),
-)
+stayed =
+    let list = stay-dropped listSlot yes in
+    (stay-ref (0 ∷ []) tt (plain (λ _. T.the-row)), (gave-slice (1 ∷ []) tt (plain (λ _. u8)), (list, tt)))
 
 -- which rows a name makes
 module _ (rows : List ℕ → List Row) {M : Type 1} (𝓤 : URA M) (H : Heap 𝓤) (A : Atoms 𝓤) where
+  -- what is said of the output and the counts, before and after
+  abbrev Says : List ℕ → List ℕ → StreamBuilder → StreamBuilder → List ℕ → Type 0
+  Says before after b r name = Appended before after b r (rows name)
+
   -- what the function says
   abbrev clauses : Clauses 𝓤 f.ended
   clauses κs a = record {
     ghost = Unit {0};
     requires = λ _. emp 𝓤;
-    ensures = λ _ _ e. fact 𝓤
-        (Appended (now (a .1 .0)) (now (e .1 .0)) (now (a .0)) (now (e .0)) (rows (now (a .1 .1 .0))));
+    ensures = λ _ _ e. fact 𝓤 (Says (now (a .1 .0)) (now (e .1 .0)) (now (a .0)) (now (e .0)) (now (a .1 .1 .0)));
   }
 
   -- and the method
@@ -90,7 +93,7 @@ module _ (rows : List ℕ → List Row) {M : Type 1} (𝓤 : URA M) (H : Heap �
   saying κs a = record {
     ghost = Unit {0};
     requires = λ _. emp 𝓤;
-    ensures = λ _ r e. fact 𝓤 (Appended (now (a .1 .0)) (now (e .1 .0)) (a .0) r (rows (now (a .1 .1 .0))));
+    ensures = λ _ r e. fact 𝓤 (Says (now (a .1 .0)) (now (e .1 .0)) (a .0) r (now (a .1 .1 .0)));
   }
 
   abbrev pub Method : Contract 𝓤
@@ -128,15 +131,17 @@ module _ (rows : List ℕ → List Row) {M : Type 1} (𝓤 : URA M) (H : Heap �
     to = (((κ′, (κ″, tt)), (q′, (q″, tt)), tt, (h, a .1), (T′.lowered h ∷ [], vals .1)), tt)
 
     abbrev Said : StreamBuilder → List ℕ → Type 0
-    Said r zs = Appended ys zs h r (rows (now name))
+    Said r zs = Says ys zs h r (now name)
 
     goes : Is T.the-row h (T′.lowered h ∷ [])
         → ent 𝓤 (⋆ 𝓤 H A ((‵ (flft κ′ q′) ⊛ ‵ (flft κ″ q″) ⊛ ‵ ftrue)
-        ∷ ‵ (owns (MutSlice (named 1) κ′ u8 ∷ ShrSlice (named 2) κ″ u8 ∷ []) (a .1) (vals .1)) ∷ []))
+        ∷ ‵ (owns (MutSlice (named 1) κ′ u8 ∷ ShrSlice (named 2) κ″ u8 ∷ []) (a .1)
+        (vals .1)) ∷ []))
         (Method .pre to)
     goes was =
         qed W ((‵ (flft κ′ q′) ⊛ ‵ (flft κ″ q″) ⊛ ‵ ftrue)
-        ∷ ‵ (owns (MutSlice (named 1) κ′ u8 ∷ ShrSlice (named 2) κ″ u8 ∷ []) (a .1) (vals .1)) ∷ []) ∵
+        ∷ ‵ (owns (MutSlice (named 1) κ′ u8 ∷ ShrSlice (named 2) κ″ u8 ∷ []) (a .1)
+        (vals .1)) ∷ []) ∵
         move ! (1 ∷ []) $
         owned ! T.the-row (Is T.the-row) ((LL.makes T.the-type T′.the-plain) 𝓤 H A) h _ was $ fjoin ! $
         move ! (1 ∷ 0 ∷ []) $ join ! $ frame ! $ done !
@@ -165,7 +170,8 @@ module _ (rows : List ℕ → List Row) {M : Type 1} (𝓤 : URA M) (H : Heap �
           ∷ ‵ (owns (MutRef (named 0) κ T.the-row ∷ MutSlice (named 1) κ′ u8 ∷ ShrSlice (named 2) κ″ u8 ∷ []) a vals)
           ∷ []) ∵
           enter ! C Λ (function m) (vptr b o ∷ v ∷ v″ ∷ []) _ $
-          alloc1 ! (λ l₀. alloc1 ! (λ l₁. alloc1 ! (λ l₂. alloc1 ! (λ l₃. alloc1 ! (λ l₄. alloc1 ! (λ l₅. alloc1 ! (λ l₆. alloc1 ! (λ l₇.
+          alloc1 ! (λ l₀. alloc1 ! (λ l₁. alloc1 ! (λ l₂. alloc1 ! (λ l₃. alloc1 ! (λ l₄.
+          alloc1 ! (λ l₅. alloc1 ! (λ l₆. alloc1 ! (λ l₇.
           alloc0 ! $ params1 ! $ pass1 ! (init ! 12 refl (tt, tt)) $
           pass1 ! (init ! 10 refl (tt, (tt, (record { fits = room .0 }, tt)))) $
           pass1 ! (init ! 8 refl (tt, (tt, (record { fits = room″ .0 }, tt)))) $
@@ -232,9 +238,9 @@ module _ (rows : List ℕ → List Row) {M : Type 1} (𝓤 : URA M) (H : Heap �
     pub meets : (𝓣 : Tables 𝓤 H) → Triple 𝓤 (𝓣 .C m) Method
         → Meets 𝓤 H A f.signature (WpFn 𝓤 H (𝓣 .C) (𝓣 .Λ) (function m)) (closing 𝓤 H A f.ended clauses)
     meets 𝓣 known =
-        walk-meets 𝓤 H A f.ended stayed W (
-          goes-ref 𝓤 H A W 3 0 tt (plain (λ _. T.the-row)),
-          (goes-gave-slice 𝓤 H A W 3 1 tt (plain (λ _. u8)), (goes-dropped 𝓤 H A W 3 listSlot yes (λ κs x f. refl), tt)),
-        )
+        let builder = goes-ref 𝓤 H A W 3 0 tt (plain (λ _. T.the-row)) in
+        let output = goes-gave-slice 𝓤 H A W 3 1 tt (plain (λ _. u8)) in
+        let list = goes-dropped 𝓤 H A W 3 listSlot yes (λ κs x f. refl) in
+        walk-meets 𝓤 H A f.ended stayed W (builder, (output, (list, tt)))
         clauses (WpFn 𝓤 H (𝓣 .C) (𝓣 .Λ) (function m)) (WpFn-mono 𝓤 H (W .laws) 𝓣 (function m))
         (walks (𝓣 .C) (𝓣 .Λ) (fmOf 𝓤 H (W .laws) 𝓣) known)

@@ -1,5 +1,5 @@
--- Functions that append rows by a builder that is lent, beside an output and a part of a list: a walk of their MIR, by hand. All that
--- it knows of the by-value method is that it meets its contract, which says what the function's own says.
+-- Rows appended by a builder that is lent, beside an output and a part of a list: a walk of the MIR, by hand. All
+-- that it knows of the by-value method is that it meets its contract, which says what the function's own says.
 -- The builder's borrow is opened, the counts are read, the method is called, its answer is stored, and the borrow is
 -- closed at it. The output is not needed after the call: it goes to the method at its own lifetime, share and name.
 -- Assumes nothing.
@@ -62,7 +62,9 @@ function m = record {
   body = seq (assign (place 6 []) (rvOpd (copy (place 1 (deref T′.mir ∷ [])))))
       (seq (assign (place 8 []) (addrOf (place 2 (field 0 ∷ deref (tyInt w8) ∷ []))))
       (seq (assign (place 9 []) (aggregate (copy (place 8 []) ∷ copy (place 2 (field 1 ∷ [])) ∷ [])))
-      (seq (call m (copy (place 6 []) ∷ copy (place 9 []) ∷ copy (place 3 []) ∷ copy (place 4 []) ∷ copy (place 5 []) ∷ []) (place 7 []))
+      (seq
+      (call m (copy (place 6 []) ∷ copy (place 9 []) ∷ copy (place 3 []) ∷ copy (place 4 []) ∷ copy (place 5 []) ∷ [])
+      (place 7 []))
       (seq (assign (place 1 (deref T′.mir ∷ [])) (rvOpd (copy (place 7 []))))
       (seq (assign (place 0 []) (rvOpd opdUnit)) return)))));
 }
@@ -75,28 +77,39 @@ abbrev cursorSlot : Slot 3
 cursorSlot = plain (λ _. K.the-row)
 
 abbrev stayed : Stays (f.ended .signature .params) (f.ended .kept)
-stayed = (
-  stay-ref (0 ∷ []) tt (plain (λ _. T.the-row)),
-  (gave-slice (1 ∷ []) tt (plain (λ _. u8)), (stay-dropped listSlot yes, (stay-dropped cursorSlot yes, (stay-dropped cursorSlot yes, tt)))),
-)
+stayed =
+    let list = stay-dropped listSlot yes in
+    let cursor = stay-dropped cursorSlot yes in (
+      stay-ref (0 ∷ []) tt (plain (λ _. T.the-row)),
+      (gave-slice (1 ∷ []) tt (plain (λ _. u8)), (list, (cursor, (cursor, tt)))),
+    )
 
 module _ {M : Type 1} (𝓤 : URA M) (H : Heap 𝓤) (A : Atoms 𝓤) where
+  -- what is asked of what is passed
+  abbrev Need : List ℕ → Cursor → Cursor → Type 0
+  Need s c d = Part s c d
+
+  -- what is said of the output and the counts, before and after
+  abbrev Says : List ℕ → List ℕ → StreamBuilder → StreamBuilder → List ℕ → Cursor → Cursor → Type 0
+  Says before after b r s c d = Extended s c d before after b r
+
   -- what the function says
   abbrev clauses : Clauses 𝓤 f.ended
   clauses κs a = record {
     ghost = Unit {0};
-    requires = λ _. fact 𝓤 (Part (now (a .1 .1 .0)) (a .1 .1 .1 .0) (a .1 .1 .1 .1 .0));
+    requires = λ _. fact 𝓤 (Need (now (a .1 .1 .0)) (a .1 .1 .1 .0) (a .1 .1 .1 .1 .0));
     ensures = λ _ _ e. fact 𝓤
-        (Extended (now (a .1 .1 .0)) (a .1 .1 .1 .0) (a .1 .1 .1 .1 .0) (now (a .1 .0)) (now (e .1 .0)) (now (a .0)) (now (e .0)));
+        (Says (now (a .1 .0)) (now (e .1 .0)) (now (a .0)) (now (e .0)) (now (a .1 .1 .0)) (a .1 .1 .1 .0)
+        (a .1 .1 .1 .1 .0));
   }
 
   -- and the method
   abbrev saying : Clauses 𝓤 method.ended
   saying κs a = record {
     ghost = Unit {0};
-    requires = λ _. fact 𝓤 (Part (now (a .1 .1 .0)) (a .1 .1 .1 .0) (a .1 .1 .1 .1 .0));
+    requires = λ _. fact 𝓤 (Need (now (a .1 .1 .0)) (a .1 .1 .1 .0) (a .1 .1 .1 .1 .0));
     ensures = λ _ r e. fact 𝓤
-        (Extended (now (a .1 .1 .0)) (a .1 .1 .1 .0) (a .1 .1 .1 .1 .0) (now (a .1 .0)) (now (e .1 .0)) (a .0) r);
+        (Says (now (a .1 .0)) (now (e .1 .0)) (a .0) r (now (a .1 .1 .0)) (a .1 .1 .1 .0) (a .1 .1 .1 .1 .0));
   }
 
   abbrev pub Method : Contract 𝓤
@@ -104,7 +117,7 @@ module _ {M : Type 1} (𝓤 : URA M) (H : Heap 𝓤) (A : Atoms 𝓤) where
 
   module _ (W : Given 𝓤 H A) (κ κ′ κ″ : Lft) (bounds : AllOutlive 3 (f.signature .outlives) (κ, (κ′, (κ″, tt))))
       (q q′ q″ : Share) (b o : ℕ) (γ : GName) (h : StreamBuilder) (b′ o′ : ℕ) (γ′ : GName) (ys : List ℕ)
-      (s : RefT (List ℕ)) (c : Cursor) (d : Cursor) (ok : Part (now s) c d) where
+      (s : RefT (List ℕ)) (c : Cursor) (d : Cursor) (ok : Need (now s) c d) where
     -- the output's borrow
     abbrev x : RefT (List ℕ)
     x = record { ptr = (b′, o′); name = γ′; now = ys }
@@ -134,15 +147,17 @@ module _ {M : Type 1} (𝓤 : URA M) (H : Heap 𝓤) (A : Atoms 𝓤) where
     to = (((κ′, (κ″, tt)), (q′, (q″, tt)), tt, (h, a .1), (T′.lowered h ∷ [], vals .1)), tt)
 
     abbrev Said : StreamBuilder → List ℕ → Type 0
-    Said r zs = Extended (now s) c d ys zs h r
+    Said r zs = Says ys zs h r (now s) c d
 
     goes : Is T.the-row h (T′.lowered h ∷ [])
         → ent 𝓤 (⋆ 𝓤 H A ((‵ (flft κ′ q′) ⊛ ‵ (flft κ″ q″) ⊛ ‵ ftrue)
-        ∷ ‵ (owns (MutSlice (named 1) κ′ u8 ∷ ShrSlice (named 2) κ″ u8 ∷ K.the-row ∷ K.the-row ∷ []) (a .1) (vals .1)) ∷ []))
+        ∷ ‵ (owns (MutSlice (named 1) κ′ u8 ∷ ShrSlice (named 2) κ″ u8 ∷ K.the-row ∷ K.the-row ∷ []) (a .1)
+        (vals .1)) ∷ []))
         (Method .pre to)
     goes was =
         qed W ((‵ (flft κ′ q′) ⊛ ‵ (flft κ″ q″) ⊛ ‵ ftrue)
-        ∷ ‵ (owns (MutSlice (named 1) κ′ u8 ∷ ShrSlice (named 2) κ″ u8 ∷ K.the-row ∷ K.the-row ∷ []) (a .1) (vals .1)) ∷ []) ∵
+        ∷ ‵ (owns (MutSlice (named 1) κ′ u8 ∷ ShrSlice (named 2) κ″ u8 ∷ K.the-row ∷ K.the-row ∷ []) (a .1)
+        (vals .1)) ∷ []) ∵
         move ! (1 ∷ []) $
         owned ! T.the-row (Is T.the-row) ((LL.makes T.the-type T′.the-plain) 𝓤 H A) h _ was $ fjoin ! $
         move ! (1 ∷ 0 ∷ []) $ says ! ok $ frame ! $ done !
@@ -163,7 +178,9 @@ module _ {M : Type 1} (𝓤 : URA M) (H : Heap 𝓤) (A : Atoms 𝓤) where
         feqI ! (List Val) (vunit ∷ []) (vunit ∷ []) refl $ move ! (1 ∷ 0 ∷ []) $ done !
 
     module _ (C : Calls 𝓤 H) (Λ : Loops 𝓤 H) (fm : FmC 𝓤 H (W .laws) C) (m : Name) (known : Triple 𝓤 (C m) Method) where
-      walk : Room u8 (length ys) → Room u8 (length (now s)) → Is K.the-row c (K′.lowered c ∷ []) → Is K.the-row d (K′.lowered d ∷ [])
+      walk : Room u8 (length ys) → Room u8 (length (now s))
+          → Is K.the-row c (K′.lowered c ∷ [])
+          → Is K.the-row d (K′.lowered d ∷ [])
           → ent 𝓤 (onEntry 𝓤 H A f.signature (κ, (κ′, (κ″, tt))) (q, (q′, (q″, tt))) a vals)
           (WpFn 𝓤 H C Λ (function m) (vptr b o ∷ v ∷ v″ ∷ K′.lowered c ∷ K′.lowered d ∷ []) Post)
       walk room room″ c-is d-is =
@@ -175,7 +192,8 @@ module _ {M : Type 1} (𝓤 : URA M) (H : Heap 𝓤) (A : Atoms 𝓤) where
           a vals)
           ∷ []) ∵
           enter ! C Λ (function m) (vptr b o ∷ v ∷ v″ ∷ K′.lowered c ∷ K′.lowered d ∷ []) _ $
-          alloc1 ! (λ l₀. alloc1 ! (λ l₁. alloc1 ! (λ l₂. alloc1 ! (λ l₃. alloc1 ! (λ l₄. alloc1 ! (λ l₅. alloc1 ! (λ l₆. alloc1 ! (λ l₇. alloc1 ! (λ l₈. alloc1 ! (λ l₉.
+          alloc1 ! (λ l₀. alloc1 ! (λ l₁. alloc1 ! (λ l₂. alloc1 ! (λ l₃. alloc1 ! (λ l₄.
+          alloc1 ! (λ l₅. alloc1 ! (λ l₆. alloc1 ! (λ l₇. alloc1 ! (λ l₈. alloc1 ! (λ l₉.
           alloc0 ! $ params1 ! $ pass1 ! (init ! 16 refl (tt, tt)) $
           pass1 ! (init ! 14 refl (tt, (tt, (record { fits = room .0 }, tt)))) $
           pass1 ! (init ! 12 refl (tt, (tt, (record { fits = room″ .0 }, tt)))) $
@@ -246,7 +264,7 @@ module _ {M : Type 1} (𝓤 : URA M) (H : Heap 𝓤) (A : Atoms 𝓤) where
             ),
           ),
         ))
-        (λ κs qs bounds a _ are. needs 𝓤 (Part (now (a .1 .1 .0)) (a .1 .1 .1 .0) (a .1 .1 .1 .1 .0)) _ (λ ok.
+        (λ κs qs bounds a _ are. needs 𝓤 (Need (now (a .1 .1 .0)) (a .1 .1 .1 .0) (a .1 .1 .1 .1 .0)) _ (λ ok.
         walk W (κs .0) (κs .1 .0) (κs .1 .1 .0) bounds (qs .0) (qs .1 .0) (qs .1 .1 .0) (a .0 .ptr .0) (a .0 .ptr .1)
         (a .0 .name) (a .0 .now) (a .1 .0 .ptr .0) (a .1 .0 .ptr .1) (a .1 .0 .name) (a .1 .0 .now) (a .1 .1 .0)
         (a .1 .1 .1 .0) (a .1 .1 .1 .1 .0)
@@ -255,9 +273,10 @@ module _ {M : Type 1} (𝓤 : URA M) (H : Heap 𝓤) (A : Atoms 𝓤) where
     pub meets : (𝓣 : Tables 𝓤 H) → Triple 𝓤 (𝓣 .C m) Method
         → Meets 𝓤 H A f.signature (WpFn 𝓤 H (𝓣 .C) (𝓣 .Λ) (function m)) (closing 𝓤 H A f.ended clauses)
     meets 𝓣 known =
-        walk-meets 𝓤 H A f.ended stayed W (
-          goes-ref 𝓤 H A W 3 0 tt (plain (λ _. T.the-row)),
-          (goes-gave-slice 𝓤 H A W 3 1 tt (plain (λ _. u8)), (goes-dropped 𝓤 H A W 3 listSlot yes (λ κs x f. refl), (goes-dropped 𝓤 H A W 3 cursorSlot yes (λ κs x f. refl), (goes-dropped 𝓤 H A W 3 cursorSlot yes (λ κs x f. refl), tt)))),
-        )
+        let builder = goes-ref 𝓤 H A W 3 0 tt (plain (λ _. T.the-row)) in
+        let output = goes-gave-slice 𝓤 H A W 3 1 tt (plain (λ _. u8)) in
+        let list = goes-dropped 𝓤 H A W 3 listSlot yes (λ κs x f. refl) in
+        let cursor = goes-dropped 𝓤 H A W 3 cursorSlot yes (λ κs x f. refl) in
+        walk-meets 𝓤 H A f.ended stayed W (builder, (output, (list, (cursor, (cursor, tt)))))
         clauses (WpFn 𝓤 H (𝓣 .C) (𝓣 .Λ) (function m)) (WpFn-mono 𝓤 H (W .laws) 𝓣 (function m))
         (walks (𝓣 .C) (𝓣 .Λ) (fmOf 𝓤 H (W .laws) 𝓣) known)

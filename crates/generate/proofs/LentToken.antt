@@ -1,4 +1,4 @@
--- Functions that append rows by a builder that is lent, beside an output and a list's token: a walk of their MIR, by hand. All that
+-- Rows appended by a builder that is lent, beside an output and a list's token: a walk of the MIR, by hand. All that
 -- it knows of the by-value method is that it meets its contract, which says what the function's own says.
 -- The builder's borrow is opened, the counts are read, the method is called, its answer is stored, and the borrow is
 -- closed at it. The output is not needed after the call: it goes to the method at its own lifetime, share and name.
@@ -64,7 +64,8 @@ function m = record {
   body = seq (assign (place 5 []) (rvOpd (copy (place 1 (deref T′.mir ∷ [])))))
       (seq (assign (place 7 []) (addrOf (place 2 (field 0 ∷ deref (tyInt w8) ∷ []))))
       (seq (assign (place 8 []) (aggregate (copy (place 7 []) ∷ copy (place 2 (field 1 ∷ [])) ∷ [])))
-      (seq (call m (copy (place 5 []) ∷ copy (place 8 []) ∷ copy (place 3 []) ∷ copy (place 4 []) ∷ []) (place 6 []))
+      (seq (call m (copy (place 5 []) ∷ copy (place 8 []) ∷ copy (place 3 []) ∷ copy (place 4 []) ∷ [])
+      (place 6 []))
       (seq (assign (place 1 (deref T′.mir ∷ [])) (rvOpd (copy (place 6 []))))
       (seq (assign (place 0 []) (rvOpd opdUnit)) return)))));
 }
@@ -77,31 +78,36 @@ abbrev tokenSlot : Slot 3
 tokenSlot = plain (λ _. K.the-row)
 
 abbrev stayed : Stays (f.ended .signature .params) (f.ended .kept)
-stayed = (
-  stay-ref (0 ∷ []) tt (plain (λ _. T.the-row)),
-  (gave-slice (1 ∷ []) tt (plain (λ _. u8)), (stay-dropped listSlot yes, (stay-dropped tokenSlot yes, tt))),
-)
+stayed =
+    let list = stay-dropped listSlot yes in
+    let token = stay-dropped tokenSlot yes in
+    (stay-ref (0 ∷ []) tt (plain (λ _. T.the-row)), (gave-slice (1 ∷ []) tt (plain (λ _. u8)), (list, (token, tt))))
 
 -- which rows a name makes
 module _ (rows : List ℕ → List Row) {M : Type 1} (𝓤 : URA M) (H : Heap 𝓤) (A : Atoms 𝓤) where
+  -- what is asked of what is passed
+  abbrev Need : List ℕ → Token → Type 0
+  Need s t = (t .start ≤ t .end) × (t .end ≤ length s)
+
+  -- what is said of the output and the counts, before and after
+  abbrev Says : List ℕ → List ℕ → StreamBuilder → StreamBuilder → List ℕ → Token → Type 0
+  Says before after b r s t = Appended before after b r (rows (part (t .start) (t .end) s))
+
   -- what the function says
   abbrev clauses : Clauses 𝓤 f.ended
   clauses κs a = record {
     ghost = Unit {0};
-    requires = λ _. fact 𝓤
-        ((a .1 .1 .1 .0 .start ≤ a .1 .1 .1 .0 .end) × (a .1 .1 .1 .0 .end ≤ length (now (a .1 .1 .0))));
+    requires = λ _. fact 𝓤 (Need (now (a .1 .1 .0)) (a .1 .1 .1 .0));
     ensures = λ _ _ e. fact 𝓤
-        (Appended (now (a .1 .0)) (now (e .1 .0)) (now (a .0)) (now (e .0)) (rows (part (a .1 .1 .1 .0 .start) (a .1 .1 .1 .0 .end) (now (a .1 .1 .0)))));
+        (Says (now (a .1 .0)) (now (e .1 .0)) (now (a .0)) (now (e .0)) (now (a .1 .1 .0)) (a .1 .1 .1 .0));
   }
 
   -- and the method
   abbrev saying : Clauses 𝓤 method.ended
   saying κs a = record {
     ghost = Unit {0};
-    requires = λ _. fact 𝓤
-        ((a .1 .1 .1 .0 .start ≤ a .1 .1 .1 .0 .end) × (a .1 .1 .1 .0 .end ≤ length (now (a .1 .1 .0))));
-    ensures = λ _ r e. fact 𝓤
-        (Appended (now (a .1 .0)) (now (e .1 .0)) (a .0) r (rows (part (a .1 .1 .1 .0 .start) (a .1 .1 .1 .0 .end) (now (a .1 .1 .0)))));
+    requires = λ _. fact 𝓤 (Need (now (a .1 .1 .0)) (a .1 .1 .1 .0));
+    ensures = λ _ r e. fact 𝓤 (Says (now (a .1 .0)) (now (e .1 .0)) (a .0) r (now (a .1 .1 .0)) (a .1 .1 .1 .0));
   }
 
   abbrev pub Method : Contract 𝓤
@@ -109,7 +115,7 @@ module _ (rows : List ℕ → List Row) {M : Type 1} (𝓤 : URA M) (H : Heap �
 
   module _ (W : Given 𝓤 H A) (κ κ′ κ″ : Lft) (bounds : AllOutlive 3 (f.signature .outlives) (κ, (κ′, (κ″, tt))))
       (q q′ q″ : Share) (b o : ℕ) (γ : GName) (h : StreamBuilder) (b′ o′ : ℕ) (γ′ : GName) (ys : List ℕ)
-      (s : RefT (List ℕ)) (t : Token) (ok : (t .start ≤ t .end) × (t .end ≤ length (now s))) where
+      (s : RefT (List ℕ)) (t : Token) (ok : Need (now s) t) where
     -- the output's borrow
     abbrev x : RefT (List ℕ)
     x = record { ptr = (b′, o′); name = γ′; now = ys }
@@ -139,15 +145,17 @@ module _ (rows : List ℕ → List Row) {M : Type 1} (𝓤 : URA M) (H : Heap �
     to = (((κ′, (κ″, tt)), (q′, (q″, tt)), tt, (h, a .1), (T′.lowered h ∷ [], vals .1)), tt)
 
     abbrev Said : StreamBuilder → List ℕ → Type 0
-    Said r zs = Appended ys zs h r (rows (part (t .start) (t .end) (now s)))
+    Said r zs = Says ys zs h r (now s) t
 
     goes : Is T.the-row h (T′.lowered h ∷ [])
         → ent 𝓤 (⋆ 𝓤 H A ((‵ (flft κ′ q′) ⊛ ‵ (flft κ″ q″) ⊛ ‵ ftrue)
-        ∷ ‵ (owns (MutSlice (named 1) κ′ u8 ∷ ShrSlice (named 2) κ″ u8 ∷ K.the-row ∷ []) (a .1) (vals .1)) ∷ []))
+        ∷ ‵ (owns (MutSlice (named 1) κ′ u8 ∷ ShrSlice (named 2) κ″ u8 ∷ K.the-row ∷ []) (a .1)
+        (vals .1)) ∷ []))
         (Method .pre to)
     goes was =
         qed W ((‵ (flft κ′ q′) ⊛ ‵ (flft κ″ q″) ⊛ ‵ ftrue)
-        ∷ ‵ (owns (MutSlice (named 1) κ′ u8 ∷ ShrSlice (named 2) κ″ u8 ∷ K.the-row ∷ []) (a .1) (vals .1)) ∷ []) ∵
+        ∷ ‵ (owns (MutSlice (named 1) κ′ u8 ∷ ShrSlice (named 2) κ″ u8 ∷ K.the-row ∷ []) (a .1)
+        (vals .1)) ∷ []) ∵
         move ! (1 ∷ []) $
         owned ! T.the-row (Is T.the-row) ((LL.makes T.the-type T′.the-plain) 𝓤 H A) h _ was $ fjoin ! $
         move ! (1 ∷ 0 ∷ []) $ says ! ok $ frame ! $ done !
@@ -168,7 +176,8 @@ module _ (rows : List ℕ → List Row) {M : Type 1} (𝓤 : URA M) (H : Heap �
         feqI ! (List Val) (vunit ∷ []) (vunit ∷ []) refl $ move ! (1 ∷ 0 ∷ []) $ done !
 
     module _ (C : Calls 𝓤 H) (Λ : Loops 𝓤 H) (fm : FmC 𝓤 H (W .laws) C) (m : Name) (known : Triple 𝓤 (C m) Method) where
-      walk : Room u8 (length ys) → Room u8 (length (now s)) → Is K.the-row t (K′.lowered t ∷ [])
+      walk : Room u8 (length ys) → Room u8 (length (now s))
+          → Is K.the-row t (K′.lowered t ∷ [])
           → ent 𝓤 (onEntry 𝓤 H A f.signature (κ, (κ′, (κ″, tt))) (q, (q′, (q″, tt))) a vals)
           (WpFn 𝓤 H C Λ (function m) (vptr b o ∷ v ∷ v″ ∷ K′.lowered t ∷ []) Post)
       walk room room″ t-is =
@@ -178,7 +187,8 @@ module _ (rows : List ℕ → List Row) {M : Type 1} (𝓤 : URA M) (H : Heap �
           a vals)
           ∷ []) ∵
           enter ! C Λ (function m) (vptr b o ∷ v ∷ v″ ∷ K′.lowered t ∷ []) _ $
-          alloc1 ! (λ l₀. alloc1 ! (λ l₁. alloc1 ! (λ l₂. alloc1 ! (λ l₃. alloc1 ! (λ l₄. alloc1 ! (λ l₅. alloc1 ! (λ l₆. alloc1 ! (λ l₇. alloc1 ! (λ l₈.
+          alloc1 ! (λ l₀. alloc1 ! (λ l₁. alloc1 ! (λ l₂. alloc1 ! (λ l₃. alloc1 ! (λ l₄.
+          alloc1 ! (λ l₅. alloc1 ! (λ l₆. alloc1 ! (λ l₇. alloc1 ! (λ l₈.
           alloc0 ! $ params1 ! $ pass1 ! (init ! 14 refl (tt, tt)) $
           pass1 ! (init ! 12 refl (tt, (tt, (record { fits = room .0 }, tt)))) $
           pass1 ! (init ! 10 refl (tt, (tt, (record { fits = room″ .0 }, tt)))) $
@@ -242,7 +252,7 @@ module _ (rows : List ℕ → List Row) {M : Type 1} (𝓤 : URA M) (H : Heap �
             (shr-slice-tells (named 2) (κs .1 .1 .0) u8, (LL.tells K.the-type K′.the-laws, tt)),
           ),
         ))
-        (λ κs qs bounds a _ are. needs 𝓤 ((a .1 .1 .1 .0 .start ≤ a .1 .1 .1 .0 .end) × (a .1 .1 .1 .0 .end ≤ length (now (a .1 .1 .0)))) _ (λ ok.
+        (λ κs qs bounds a _ are. needs 𝓤 (Need (now (a .1 .1 .0)) (a .1 .1 .1 .0)) _ (λ ok.
         walk W (κs .0) (κs .1 .0) (κs .1 .1 .0) bounds (qs .0) (qs .1 .0) (qs .1 .1 .0) (a .0 .ptr .0) (a .0 .ptr .1)
         (a .0 .name) (a .0 .now) (a .1 .0 .ptr .0) (a .1 .0 .ptr .1) (a .1 .0 .name) (a .1 .0 .now) (a .1 .1 .0)
         (a .1 .1 .1 .0)
@@ -251,9 +261,10 @@ module _ (rows : List ℕ → List Row) {M : Type 1} (𝓤 : URA M) (H : Heap �
     pub meets : (𝓣 : Tables 𝓤 H) → Triple 𝓤 (𝓣 .C m) Method
         → Meets 𝓤 H A f.signature (WpFn 𝓤 H (𝓣 .C) (𝓣 .Λ) (function m)) (closing 𝓤 H A f.ended clauses)
     meets 𝓣 known =
-        walk-meets 𝓤 H A f.ended stayed W (
-          goes-ref 𝓤 H A W 3 0 tt (plain (λ _. T.the-row)),
-          (goes-gave-slice 𝓤 H A W 3 1 tt (plain (λ _. u8)), (goes-dropped 𝓤 H A W 3 listSlot yes (λ κs x f. refl), (goes-dropped 𝓤 H A W 3 tokenSlot yes (λ κs x f. refl), tt))),
-        )
+        let builder = goes-ref 𝓤 H A W 3 0 tt (plain (λ _. T.the-row)) in
+        let output = goes-gave-slice 𝓤 H A W 3 1 tt (plain (λ _. u8)) in
+        let list = goes-dropped 𝓤 H A W 3 listSlot yes (λ κs x f. refl) in
+        let token = goes-dropped 𝓤 H A W 3 tokenSlot yes (λ κs x f. refl) in
+        walk-meets 𝓤 H A f.ended stayed W (builder, (output, (list, (token, tt))))
         clauses (WpFn 𝓤 H (𝓣 .C) (𝓣 .Λ) (function m)) (WpFn-mono 𝓤 H (W .laws) 𝓣 (function m))
         (walks (𝓣 .C) (𝓣 .Λ) (fmOf 𝓤 H (W .laws) 𝓣) known)
