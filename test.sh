@@ -20,7 +20,7 @@ rt fmt --check
 
 # What stands twice is the same: the programs' inputs in `rt ci`, and the listing in the README.
 cat recorded/*.txt | cmp - crates/replay/stdin
-for program in rows roles listing; do
+for program in rows roles listing explain; do
     cmp examples/valve.tokens crates/$program/stdin
 done
 sed -n '/^    part name number$/,/^$/s/^    //p' README.md | cmp - examples/controller.listing
@@ -49,6 +49,57 @@ constants bindings/rust/src/tagged_role.rs | cmp - target/bindings/tagged
 for table in roles tagged refusals; do # the README has them in three tables of numbers
     cut -d' ' -f2 target/bindings/$table
 done | cmp - <(sed -n 's/^| \([0-9]*\) |.*/\1/p' README.md)
+
+# What `explain` says: README's table has the texts of the refusals, and each refusal that it can give has an example.
+rt check explain >/dev/null
+sed -n '/^MEANINGS =/,/^$/s/^ *bytes "\(.*\)".*/\1/p' crates/explanation/specs/Words.antt | tr -d '\n' | sed 's/\\n/\n/g' |
+    awk 'length { print NR - 1, $0 }' >target/bindings/meanings
+sed -n 's/^| \([0-9]*\) | \(`-`\|row\|4096\|place\) | \(.*\) |$/\1 \3/p' README.md | tr -d '`' | cmp - target/bindings/meanings
+sed -n '/^    5 17$/,/^$/s/^    //p' README.md | tail -n 4 >target/bindings/shown
+target/bin/explain <examples/refused.tokens | tail -n +3 | cmp - target/bindings/shown
+refusal() { # NUMBER PLACE ROW..: the list of these rows is refused so, with its meaning, and its row is marked
+    printf '%s\n' 'kind text' "${@:3}" >target/bindings/list
+    explained "$1" "$2"
+}
+explained() { # NUMBER PLACE: the same of the list at hand
+    target/bin/explain <target/bindings/list >target/bindings/explained
+    printf '%s\n' 'refused place' "$1 $2" "$(sed -n "s/^$1 //p" target/bindings/meanings)" | cmp - <(head -n 3 target/bindings/explained)
+    if [ "$2" = - ]; then
+        ! grep -q '^>' target/bindings/explained
+    else
+        grep -q "^> *$2  " target/bindings/explained
+    fi
+}
+rows() { yes "$2" | head -n "$1"; } # COUNT ROW
+printf 'kind text\n%s' "$(rows 30000 'p ,')" >target/bindings/list && explained 1 -
+printf 'kind' >target/bindings/list && explained 2 -
+refusal 3 1 'i A' "$(printf 'i \1')"
+refusal 3 0 "i $(rows 255 a | tr -d '\n')a"
+mapfile -t list < <(rows 4097 'p ,') && refusal 4 4096 "${list[@]}"
+refusal 5 0 'c )'
+mapfile -t list < <(rows 33 'o (') && refusal 6 32 "${list[@]}"
+refusal 7 0 'o ('
+refusal 11 - 'i struct'
+refusal 12 1 'p #' 'o (' 'c )'
+refusal 13 1 'p #' 'i a'
+refusal 14 2 'i struct' 'i A' 'p <'
+refusal 15 6 'i struct' 'i A' 'o {' 'i a' 'p :' 'i u8' 'p >' 'c }'
+refusal 16 2 'i struct' 'i A' 'p ,'
+refusal 17 2 'i struct' 'i A' 'o [' 'c ]'
+refusal 18 2 'i enum' 'i E' 'p ,'
+refusal 19 4 'i enum' 'i E' 'o {' 'i A' 'o [' 'c ]' 'c }'
+refusal 20 4 'i enum' 'i E' 'o {' 'i A' 'i B' 'c }'
+refusal 21 - 'i enum' 'i E' 'o {' 'i A' 'p =' 'c }'
+refusal 22 3 'i struct' 'i A' 'o {' 'p ,' 'c }'
+refusal 23 - 'i struct' 'i A' 'o {' 'i a' 'c }'
+refusal 24 3 'i struct' 'i A' 'p <' "p '"
+refusal 25 0 'i union' 'i A' 'p ;'
+refusal 26 6 'i enum' 'i E' 'o {' 'i A' 'p =' 'p -' 'l 9223372036854775808' 'c }'
+refusal 27 4 'i struct' 'i A' 'p <' 'i const' 'l 3' 'p >'
+printf 'kind text\ni %s\n' "$(rows 300 a | tr -d '\n')" >target/bindings/list && explained 3 0
+tail -n 1 target/bindings/explained | awk 'length != 2 + 4 + 2 + 255 { exit 1 }'
+printf 'kind text\ni A\n\001\377' >target/bindings/list && explained 3 1
+tail -n 1 target/bindings/explained | grep -qx '>    1  \\x01\\xff'
 
 # Newly made lists, against virtue itself where rustc and virtue's sources are at hand.
 rm -f target/oracle/compare.txt

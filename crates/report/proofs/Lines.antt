@@ -103,7 +103,7 @@ module _ (s : List ℕ) (n : ℕ) (d : Declaration) (rs : List ℕ) where
         let q : qs ++ replicate (size us) left-over ≡ rs = cc in subst P q (of-item k c f qs us i)
     by-item k c (stopped w m p) i e = absurd (never e)
 
-    by-answer : answer s n ≡ declared d rs → P rs
+    pub by-answer : answer s n ≡ declared d rs → P rs
     unfolding answer
     by-answer =
         framed-cases (λ (a : Answer). a ≡ declared d rs → P rs) refused (λ rows. ltb n rows) itemAnswer s
@@ -113,7 +113,7 @@ module _ (s : List ℕ) (n : ℕ) (d : Declaration) (rs : List ℕ) where
   named = by-answer Named (λ k c f qs us i. obeys-each {ts = at s 10 .here} _ (obeys-sound i) .named)
 
   -- one for each row
-  few-roles : answer s n ≡ declared d rs → length rs ≤ 4096
+  pub few-roles : answer s n ≡ declared d rs → length rs ≤ 4096
   few-roles =
       by-answer (λ (qs : List ℕ). length qs ≤ 4096)
       (λ k c f qs us i.
