@@ -30,7 +30,8 @@ use Rattle.reading.specs.Took.{Took, took, Cause, stopped, Point}
 use Rattle.reading.specs.Reading.{item}
 use Rattle.parse.specs.declared.variants.ValueAt.{ValueAt}
 use Rattle.parse.specs.declared.variants.ValueAt.the-variants as valueAts
-use Rattle.describe.specs.Value.{SCRATCH-BYTES, negativeText, Answer, refused, bodyValue, valueAnswer, variantAnswer, itemAnswer, answer, scratch, valueText}
+use Rattle.describe.specs.Value.{SCRATCH-BYTES, negativeText, Answer, refused, bodyValue, valueAnswer}
+use Rattle.describe.specs.Value.{variantAnswer, itemAnswer, answer, scratch, valueText}
 use Rattle.describe.specs.Listing as listing
 use Rattle.describe.specs.Contract.{ValueAs, part, textStart, textEnd, placeOf, Placed}
 use Rattle.describe.specs.declared.value.ValuePlace.{ValuePlace}
@@ -51,7 +52,12 @@ module _ {s : List ℕ} {v : ValueAt} (x : Point) (w : declaration.Value) (k : V
   pub placed-absent : (y : List ℕ) → v ≡ valueAts.Absent → Placed s y y (valueAnswer (valueRow x w) w) places.None
   placed-absent y e =
       let a = answered declaration.absent (known e .value) refl in
-      record { place = sym (ap (placeOf s) a); text = sym (ap valueText a); range = tt; scratch = sym (ap (scratch y) a) }
+      record {
+        place = sym (ap (placeOf s) a);
+        text = sym (ap valueText a);
+        range = tt;
+        scratch = sym (ap (scratch y) a);
+      }
 
   pub placed-literal : (y : List ℕ) (t : Token) → v ≡ valueAts.Literal t → length s ≤ 65536
       → Placed s y y (valueAnswer (valueRow x w) w) (places.InList (t .start) (t .end))
@@ -133,7 +139,8 @@ module _ (s : List ℕ) (k n : ℕ) where
       no-refusal (declaration.literal t) q = let z : _≡_ {A = ℕ} 0 1 = cc in absurd (omega arith)
       no-refusal (declaration.negative n) q = let z : _≡_ {A = ℕ} 0 1 = cc in absurd (omega arith)
 
-      plain : (m p : ℕ) (t : Took declaration.Declaration) → itemAnswer (start s) k t ≡ refused m p → (w : Cause) × (t ≡ stopped w m p)
+      plain : (m p : ℕ) (t : Took declaration.Declaration) → itemAnswer (start s) k t ≡ refused m p
+          → (w : Cause) × (t ≡ stopped w m p)
       plain m p (took d rs us) q = no-refusal (bodyValue k (d .body)) q
       plain m p (stopped w i o) q = (w, (cc))
 

@@ -12,7 +12,9 @@ use Rattle.token_list.specs.Row.{Row}
 use Rattle.token_list.specs.Stream.{Trees, end, leaf, group, size}
 use Rattle.token_list.proofs.Bounds.{texts}
 use Rattle.reading.specs.Role as role
-use Rattle.reading.specs.Declaration.{Kind, struct, enum, Parameter, lifetime, type, Visibility, UnnamedField, Field, Fields, unit, named, tuple, Value, absent, literal, negative, Variant, Body, fields, variants, Declaration, parametersOf}
+use Rattle.reading.specs.Declaration.{Kind, struct, enum, Parameter, lifetime, type, Visibility, UnnamedField, Field}
+use Rattle.reading.specs.Declaration.{Fields, unit, named, tuple, Value, absent, literal, negative, Variant, Body}
+use Rattle.reading.specs.Declaration.{fields, variants, Declaration, parametersOf}
 use Rattle.reading.specs.Took.{Took, took, Cause, stopped, refuse, Reader, onward, after, _>>=_, pure}
 use Rattle.reading.specs.Reading as r
 use Rattle.reading.specs.Reading.{Maybe, done, one, Word, missing, found, rounds, every, more}
@@ -210,11 +212,13 @@ parameterName-covering n p row (group d ts us) = refuses
 lifetimeAfter-covering : (q : ℕ) → Covering parameterCost 1 (r.lifetimeAfter q)
 lifetimeAfter-covering q =
     bind (besides 1 (parameterName-covering 24 q))
-    (λ n. bind (keeps _ (λ b. conserved.optional-run-conserving b 58)) (λ b row ts. covers (lifetime n b) [] ts (omega arith)))
+    (λ n. bind (keeps _ (λ b. conserved.optional-run-conserving b 58))
+    (λ b row ts. covers (lifetime n b) [] ts (omega arith)))
 
 constantAfter-covering : Covering parameterCost 0 r.constantAfter
 constantAfter-covering =
-    bind (parameterName-covering 27 65535) (λ n. bind (keeps _ (λ b. conserved.optional-run-conserving b 58)) (λ b. returned _))
+    bind (parameterName-covering 27 65535)
+    (λ n. bind (keeps _ (λ b. conserved.optional-run-conserving b 58)) (λ b. returned _))
 
 typeAfter-covering : (n : List ℕ) → Covering parameterCost (nameCost n) (r.typeAfter n)
 typeAfter-covering n = bind (keeps _ (λ b. conserved.punctIf-conserving b 58 role.separator refl)) runs

@@ -23,14 +23,18 @@ use Rattle.output.specs.declared.written.Written.{Written}
 use Rattle.output.specs.declared.written.Written.the-variants as writtens
 use Rattle.output.proofs.Answers.{Within, fitted-wrote, fitted-same}
 use Rattle.output.proofs.Texts.{decimal-within}
-use Rattle.reading.specs.Declaration.{Kind, struct, enum, Fields, unit, named, tuple, Value, absent, literal, negative, Body, fields, variants, Declaration, parametersOf, bodyCount}
+use Rattle.reading.specs.Declaration.{Kind, struct, enum, Fields, unit, named, tuple, Value, absent, literal, negative}
+use Rattle.reading.specs.Declaration.{Body, fields, variants, Declaration, parametersOf, bodyCount}
 use Rattle.reading.specs.Took.{Took, took, stopped}
 use Rattle.reading.specs.Reading.{item}
 use Rattle.reading.proofs.Frame.{framed-cases}
 use Rattle.reading.proofs.Conserved.{ownNumber, refusal-number, item-conserved}
-use Rattle.describe.specs.Listing.{line, numbered, parameterLine, namedLine, tupleLine, fieldLines, number, variantLines, bodyLines, kindText, listing, itemAnswer, fullAnswer, answer, MOST, Fits}
+use Rattle.describe.specs.Listing.{line, numbered, parameterLine, namedLine, tupleLine, fieldLines, number}
+use Rattle.describe.specs.Listing.{variantLines, bodyLines, kindText, listing, itemAnswer, fullAnswer, answer}
+use Rattle.describe.specs.Listing.{MOST, Fits}
 use Rattle.describe.specs.Contract.{Reported}
-use Rattle.describe.proofs.Costs.{total, parameterCost, fieldCost, typeCost, fieldsCost, valueCost, variantCost, bodyCost, itemCost, item-cost}
+use Rattle.describe.proofs.Costs.{total, parameterCost, fieldCost, typeCost, fieldsCost, valueCost, variantCost}
+use Rattle.describe.proofs.Costs.{bodyCost, itemCost, item-cost}
 
 -- ## Lines
 

@@ -24,7 +24,8 @@ use Rattle.parse.specs.declared.fields.NextStep.{NextStep}
 use Rattle.parse.specs.declared.variants.VariantStep.{VariantStep}
 use Rattle.parse.specs.declared.generics.ParameterStep.{ParameterStep}
 use Rattle.parse.proofs.Meeting as meeting
-use Rattle.describe.specs.Listing.{line, numbered, namedLine, tupleLine, variantLines, parameterName, parameterLine}
+use Rattle.describe.specs.Listing.{line, numbered, namedLine, tupleLine, variantLines, parameterName}
+use Rattle.describe.specs.Listing.{parameterLine}
 use Rattle.parse.proofs.Inside.{inside-more, inside-done, inside-refused, forward}
 use Rattle.describe.proofs.Worths.{put-as}
 

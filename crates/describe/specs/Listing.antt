@@ -9,7 +9,9 @@ use Rattle.token_list.specs.Layout.{MAX-BYTES, MAX-ROWS}
 use Rattle.token_list.specs.Check as list
 use Rattle.output.specs.Text.{decimal}
 use Rattle.output.specs.Answer.{Answer, wrote, refused, fitted}
-use Rattle.reading.specs.Declaration.{Kind, struct, enum, Parameter, lifetime, constant, type, parametersOf, UnnamedField, Field, Fields, unit, named, tuple, Value, absent, literal, negative, Variant, Body, fields, variants, Declaration, bodyCount}
+use Rattle.reading.specs.Declaration.{Kind, struct, enum, Parameter, lifetime, constant, type, parametersOf}
+use Rattle.reading.specs.Declaration.{UnnamedField, Field, Fields, unit, named, tuple, Value, absent, literal, negative}
+use Rattle.reading.specs.Declaration.{Variant, Body, fields, variants, Declaration, bodyCount}
 use Rattle.reading.specs.Took.{Took, took, stopped}
 use Rattle.reading.specs.Answer.{framed}
 use Rattle.describe.specs.Value.{negativeText}

@@ -21,7 +21,8 @@ ghost use Rattle.output.specs.Text.{decimal};
 ghost use Rattle.output.specs.Contract.{Put};
 ghost use Rattle.reading.specs.Declaration.{Parameter, Value, Variant, Declaration};
 ghost use Rattle.parse.specs.Contract.{kindOf, ValueOf, VariantOf, ParameterOf, ItemOf};
-ghost use Rattle.describe.specs.Listing.{FIELD, DASH, line, kindText, number, parameterLine, variantLine, itemLines};
+ghost use Rattle.describe.specs.Listing.{FIELD, DASH, line, kindText, number, parameterLine, variantLine};
+ghost use Rattle.describe.specs.Listing.{itemLines};
 
 // The text of a token.
 fn put_token(s: &[u8], t: Token, out: &mut [u8], at: usize) -> usize

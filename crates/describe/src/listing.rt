@@ -42,11 +42,13 @@ ghost use Rattle.token_list.specs.Contract.{InList};
 ghost use Rattle.output.specs.Contract.{Put};
 ghost use Rattle.output.specs.Answer.{wrote, refused, fitted};
 ghost use Rattle.output.specs.Written.{WrittenAs};
-ghost use Rattle.reading.specs.Declaration.{Parameter, Generics, parametersOf, UnnamedField, Field, Fields, Variant, Body, Declaration};
+ghost use Rattle.reading.specs.Declaration.{Parameter, Generics, parametersOf, UnnamedField, Field, Fields, Variant};
+ghost use Rattle.reading.specs.Declaration.{Body, Declaration};
 ghost use Rattle.reading.specs.Reading.{every, namedField, tupleField, variant, parameter, generics, bodyOf, item};
 ghost use Rattle.reading.specs.Answer.{readNumber};
 ghost use Rattle.parse.specs.Contract.{kindOf, InsideAt, FieldsOf, ItemOf};
-ghost use Rattle.describe.specs.Listing.{numbered, parameterLine, namedLine, tupleLine, fieldLines, variantLines, bodyLines, listing, itemAnswer, answer};
+ghost use Rattle.describe.specs.Listing.{numbered, parameterLine, namedLine, tupleLine, fieldLines, variantLines};
+ghost use Rattle.describe.specs.Listing.{bodyLines, listing, itemAnswer, answer};
 ghost use Rattle.describe.specs.Contract.{StructAt, Reported};
 
 // The lines of the named fields that are read from `from` on.

@@ -36,7 +36,8 @@ ghost use Rattle.reading.specs.Reading.{every, variant, bodyOf, item};
 ghost use Rattle.reading.specs.Place.{start, inside, variantAt, valueRow};
 ghost use Rattle.reading.specs.Answer.{readNumber};
 ghost use Rattle.parse.specs.Contract.{point, kindOf, InsideAt, ValueOf};
-ghost use Rattle.describe.specs.Value.{SCRATCH-BYTES, negativeText, valueAt, bodyValue, valueAnswer, itemAnswer, refused, answer};
+ghost use Rattle.describe.specs.Value.{SCRATCH-BYTES, negativeText, valueAt, bodyValue, valueAnswer, itemAnswer};
+ghost use Rattle.describe.specs.Value.{refused, answer};
 ghost use Rattle.describe.specs.Contract.{ValueAs, Placed, partOf};
 
 // The scratch must have so many bytes, enough for every list.

@@ -1,5 +1,5 @@
-// The list on standard input explained: prints a line for each row with its role in words, or what the refusal means and
-// the rows near its place.
+// The list on standard input explained: prints a line for each row with its role in words, or what the refusal means
+// and the rows near its place.
 use libc::STDIN_FILENO;
 use libc::STDOUT_FILENO;
 ghost use mathlib.Core.Path.{_≡_};

@@ -22,7 +22,8 @@ use Rattle.output.specs.Text.{decimal, refusalText}
 use Rattle.output.proofs.Texts.{decimal-within, decimal-few}
 use Rattle.explanation.specs.Row.{shownByte, shown, blank, column}
 use Rattle.explanation.specs.Words.{first, ROLES, MEANINGS, roleWords, meaning}
-use Rattle.explanation.specs.Explanation.{roleLine, roleRows, near, sign, nearLine, nearOfFirst, nearRows, explanation, MOST}
+use Rattle.explanation.specs.Explanation.{roleLine, roleRows, near, sign, nearLine, nearOfFirst, nearRows}
+use Rattle.explanation.specs.Explanation.{explanation, MOST}
 
 -- ## A row's parts
 

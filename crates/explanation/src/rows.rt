@@ -15,10 +15,11 @@ ghost use lib.ListN.{length};
 ghost use Rattle.token_list.specs.Layout.{FIRST-ROW};
 ghost use Rattle.token_list.specs.Reader.{bytesFrom};
 ghost use Rattle.output.specs.Contract.{Put};
-ghost use Rattle.explanation.specs.Explanation.{roleLine, roleOfFirst, roleRows, sign, near, nearLine, nearOfFirst, nearRows};
+ghost use Rattle.explanation.specs.Explanation.{roleLine, roleOfFirst, roleRows, sign, near, nearLine};
+ghost use Rattle.explanation.specs.Explanation.{nearOfFirst, nearRows};
 
 // A well-formed row has at most so many bytes.
-pub const WHOLE_ROW: usize = 257;
+pub const MAX_ROW_BYTES: usize = 257;
 
 // How many bytes of a row are shown where a list is refused.
 pub const CUT: usize = 255;
@@ -44,7 +45,7 @@ fn put_role_line(out: &mut [u8], at: usize, row: &[u8], n: usize, role: u8) -> u
     let number = put_column(out, at, n);
     let blanks = put_bytes(out, number, b"  ");
     let words = put_role(out, blanks, role);
-    let text = put_row(out, words, row, WHOLE_ROW);
+    let text = put_row(out, words, row, MAX_ROW_BYTES);
     put_byte(out, text, b'\n')
 }
 

@@ -32,7 +32,9 @@ use Rattle.describe.specs.declared.value.ValuePlace.{ValuePlace}
 use Rattle.describe.specs.declared.value.ValuePlace.the-variants as places
 use Rattle.describe.proofs.Answers.{listing-refusal}
 use Rattle.describe.proofs.Length.{fits}
-use Rattle.exports.specs.Code.{IN-LIST, Case, accepted, refusal, REFUSED, code, decoded, Coded, checkCase, kindCode, readCase, writtenCase, writtenCode, LowPlace, WrittenInto, placeCase, decodedPlace, ValueInto}
+use Rattle.exports.specs.Code.{IN-LIST, Case, accepted, refusal, REFUSED, code, decoded, Coded, checkCase}
+use Rattle.exports.specs.Code.{kindCode, readCase, writtenCase, writtenCode, LowPlace, WrittenInto, placeCase}
+use Rattle.exports.specs.Code.{decodedPlace, ValueInto}
 
 -- ## A number gives back its case, number and place
 

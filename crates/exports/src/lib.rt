@@ -19,7 +19,8 @@ ghost use lib.ListN.{length};
 ghost use Rattle.reading.specs.Answer.{readNumber};
 ghost use Rattle.describe.specs.Listing as listing;
 ghost use Rattle.writing.specs.Answer.{implGenerics, typeGenerics, withAdditional};
-ghost use Rattle.exports.specs.Code.{refusal, code, Coded, checkCase, ReadInto, writtenCode, LowPlace, WrittenInto, MAX-OUTPUT, GeneratedInto, ValueInto, TaggedInto};
+ghost use Rattle.exports.specs.Code.{refusal, code, Coded, checkCase, ReadInto, writtenCode, LowPlace};
+ghost use Rattle.exports.specs.Code.{WrittenInto, MAX-OUTPUT, GeneratedInto, ValueInto, TaggedInto};
 
 // A number from here on tells a refusal.
 const REFUSED: u64 = 4294967296;
@@ -152,8 +153,8 @@ pub extern "C" fn kusthrila_value(list: &[u8], position: usize, scratch: &mut [u
     }
 }
 
-// Reads the tagged attribute with this prefix into role bytes: 0 where the prefix does not stand, 1 where it was found, or
-// a refusal.
+// Reads the tagged attribute with this prefix into role bytes: 0 where the prefix does not stand, 1 where it was found,
+// or a refusal.
 #[no_mangle]
 pub extern "C" fn kusthrila_tagged(list: &[u8], prefix: &[u8], roles: &mut [u8]) -> u64
     ensures { λ r. ⌜ TaggedInto (now (prefix .entry)) (now (list .entry)) (now (roles .entry)) (now (roles .exit)) r ⌝ }

@@ -43,13 +43,13 @@ module _ (t : List ℕ) (from i : ℕ) (scanned : Scanned t from i) where
   pub last : from < length t → i ≡ length t → NameEnd t from i
   last h e =
       let some = drop-next t from h in
-      let whole : drop from t ≡ slice from i t = ap (drop from) (sym (take-all i t (omega arith))) in
+      let to-end : drop from t ≡ slice from i t = ap (drop from) (sym (take-all i t (omega arith))) in
       record {
         start = scanned .start;
         within = omega arith;
         names =
             ap lineNames (scan-none t from i (omega arith) scanned ∙ ap tail some)
-            ∙ ap (λ (x : List ℕ). x ∷ []) (sym some ∙ whole)
+            ∙ ap (λ (x : List ℕ). x ∷ []) (sym some ∙ to-end)
             ∙ ap (λ (xs : List (List ℕ)). slice from i t ∷ xs) (sym (no-names t (i + 1) (omega arith)));
       }
 

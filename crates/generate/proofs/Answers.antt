@@ -25,7 +25,8 @@ use Rattle.reading.specs.Took.{Took, took}
 use Rattle.writing.specs.Rows.{punct}
 use Rattle.writing.specs.Names.{lineNames, namesOf}
 use Rattle.writing.specs.Generics.{parted, angledRows, genericsRows, addedLifetime, addedType}
-use Rattle.writing.specs.Answer.{Writer, implGenerics, typeGenerics, withAdditional, text, itemAnswer, answer, fullAnswer, MOST, mostAdded, Fits}
+use Rattle.writing.specs.Answer.{Writer, implGenerics, typeGenerics, withAdditional, text, itemAnswer, answer}
+use Rattle.writing.specs.Answer.{fullAnswer, MOST, mostAdded, Fits}
 use Rattle.writing.proofs.Written.{stillFirst, parted-append}
 use Rattle.writing.proofs.Refusals.{write-refusal}
 use Rattle.writing.proofs.Lengths.{type-fits, additional-fits, added-most}

@@ -37,7 +37,8 @@ use Rattle.writing.specs.Rows.{ident, lifetimeRows}
 use Rattle.writing.specs.Generics.{parameterRows, parted}
 use Rattle.writing.proofs.Read as read
 use Rattle.writing.proofs.Copied.{copied}
-use Rattle.generate.specs.Contract.{Appended, constrained, constraintsOf, isConst, RunIn, NameIn, ParameterIn, nameRows, constRows, shaped}
+use Rattle.generate.specs.Contract.{Appended, constrained, constraintsOf, isConst, RunIn, NameIn, ParameterIn}
+use Rattle.generate.specs.Contract.{nameRows, constRows, shaped}
 use Rattle.generate.specs.declared.stream_builder.StreamBuilder.{StreamBuilder}
 use Rattle.generate.proofs.Builds.{then}
 use Rattle.generate.proofs.Added.{Adding, adding-start, adding-more, adding-last}

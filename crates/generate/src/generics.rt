@@ -41,7 +41,9 @@ ghost use Rattle.writing.specs.Rows.{listOf};
 ghost use Rattle.writing.specs.Names.{namesOf};
 ghost use Rattle.writing.specs.Generics.{constraints, parameterRows, parted, angledRows, genericsRows, addedType};
 ghost use Rattle.writing.specs.Answer.{implGenerics, typeGenerics, withAdditional, itemAnswer, answer, MOST, mostAdded};
-ghost use Rattle.generate.specs.Contract.{Appended, Built, Part, RunWritten, constrained, constraintsOf, isConst, ParameterIn, NameIn, nameRows, constRows, shaped, parametersBy, rightTexts, writer, Answered, Reported};
+ghost use Rattle.generate.specs.Contract.{Appended, Built, Part, RunWritten, constrained, constraintsOf, isConst};
+ghost use Rattle.generate.specs.Contract.{ParameterIn, NameIn, nameRows, constRows, shaped, parametersBy};
+ghost use Rattle.generate.specs.Contract.{rightTexts, writer, Answered, Reported};
 
 // Where constraints stand in the list that was read.
 pub struct ConstraintsAt {

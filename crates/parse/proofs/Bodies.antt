@@ -17,12 +17,14 @@ use Rattle.token_list.proofs.Texts.{and-both, and-fails, and-last, slice-next, 
 use Rattle.reading.specs.Took.{Took, took, stopped, Reader, onward, after, pure, _>>=_}
 use Rattle.reading.specs.Reading.{attributes, visibility, one, comma, punctIf, closing, worthFrom}
 use Rattle.reading.specs.Token.{negatable}
-use Rattle.parse.specs.Contract.{Prefix, PrefixOf, prefix, any, point, CursorAt, Said, on, no, Meets, stands, refuses, stream, pastOf, Inside, InsideAt, countShown, bodyShown}
+use Rattle.parse.specs.Contract.{Prefix, PrefixOf, prefix, any, point, CursorAt, Said, on, no, Meets, stands}
+use Rattle.parse.specs.Contract.{refuses, stream, pastOf, Inside, InsideAt, countShown, bodyShown}
 use Rattle.reading.specs.Declaration.{Visibility, UnnamedField, Field, named, tuple, Variant, fields, variants}
 use Rattle.parse.specs.declared.generics.CountStep.{CountStep}
 use Rattle.parse.specs.declared.generics.CountStep.the-variants as counts
 use Rattle.parse.proofs.Buffer.{sets-append}
-use Rattle.parse.proofs.Meeting.{past-fits, past-in-of, meets-as, meets-no, meets-then, meets-map, meets-inside, after-assoc, after-pure}
+use Rattle.parse.proofs.Meeting.{past-fits, past-in-of, meets-as, meets-no, meets-then, meets-map, meets-inside}
+use Rattle.parse.proofs.Meeting.{after-assoc, after-pure}
 use Rattle.parse.proofs.Places.{meets-beyond, cursor-at}
 use Rattle.reading.specs.Took.{beyond}
 use Rattle.reading.specs.Place.{startAt}
@@ -37,7 +39,8 @@ prefix-then row ts k =
     ap (after row (attributes row ts)) (fun-ext (λ a. fun-ext (λ r. fun-ext (λ us.
     sym (after-pure r (visibility r us) (λ v. record { attributes = a; visibility = v })
     (λ p. k (p .attributes) (p .visibility)))))))
-    ∙ sym (after-assoc row (attributes row ts) (λ a. visibility >>= λ v. pure (record { attributes = a; visibility = v }))
+    ∙ sym (after-assoc row (attributes row ts)
+    (λ a. visibility >>= λ v. pure (record { attributes = a; visibility = v }))
     (λ p. k (p .attributes) (p .visibility)))
 
 pub prefix-refused : {s : List ℕ} {c : Cursor} {b0 b1 : List ℕ} {n p : ℕ}

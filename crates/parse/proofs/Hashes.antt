@@ -75,6 +75,7 @@ module _ (s : List ℕ) (c : Cursor) (inList : InList s c) (t : Token) (l : Leaf
                 { inList = n .inList; row = n .row; forth = n .forth; here = refl; outer = n .outer; roles = n .roles };
             some = omega arith;
             same = past-hash _ (group-stream s d q k g) ∙ chosen _ _ _ (eq-eqb _ _ f) ∙
-                gathered-one (c .row + 1 + groupSize ins) ins (1 ∷ copied 2 ins) (attributes (c .row + 1 + groupSize ins) aft) ∙
+                gathered-one (c .row + 1 + groupSize ins) ins (1 ∷ copied 2 ins)
+                (attributes (c .row + 1 + groupSize ins) aft) ∙
                 (λ i. gathered (ins ∷ []) (1 ∷ copied 2 ins) (attributes (r i) (sym (m .here) i)));
           }

@@ -18,7 +18,8 @@ use Rattle.reading.specs.Declaration.{Declaration}
 use Rattle.reading.specs.Took.{Took}
 use Rattle.reading.specs.Reading.{item}
 use Rattle.reading.specs.Answer.{Answer, declared, refused, itemAnswer, answer, buffer, accepts}
-use Rattle.parse.specs.Contract.{Meets, stands, refuses, on, no, parsedOf, parsedBy, kindOf, ParsedAs, Answered, accepted, stream, first, itemShown, itemSaid, partsShown}
+use Rattle.parse.specs.Contract.{Meets, stands, refuses, on, no, parsedOf, parsedBy, kindOf, ParsedAs, Answered}
+use Rattle.parse.specs.Contract.{accepted, stream, first, itemShown, itemSaid, partsShown}
 use Rattle.parse.specs.declared.data_type.DataType.{DataType}
 use Rattle.parse.specs.declared.data_type.DataType.the-variants as kinds
 use Rattle.parse.specs.declared.item.ItemAt.{ItemAt}
@@ -101,7 +102,7 @@ first-in s rows e =
       starts = first-start s;
       counted = omega arith;
       within = omega (arith, length-take 10 s, ap length (p .names));
-      whole = p .whole;
+      rightRows = p .rightRows;
     }
 
 -- an item's parts, and where it ends

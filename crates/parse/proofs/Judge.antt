@@ -29,7 +29,8 @@ module _ (st : Stops) (d : ℕ) (m : Bool) (b : ℕ) where
       (cond (eqb x 44 && (eqb d 0 && st .comma)) (ends atComma) (belongs d (eqb x 45))))) e
 
   pub comma : b ≡ 44 → judgePunct st d m b ≡ cond (eqb d 0 && st .comma) (ends atComma) (belongs d false)
-  comma e = passed-over _ _ _ (no-arrow (ap (λ (x : ℕ). eqb x 62) e)) ∙ ap (λ (x : ℕ). cond (eqb x 60) (belongs (d + 1) false)
+  comma e = passed-over _ _ _ (no-arrow (ap (λ (x : ℕ). eqb x 62) e))
+      ∙ ap (λ (x : ℕ). cond (eqb x 60) (belongs (d + 1) false)
       (cond (eqb x 62) (cond (eqb d 0) (cond (st .angle) (ends atAngle) unopened) (belongs (d - 1) false))
       (cond (eqb x 44 && (eqb d 0 && st .comma)) (ends atComma) (belongs d (eqb x 45))))) e
 

@@ -12,7 +12,8 @@ use Rattle.token_list.proofs.Texts.{passed-over, and-fails}
 use Rattle.reading.specs.Declaration.{default}
 use Rattle.reading.specs.Took.{took}
 use Rattle.reading.specs.Token.{starts}
-use Rattle.reading.specs.Reading.{isPunct, isIdent, PUB, punctIf, attributes, visibility, tupleField, tupleType, variant, variantHere}
+use Rattle.reading.specs.Reading.{isPunct, isIdent, PUB, punctIf, attributes, visibility, tupleField, tupleType}
+use Rattle.reading.specs.Reading.{variant, variantHere}
 
 pub starts-punct : (b : ℕ) (ts : Trees) → (eqb (firstKind ts) 112 && eqb (firstByte ts) b) ≡ starts (isPunct b) ts
 starts-punct b end = refl

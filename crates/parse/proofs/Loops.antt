@@ -141,7 +141,8 @@ module _ {A : Type 0} (m : Reader (Maybe A)) (rd : Rounding m) {s : List ℕ} {f
       go e (stands {a = v} {rs = rs} {us = us} mv h) =
           subst⁻¹ (Meets s from b0 b2 (λ (xs : List A). count ≡ length xs) (on d))
           (k .gathering .same
-          ∙ ap (gathered (k .gathering .got) (k .gathering .taken)) (step (e ∙ ap (λ (w : Maybe A). took w rs us) (f v h)) ∙
+          ∙ ap (gathered (k .gathering .got) (k .gathering .taken))
+          (step (e ∙ ap (λ (w : Maybe A). took w rs us) (f v h)) ∙
           ap (λ (ps : List ℕ). took [] ps us) (append-nil rs))
           ∙ ap (λ (xs : List A). took xs (k .gathering .taken ++ rs) us) (append-nil (k .gathering .got)))
           (stands (moved-on (k .gathering .moved) mv) (k .counted))

@@ -15,7 +15,8 @@ use Rattle.token_list.specs.declared.check.Cursor.{Cursor}
 use Rattle.token_list.specs.declared.stream.Token.{Token}
 use Rattle.reading.specs.Took.{Took, took, Cause, stopped, Reader, onward, after, _>>=_, placeOf, pure}
 use Rattle.reading.specs.Reading.{copied, groupSize, lone, isPunct, isIdent, isWord, firstText, Word, missing, found}
-use Rattle.parse.specs.Contract.{Moved, Said, on, no, Meets, stands, refuses, refusal, stream, pastOf, Belonged, InsideAt, point, wordShown, wordSaid}
+use Rattle.parse.specs.Contract.{Moved, Said, on, no, Meets, stands, refuses, refusal, stream, pastOf, Belonged}
+use Rattle.parse.specs.Contract.{InsideAt, point, wordShown, wordSaid}
 use Rattle.parse.specs.Contract.{WordAt as WordOf}
 use Rattle.parse.specs.declared.utils.Word.{Word as WordAt}
 use Rattle.parse.specs.declared.utils.MaybeWord.{MaybeWord}
@@ -64,7 +65,7 @@ module _ (s : List ℕ) (c : Cursor) (t : Token) (i : InList s c) where
         starts = k .next ∙ next-start s (c .row) (c .at) (t .end) (i .starts) (k .end);
         counted = omega (arith, i .counted, k .start, k .text, k .next);
         within = k .within;
-        whole = k .whole;
+        rightRows = k .rightRows;
       }
 
   pub leaf-moved : (b : List ℕ) (r : ℕ) → LeafAt s (c .at) t →
@@ -235,7 +236,8 @@ pub group-belonged : {A : Type 0} (m k : Reader A) {s : List ℕ} {c d : Cursor}
     → InList s c → GroupAt s (c .at) t
     → Moved s c d (copied r (at s (t .next) .here)) (head (at s (t .next) .outer)) b0 b1
     → m (c .row) (group (t .first) (at s (t .next) .here) (head (at s (t .next) .outer))) ≡
-    onward (copied r (at s (t .next) .here)) (k (c .row + groupSize (at s (t .next) .here)) (head (at s (t .next) .outer)))
+    onward (copied r (at s (t .next) .here))
+    (k (c .row + groupSize (at s (t .next) .here)) (head (at s (t .next) .outer)))
     → Belonged s c d b0 b1 (m (c .row) (stream s c)) (k (d .row) (stream s d))
 group-belonged m k {s} {c} {d} t r i g mv f =
     let ins = at s (t .next) .here in

@@ -13,7 +13,8 @@ use Rattle.reading.specs.Took.{took, Reader, after, _>>=_, pure}
 use Rattle.reading.specs.Reading.{punctIf, runIf, parameterStops, optional-run, typeRuns, typeAfter}
 use Rattle.reading.specs.Took.{Point}
 use Rattle.token_list.specs.declared.stream.Token.{Token}
-use Rattle.parse.specs.Contract.{TextOf, ParameterOf, parameterMade, ParameterRunAt, boundOf, defaultOf, boundShown, typeShown}
+use Rattle.parse.specs.Contract.{TextOf, ParameterOf, parameterMade, ParameterRunAt, boundOf, defaultOf}
+use Rattle.parse.specs.Contract.{boundShown, typeShown}
 use Rattle.parse.specs.declared.generics.ParameterKind.{ParameterKind}
 use Rattle.parse.specs.declared.generics.ParameterKind.the-variants as kinds
 use Rattle.parse.specs.declared.generics.ParameterRun.{ParameterRun}

@@ -15,7 +15,8 @@ use Rattle.reading.specs.Declaration.{Value}
 use Rattle.reading.specs.Took.{Took, took, Cause, stopped, Reader, Point, pastTaken, beyond}
 use Rattle.reading.specs.Reading.{punctIf, copied, groupSize, isLiteral, negatable, negativeValue}
 use Rattle.reading.specs.Place.{identRow, wordRow, tokenEnd, pastToken, beforeName, parameterNameAt, literalRow}
-use Rattle.parse.specs.Contract.{Moved, Said, on, Meets, stands, refuses, stream, point, CursorAt, TokenIn, WordAt, NameAt, pastOf, ValueIn, valueShown, valueSaid}
+use Rattle.parse.specs.Contract.{Moved, Said, on, Meets, stands, refuses, stream, point, CursorAt, TokenIn}
+use Rattle.parse.specs.Contract.{WordAt, NameAt, pastOf, ValueIn, valueShown, valueSaid}
 use Rattle.parse.proofs.Meeting.{past-in-of, group-stream}
 use Rattle.parse.specs.declared.utils.Word.{Word}
 use Rattle.parse.specs.declared.variants.ValueStep.{ValueStep}

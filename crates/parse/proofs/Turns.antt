@@ -13,8 +13,11 @@ use Rattle.token_list.specs.declared.check.Cursor.{Cursor}
 use Rattle.token_list.specs.declared.stream.Token.{Token}
 use Rattle.token_list.proofs.Texts.{chosen, passed-over}
 use Rattle.reading.specs.Took.{Took, took, refuse, onward}
-use Rattle.reading.specs.Reading.{Stops, stopping, Ending, atEnd, atAngle, atComma, atGroup, RunEnd, ended, Verdict, belongs, ends, unopened, judge, judgePunct, judged, runFrom, firstRows, kept, run, copied}
-use Rattle.parse.specs.Contract.{Moved, on, no, any, Meets, stands, refuses, stream, point, CursorAt, InsideAt, pastOf, Belonged, runEndOf, RunAt}
+use Rattle.reading.specs.Reading.{Stops, stopping, Ending, atEnd, atAngle, atComma, atGroup, RunEnd, ended, Verdict}
+use Rattle.reading.specs.Reading.{belongs, ends, unopened, judge, judgePunct, judged, runFrom, firstRows, kept, run}
+use Rattle.reading.specs.Reading.{copied}
+use Rattle.parse.specs.Contract.{Moved, on, no, any, Meets, stands, refuses, stream, point, CursorAt, InsideAt}
+use Rattle.parse.specs.Contract.{pastOf, Belonged, runEndOf, RunAt}
 use Rattle.parse.specs.declared.runs.Run.{Run}
 use Rattle.reading.specs.Place.{endOf}
 use Rattle.parse.proofs.Meeting.{leaf-belonged, group-belonged, group-stream, Going, going-start, meets-as}
@@ -71,7 +74,8 @@ module _ (st : Stops) (r : ℕ) (s : List ℕ) (c : Cursor) (inList : InList s c
         (leaf (rowOf s t) (at s (t .next) .here)) (c .row)
     leaf-judged v q =
         ap (runFrom st r depth m (c .row)) (l .here)
-        ∙ ap (λ (x : Verdict). judged depth x (λ e n. onward (r ∷ []) (runFrom st r e n (c .row + 1) (at s (t .next) .here)))
+        ∙ ap (λ (x : Verdict). judged depth x
+        (λ e n. onward (r ∷ []) (runFrom st r e n (c .row + 1) (at s (t .next) .here)))
         (leaf (rowOf s t) (at s (t .next) .here)) (c .row)) q
 
     pub turn-leaf : (d : Cursor) (b0 b1 : List ℕ) (e : ℕ) (n : Bool) → d ≡ pastOf c t → b1 ≡ set b0 (c .row) r →
@@ -83,7 +87,8 @@ module _ (st : Stops) (r : ℕ) (s : List ℕ) (c : Cursor) (inList : InList s c
         (λ e n. onward (r ∷ []) (runFrom st r e n (c .row + 1) (at s (t .next) .here)))
         (leaf (rowOf s t) (at s (t .next) .here)) (c .row)) v)
 
-    pub turn-leaf-ends : (x : Ending) → judge st depth m (rowOf s t) ≡ ends x → here ≡ took (ended x depth) [] (stream s c)
+    pub turn-leaf-ends : (x : Ending) → judge st depth m (rowOf s t) ≡ ends x
+        → here ≡ took (ended x depth) [] (stream s c)
     turn-leaf-ends x v = leaf-judged (ends x) v ∙ ap (took (ended x depth) []) (sym (l .here))
 
     pub turn-leaf-unopened : judge st depth m (rowOf s t) ≡ unopened → here ≡ refuse 15 (c .row)
@@ -97,7 +102,8 @@ module _ (st : Stops) (r : ℕ) (s : List ℕ) (c : Cursor) (inList : InList s c
     aft = head (at s (t .next) .outer)
 
     pub turn-group : (d : Cursor) (b0 b1 : List ℕ) → Moved s c d (copied r ins) aft b0 b1 →
-        stopping st depth (t .first) ≡ false → Belonged s c d b0 b1 here (runFrom st r depth false (d .row) (stream s d))
+        stopping st depth (t .first) ≡ false
+        → Belonged s c d b0 b1 here (runFrom st r depth false (d .row) (stream s d))
     turn-group d b0 b1 k v =
         group-belonged (runFrom st r depth m) (runFrom st r depth false) t r inList g k (passed-over _ _ _ v)
 
@@ -126,7 +132,8 @@ module _ (s : List ℕ) (c : Cursor) {b0 b1 : List ℕ} (st : Stops) (role : ℕ
       → Meets s c b0 b1 (RunAt s st role (point s c) r) (on (r .to)) (run st role (c .row) (stream s c))
   run-read r i f w = go refl w
     where
-      go : {t : Took RunEnd} → runFrom st role 0 false (c .row) (stream s c) ≡ t → Meets s c b0 b1 (λ (v : RunEnd). runEndOf r ≡ v) (on (r .to)) t
+      go : {t : Took RunEnd} → runFrom st role 0 false (c .row) (stream s c) ≡ t
+          → Meets s c b0 b1 (λ (v : RunEnd). runEndOf r ≡ v) (on (r .to)) t
           → Meets s c b0 b1 (RunAt s st role (point s c) r) (on (r .to)) (run st role (c .row) (stream s c))
       go e (stands {rs = rs} {us = us} mv h) =
           let tokens = firstRows (stream s c) (length rs) in

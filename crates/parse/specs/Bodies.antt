@@ -14,7 +14,8 @@ use Rattle.reading.specs.Role as role
 use Rattle.reading.specs.Declaration as declaration
 use Rattle.reading.specs.Took.{Took, Reader, pure, _>>=_, Point, beyond}
 use Rattle.reading.specs.Reading as reading
-use Rattle.reading.specs.Place.{VariantHead, visibilityAt, startAt, itemNameAt, genericsAt, clauseAt, bodyAt, typeAt, variantNameAt, groupAt, valueRow}
+use Rattle.reading.specs.Place.{VariantHead, visibilityAt, startAt, itemNameAt, genericsAt, clauseAt, bodyAt, typeAt}
+use Rattle.reading.specs.Place.{variantNameAt, groupAt, valueRow}
 use Rattle.reading.specs.Answer as answers
 use Rattle.parse.specs.Meets.{Said, on, refusal, stream, point, CursorAt, TokenIn, TextOf, InsideAt}
 use Rattle.parse.specs.Parts.{NameAt, RunAt, kindOf, ClauseOf}

@@ -16,7 +16,8 @@ use Rattle.reading.specs.Declaration as declaration
 use Rattle.reading.specs.Took.{took, Cause, stopped, refuse, Reader, pure, _>>=_, Point, beyond}
 use Rattle.reading.specs.Reading as reading
 use Rattle.reading.specs.Place.{wordRow, pastToken, runEnd}
-use Rattle.parse.specs.Meets.{Said, on, refusal, stream, point, CursorAt, TokenIn, TextOf, InsideAt, Belonged, Gained}
+use Rattle.parse.specs.Meets.{Said, on, refusal, stream, point, CursorAt, TokenIn, TextOf, InsideAt, Belonged}
+use Rattle.parse.specs.Meets.{Gained}
 use Rattle.parse.specs.declared.utils.Step.{Step}
 use Rattle.parse.specs.declared.utils.Step.the-variants as steps
 use Rattle.parse.specs.declared.utils.Word.{Word}
@@ -311,7 +312,8 @@ optionalRunSaid c (optionalRuns.At r) = on (r .to)
 optionalRunSaid c (optionalRuns.Refused r) = refusal r
 
 abbrev pub optionalRunShown : List ℕ → ℕ → Point → OptionalRunStep → Trees → Type 0
-optionalRunShown s separator x optionalRuns.Absent v = (starts (reading.isPunct separator) (x .stream) ≡ false) × (v ≡ end)
+optionalRunShown s separator x optionalRuns.Absent v =
+    (starts (reading.isPunct separator) (x .stream) ≡ false) × (v ≡ end)
 optionalRunShown s separator x (optionalRuns.At r) v = OptionalRunAt s separator x r v
 optionalRunShown s separator x (optionalRuns.Refused r) v = ⊥
 

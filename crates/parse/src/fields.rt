@@ -29,7 +29,9 @@ ghost use Rattle.token_list.specs.Contract.{InList, GroupAt, Skipped};
 ghost use Rattle.reading.specs.Role.{delimiter};
 ghost use Rattle.reading.specs.Place.{pastToken};
 ghost use Rattle.reading.specs.Reading.{every, fieldAfter, namedField, tupleType, tupleField};
-ghost use Rattle.parse.specs.Contract.{Meets, stream, point, Prefix, fieldType, typeAtShown, typeSaid, NamedAt, fieldShown, fieldSaid, namedShown, namedSaid, unnamedShown, unnamedSaid, nextShown, nextSaid, countShown, countSaid, Inside};
+ghost use Rattle.parse.specs.Contract.{Meets, stream, point, Prefix, fieldType, typeAtShown, typeSaid, NamedAt};
+ghost use Rattle.parse.specs.Contract.{fieldShown, fieldSaid, namedShown, namedSaid, unnamedShown, unnamedSaid};
+ghost use Rattle.parse.specs.Contract.{nextShown, nextSaid, countShown, countSaid, Inside};
 
 // A type: its run, and the cursor after the `,` that may follow.
 pub struct TypeAt {

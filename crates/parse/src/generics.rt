@@ -24,9 +24,14 @@ ghost use Rattle.token_list.specs.Byte.{COLON};
 ghost use Rattle.token_list.specs.Contract.{InList};
 ghost use Rattle.reading.specs.Declaration.{Parameter};
 ghost use Rattle.reading.specs.Took.{Point};
-ghost use Rattle.reading.specs.Reading.{parameterName, optional-run, typeAfter, comma, parameter, every, generics, clause};
+ghost use Rattle.reading.specs.Reading.{parameterName, optional-run, typeAfter, comma, parameter, every, generics};
+ghost use Rattle.reading.specs.Reading.{clause};
 ghost use Rattle.reading.specs.Place.{pastToken, parameterNameAt};
-ghost use Rattle.parse.specs.Contract.{isLifetime, Meets, stream, point, TokenIn, TextOf, nameShown, nameSaid, optionalRunShown, optionalRunSaid, boundShown, parameterRunSaid, boundOf, defaultOf, emptyRun, parameterRun, ParameterRunAt, ParameterOf, typeShown, parameterShown, parameterSaid, namedParameter, afterQuote, afterConst, afterName, countShown, countSaid, genericsShown, clauseShown, clauseSaid};
+ghost use Rattle.parse.specs.Contract.{isLifetime, Meets, stream, point, TokenIn, TextOf, nameShown, nameSaid};
+ghost use Rattle.parse.specs.Contract.{optionalRunShown, optionalRunSaid, boundShown, parameterRunSaid, boundOf};
+ghost use Rattle.parse.specs.Contract.{defaultOf, emptyRun, parameterRun, ParameterRunAt, ParameterOf, typeShown};
+ghost use Rattle.parse.specs.Contract.{parameterShown, parameterSaid, namedParameter, afterQuote, afterConst};
+ghost use Rattle.parse.specs.Contract.{afterName, countShown, countSaid, genericsShown, clauseShown, clauseSaid};
 
 pub enum ParameterKind {
     Lifetime,

@@ -30,7 +30,8 @@ ghost use Rattle.token_list.specs.Contract.{InList};
 ghost use Rattle.reading.specs.Role as role;
 ghost use Rattle.reading.specs.Reading.{Head, item, bodyOf};
 ghost use Rattle.reading.specs.Promise.{SingleAssignment};
-ghost use Rattle.parse.specs.Contract.{Meets, stream, Prefix, HeadOf, bodyShown, countSaid, partsAfter, kindOf, partsShown, itemShown, itemSaid, parsedOf, Answered, accepted};
+ghost use Rattle.parse.specs.Contract.{Meets, stream, Prefix, HeadOf, bodyShown, countSaid, partsAfter, kindOf};
+ghost use Rattle.parse.specs.Contract.{partsShown, itemShown, itemSaid, parsedOf, Answered, accepted};
 
 // What was read: where the visibility is read (the attributes are where the item begins), the kind, the
 // name's token and the row where it begins, how many parameters and fields or variants there are, the

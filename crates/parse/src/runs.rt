@@ -153,7 +153,8 @@ fn run_token(
 ) -> RunToken
     requires { ⌜ InList (now s) c ⌝ }
     requires { ⌜ depth ≤ c .at ⌝ }
-    ensures { λ r. ⌜ RunTokenRead (now (s .entry)) c (now (roles .entry)) (now (roles .exit)) stops role depth minus r ⌝ }
+    ensures { λ r. ⌜ RunTokenRead (now (s .entry)) c (now (roles .entry))
+        (now (roles .exit)) stops role depth minus r ⌝ }
 {
     match peek(s, c) {
         Peeked::Nothing => RunToken::Ended(Ending::End),

@@ -28,9 +28,12 @@ ghost use lib.ListN.{length};
 ghost use lib.Seq.{slice};
 ghost use Rattle.token_list.specs.Stream.{at};
 ghost use Rattle.token_list.specs.Contract.{InList, GroupAt};
-ghost use Rattle.reading.specs.Reading.{every, variantFields, negatable, negativeValue, discriminant, valueIf, variantHere, variant};
+ghost use Rattle.reading.specs.Reading.{every, variantFields, negatable, negativeValue, discriminant, valueIf};
+ghost use Rattle.reading.specs.Reading.{variantHere, variant};
 ghost use Rattle.reading.specs.Place.{variantHead, literalRow};
-ghost use Rattle.parse.specs.Contract.{Meets, stream, countShown, countSaid, Inside, fieldsShown, fieldsSaid, valueShown, valueSaid, variantNameShown, placedNameSaid, variantValue, variantShown, variantSaid};
+ghost use Rattle.parse.specs.Contract.{Meets, stream, countShown, countSaid, Inside, fieldsShown, fieldsSaid};
+ghost use Rattle.parse.specs.Contract.{valueShown, valueSaid, variantNameShown, placedNameSaid, variantValue};
+ghost use Rattle.parse.specs.Contract.{variantShown, variantSaid};
 
 // The largest i64, and a tenth of it: a number above that has no room for one more digit.
 const MAX_I64: u64 = 9223372036854775807;

@@ -12,7 +12,8 @@ use Rattle.token_list.specs.Row.{Row, first}
 use Rattle.token_list.specs.Stream.{Trees, end, leaf, group}
 use Rattle.token_list.proofs.Texts.{and-parts, chosen, passed-over, and-last, and-fails}
 use Rattle.reading.specs.Role as role
-use Rattle.reading.specs.Token.{isIdent, isLiteral, isPunct, isWord, copied, lone, starts, isGroup, PUB, STRUCT, ENUM, Stops, stopping}
+use Rattle.reading.specs.Token.{isIdent, isLiteral, isPunct, isWord, copied, lone, starts, isGroup, PUB, STRUCT}
+use Rattle.reading.specs.Token.{ENUM, Stops, stopping}
 use Rattle.reading.specs.Grammar as g
 use Rattle.reading.specs.Grammar.{everything}
 use Rattle.reading.specs.Declaration.{default, public, restricted, Kind, struct, enum}
@@ -170,14 +171,16 @@ module _ (st : Stops) (n : ℕ) where
       → Taken Any (r.runFrom st n e m (row + 1) us) rs vs →
       Taken Any (r.runFrom st n depth minus row (leaf q us)) (n ∷ rs) vs
   run-step depth minus q us row j h =
-      same-as (ap (λ (v : Verdict). r.judged depth v (λ e m. onward (n ∷ []) (r.runFrom st n e m (row + 1) us)) (leaf q us)
+      same-as (ap (λ (v : Verdict). r.judged depth v
+      (λ e m. onward (n ∷ []) (r.runFrom st n e m (row + 1) us)) (leaf q us)
       row) j) (onward-taken (n ∷ []) h)
 
   run-ends : (depth : ℕ) (minus : Bool) (q : Row) (us : Trees) (row : ℕ) {e : Ending} →
       r.judge st depth minus q ≡ ends e
       → Taken Any (r.runFrom st n depth minus row (leaf q us)) [] (leaf q us)
   run-ends depth minus q us row {e = e} j = taken-as (r.ended e depth) [] (leaf q us) tt
-      (ap (λ (v : Verdict). r.judged depth v (λ e m. onward (n ∷ []) (r.runFrom st n e m (row + 1) us)) (leaf q us) row) j)
+      (ap (λ (v : Verdict). r.judged depth v (λ e m. onward (n ∷ []) (r.runFrom st n e m (row + 1) us))
+      (leaf q us) row) j)
 
   pub runFrom-complete : {depth : ℕ} {minus : Bool} {ts us : Trees} {rs : List ℕ} →
       g.Run everything st n depth minus ts us rs → (row : ℕ)

@@ -14,9 +14,16 @@ use Rattle.reading.specs.Role as role
 use Rattle.reading.specs.Declaration.{Visibility, Kind, struct, enum, Fields, Variant, Body, Declaration}
 use Rattle.reading.specs.Took.{Took, took, Reader, onward, after, _>>=_, pure, wrong}
 use Rattle.reading.specs.Reading as r
-use Rattle.reading.specs.Reading.{Maybe, done, one, Word, missing, found, Stops, Ending, RunEnd, Verdict, belongs, ends, unopened}
-pub use Rattle.reading.proofs.Rounds.{Conserved, Keeping, Conserving, Any, IsRole, ownNumber, conserved, refusal-number, refusal-place, Rounding, rounding, Turn, Turning, turn-round, every-step, every-conserving, Ended, every-ended}
-use Rattle.reading.proofs.Rounds.{taken, refused, past-none, past-leaf, past-group, past-both, onward-conserved, after-conserved, looser, bind, choice, reader-choice, nothing-taken, pure-conserving, one-row, copied-alone, copied-conserved, from-conserved, told-end, told-row, closing-conserved, PlaceBelow, at-end, at-row, bind-pure, turn-wider, bind-turning, AnyRest, Empty}
+use Rattle.reading.specs.Reading.{Maybe, done, one, Word, missing, found, Stops, Ending, RunEnd, Verdict, belongs}
+use Rattle.reading.specs.Reading.{ends, unopened}
+pub use Rattle.reading.proofs.Rounds.{Conserved, Keeping, Conserving, Any, IsRole, ownNumber, conserved}
+pub use Rattle.reading.proofs.Rounds.{refusal-number, refusal-place, Rounding, rounding, Turn, Turning}
+pub use Rattle.reading.proofs.Rounds.{turn-round, every-step, every-conserving, Ended, every-ended}
+use Rattle.reading.proofs.Rounds.{taken, refused, past-none, past-leaf, past-group, past-both, onward-conserved}
+use Rattle.reading.proofs.Rounds.{after-conserved, looser, bind, choice, reader-choice, nothing-taken}
+use Rattle.reading.proofs.Rounds.{pure-conserving, one-row, copied-alone, copied-conserved, from-conserved}
+use Rattle.reading.proofs.Rounds.{told-end, told-row, closing-conserved, PlaceBelow, at-end, at-row, bind-pure}
+use Rattle.reading.proofs.Rounds.{turn-wider, bind-turning, AnyRest, Empty}
 
 -- a field's run ends at a comma or at the end
 judge-comma : (q : Row) (e : Ending) → r.judge r.fieldStops 0 false q ≡ ends e → r.isPunct 44 q ≡ true
@@ -58,7 +65,8 @@ module _ (b : ℕ) where
   WordIn ts missing us = Unit {0}
   WordIn ts (found t p) us = (p < b) × (size us < size ts)
 
-  word-in : (n : ℕ) → IsRole n → (row : ℕ) (ts : Trees) → row + size ts ≤ b → Conserved b (WordIn ts) ts (r.word n row ts)
+  word-in : (n : ℕ) → IsRole n → (row : ℕ) (ts : Trees) → row + size ts ≤ b
+      → Conserved b (WordIn ts) ts (r.word n row ts)
   word-in n e row end l = taken [] end (past-none end) tt
   word-in n e row (leaf q us) l = choice (r.isIdent q)
       (taken (n ∷ []) us (past-leaf n e q us) (omega arith, omega arith))
@@ -352,7 +360,8 @@ module _ (b : ℕ) where
       go : (w : Word) (us : Trees) → WordIn ts w us → size us ≤ size ts → (row : ℕ) → row + size us ≤ b →
           Conserved b (Turn Empty (size ts)) us ((r.named! w >>= variantRest a) row us)
       go missing us h s row l =
-          after-conserved {f = variantRest a} row l (wrong-conserved {T = λ n vs. ⊥} 11 refl row us l) (λ n vs h. absurd h)
+          after-conserved {f = variantRest a} row l (wrong-conserved {T = λ n vs. ⊥} 11 refl row us l)
+          (λ n vs h. absurd h)
       go (found t p) us h s row l = turned (h .1) (bind (pure-conserving t) rest row us l)
 
   variantHere-turning : Turning b Empty r.variantHere

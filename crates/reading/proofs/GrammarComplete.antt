@@ -11,16 +11,22 @@ use Rattle.token_list.specs.Row.{Row}
 use Rattle.token_list.specs.Stream.{Trees, end, leaf, group, size}
 use Rattle.token_list.proofs.Texts.{and-parts, chosen, passed-over}
 use Rattle.reading.specs.Role as role
-use Rattle.reading.specs.Token.{isIdent, isLiteral, isPunct, isWord, starts, isGroup, isEnd, negatable, CONST, WHERE, parameterStops, fieldStops, clauseStops}
+use Rattle.reading.specs.Token.{isIdent, isLiteral, isPunct, isWord, starts, isGroup, isEnd, negatable, CONST}
+use Rattle.reading.specs.Token.{WHERE, parameterStops, fieldStops, clauseStops}
 use Rattle.reading.specs.Grammar as g
 use Rattle.reading.specs.Grammar.{everything}
-use Rattle.reading.specs.Declaration.{Visibility, Kind, struct, enum, Parameter, Generics, Constraints, unconstrained, constrained, Field, Fields, Value, absent, Variant, Body, Declaration, without, angled}
+use Rattle.reading.specs.Declaration.{Visibility, Kind, struct, enum, Parameter, Generics, Constraints}
+use Rattle.reading.specs.Declaration.{unconstrained, constrained, Field, Fields, Value, absent, Variant, Body}
+use Rattle.reading.specs.Declaration.{Declaration, without, angled}
 use Rattle.reading.specs.Took.{Took, took, Reader, onward, _>>=_, pure}
 use Rattle.reading.specs.Reading as r
 use Rattle.reading.specs.Reading.{Maybe, done, one, every, more}
 use Rattle.reading.proofs.Conserved as c
 use Rattle.reading.proofs.SoundTokens.{kindWord}
-use Rattle.reading.proofs.CompleteTokens.{Taken, Takes, Any, same-as, taken-as, onward-taken, and-then, with-roles, pure-takes, and-pure, eqb-other, punct-other, ident-no-punct, punct-no-literal, run-complete, attributes-complete, visibility-complete, name-then, dataType-complete}
+use Rattle.reading.proofs.CompleteTokens.{Taken, Takes, Any, same-as, taken-as, onward-taken, and-then}
+use Rattle.reading.proofs.CompleteTokens.{with-roles, pure-takes, and-pure, eqb-other, punct-other}
+use Rattle.reading.proofs.CompleteTokens.{ident-no-punct, punct-no-literal, run-complete, attributes-complete}
+use Rattle.reading.proofs.CompleteTokens.{visibility-complete, name-then, dataType-complete}
 
 -- ## Marks and generics
 
@@ -39,14 +45,16 @@ pub punctIf-complete : {b : ℕ} {t : Bool} {ts us : Trees} {rs : List ℕ} → 
 punctIf-complete {t = t} {us = us} {rs = rs} h = record { from = λ row. taken-as t rs us refl (punctIf-taken h row) }
 
 -- the mark stands or not, and what is read then
-separator-then : {B : Type 0} {Q : B → Type 0} {f : Bool → Reader B} {b : ℕ} {t : Bool} {ts us vs : Trees} {rs qs : List ℕ} →
+separator-then : {B : Type 0} {Q : B → Type 0} {f : Bool → Reader B} {b : ℕ} {t : Bool} {ts us vs : Trees}
+    {rs qs : List ℕ} →
     g.Separator everything b t ts us rs
     → Takes Q (f t) us vs qs → Takes Q (r.punctIf b role.separator >>= f) ts vs (rs ++ qs)
 separator-then {Q = Q} {f = f} {us = us} {vs = vs} {qs = qs} h k =
     and-then (punctIf-complete h) (λ x e. subst (λ (x : Bool). Takes Q (f x) us vs qs) (sym e) k)
 
 optional-run-none : {b : ℕ} {ts : Trees} → starts (isPunct b) ts ≡ false → Takes Any (r.optional-run b) ts ts []
-optional-run-none {b} {ts} e = separator-then {b = b} {t = false} {us = ts} (g.Separator.absent e) (pure-takes end ts tt)
+optional-run-none {b} {ts} e = separator-then {b = b} {t = false} {us = ts} (g.Separator.absent e)
+    (pure-takes end ts tt)
 
 optional-run-some : {b : ℕ} {c : Row} {us vs : Trees} {rs : List ℕ} → isPunct b c ≡ true →
     g.Run everything parameterStops role.bound 0 false us vs rs
@@ -120,7 +128,8 @@ module _ (n : List ℕ) where
       g.Run everything parameterStops role.bound 0 false us vs rs
       → Takes Any (r.typeAfter n) (leaf c us) vs (role.separator ∷ rs)
   typeAfter-defaulted c {us} i h =
-      separator-then {f = r.typeRuns n} {b = 58} {t = false} {us = leaf c us} (g.Separator.absent (punct-other 61 58 c i refl))
+      separator-then {f = r.typeRuns n} {b = 58} {t = false} {us = leaf c us}
+      (g.Separator.absent (punct-other 61 58 c i refl))
       (and-pure (Parameter.type n end) (optional-run-some {b = 61} {c = c} i h) (λ x y. tt))
 
 and-comma : {A : Type 0} {t : Bool} {m : Reader A} {ts us vs : Trees} {rs cs : List ℕ} → Takes Any m ts us rs →
@@ -211,18 +220,22 @@ clause-complete (g.Clause.clause {q = q} e h u) =
 
 -- ## Fields
 
-fieldAfter-complete : (a : List Trees) (v : Visibility) (n : List ℕ) (c : Row) {t : Bool} {vs ws xs : Trees} {rs cs : List ℕ} → isPunct 58 c ≡ true
+fieldAfter-complete : (a : List Trees) (v : Visibility) (n : List ℕ) (c : Row) {t : Bool} {vs ws xs : Trees}
+    {rs cs : List ℕ} → isPunct 58 c ≡ true
     → g.Run everything fieldStops role.type 0 false vs ws rs
-    → g.Separator everything 44 t ws xs cs → Takes Another (r.fieldAfter a v n) (leaf c vs) xs (role.separator ∷ (rs ++ cs))
+    → g.Separator everything 44 t ws xs cs
+    → Takes Another (r.fieldAfter a v n) (leaf c vs) xs (role.separator ∷ (rs ++ cs))
 fieldAfter-complete a v n c {vs = vs} i j m =
     let made : Trees → Field = λ f. record { name = n; field = record { attributes = a; visibility = v; type = f } } in
-    separator-then {f = λ t. r.must 23 t >>= λ u. r.run fieldStops role.type >>= λ f. r.comma (made f)} {b = 58} {t = true}
+    separator-then {f = λ t. r.must 23 t >>= λ u. r.run fieldStops role.type >>= λ f. r.comma (made f)} {b = 58}
+    {t = true}
     {us = vs} (g.Separator.present {q = c} i)
     (and-then {m = r.must 23 true} (pure-takes {P = Any} tt vs tt)
     (λ z y. and-then (run-complete fieldStops role.type j)
     (λ f y. comma-complete {A = Field} (made f) m)))
 
-fieldStart-complete : (a : List Trees) (v : Visibility) (q c : Row) {t : Bool} {vs ws xs : Trees} {rs cs : List ℕ} → isIdent q ≡ true →
+fieldStart-complete : (a : List Trees) (v : Visibility) (q c : Row) {t : Bool} {vs ws xs : Trees} {rs cs : List ℕ}
+    → isIdent q ≡ true →
     isPunct 58 c ≡ true
     → g.Run everything fieldStops role.type 0 false vs ws rs
     → g.Separator everything 44 t ws xs cs → Takes Another (r.fieldStart a v) (leaf q (leaf c vs)) xs

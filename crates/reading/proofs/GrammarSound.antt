@@ -8,14 +8,18 @@ use lib.ListN.{replicate}
 use Rattle.token_list.specs.Row.{Row}
 use Rattle.token_list.specs.Stream.{Trees, end, leaf, group, size}
 use Rattle.reading.specs.Role as role
-use Rattle.reading.specs.Token.{isIdent, isLiteral, isPunct, isWord, starts, isEnd, negatable, CONST, WHERE, parameterStops, fieldStops, clauseStops}
+use Rattle.reading.specs.Token.{isIdent, isLiteral, isPunct, isWord, starts, isEnd, negatable, CONST, WHERE}
+use Rattle.reading.specs.Token.{parameterStops, fieldStops, clauseStops}
 use Rattle.reading.specs.Grammar as g
 use Rattle.reading.specs.Grammar.{everything}
-use Rattle.reading.specs.Declaration.{Visibility, Kind, struct, enum, Parameter, constrained, UnnamedField, Field, Fields, Value, absent, Variant, Body, Declaration}
+use Rattle.reading.specs.Declaration.{Visibility, Kind, struct, enum, Parameter, constrained, UnnamedField, Field}
+use Rattle.reading.specs.Declaration.{Fields, Value, absent, Variant, Body, Declaration}
 use Rattle.reading.specs.Took.{Took, took, Reader, onward, _>>=_, pure}
 use Rattle.reading.specs.Reading as r
 use Rattle.reading.specs.Reading.{Maybe, done, one, Word, rounds, every, more}
-use Rattle.reading.proofs.SoundTokens.{Sound, met, refused, met-by, choice, onward-met, onward-still, after-met, pure-met, run-sound, attributes-sound, visibility-sound, name-then, kindWord, dataType-sound}
+use Rattle.reading.proofs.SoundTokens.{Sound, met, refused, met-by, choice, onward-met, onward-still, after-met}
+use Rattle.reading.proofs.SoundTokens.{pure-met, run-sound, attributes-sound, visibility-sound, name-then}
+use Rattle.reading.proofs.SoundTokens.{kindWord, dataType-sound}
 
 -- ## Marks and generics
 
@@ -43,7 +47,8 @@ optional-run-sound b row ts = after-met row (punctIf-sound b row ts) go
   where
     go : {ts : Trees} (t : Bool) (rs : List ℕ) (us : Trees) → g.Separator everything b t ts us rs → (row : ℕ)
         → Sound (λ x qs vs. OptionalRun b ts (rs ++ qs) vs) (r.runIf t parameterStops role.bound row us)
-    go true rs us (g.Separator.present e) row = weaken (run-sound parameterStops role.bound row us) (λ x qs vs h. some e h)
+    go true rs us (g.Separator.present e) row =
+        weaken (run-sound parameterStops role.bound row us) (λ x qs vs h. some e h)
     go false rs us (g.Separator.absent e) row = met [] us (none e)
 
 bound-of : {ts us : Trees} {rs : List ℕ} → OptionalRun 58 ts rs us → g.Bound everything ts us rs
@@ -79,7 +84,8 @@ module _ (q : Row) where
   lifetime-sound quote row us e = after-met row (parameterName-sound 24 quote row us) go
     where
       go : {us : Trees} (n rs : List ℕ) (vs : Trees) → ParameterName us rs vs → (row : ℕ)
-          → Sound (λ x qs ws. Named us (rs ++ qs) ws) ((r.optional-run 58 >>= λ b. pure (Parameter.lifetime n b)) row vs)
+          → Sound (λ x qs ws. Named us (rs ++ qs) ws)
+          ((r.optional-run 58 >>= λ b. pure (Parameter.lifetime n b)) row vs)
       go n rs vs (name f) row =
           after-met row (optional-run-sound 58 row vs)
           (λ b qs ws h row. met [] ws (rw append-nil (g.Parameter.lifetime e f refl (bound-of h))))
@@ -89,7 +95,8 @@ module _ (q : Row) where
   constant-sound row us e = after-met row (parameterName-sound 27 65535 row us) go
     where
       go : {us : Trees} (n rs : List ℕ) (vs : Trees) → ParameterName us rs vs → (row : ℕ)
-          → Sound (λ x qs ws. Named us (rs ++ qs) ws) ((r.optional-run 58 >>= λ b. pure (Parameter.constant n b)) row vs)
+          → Sound (λ x qs ws. Named us (rs ++ qs) ws)
+          ((r.optional-run 58 >>= λ b. pure (Parameter.constant n b)) row vs)
       go n rs vs (name f) row =
           after-met row (optional-run-sound 58 row vs) (λ b qs ws h row. met [] ws
           (rw append-nil (g.Parameter.constant e f (bound-of h) refl)))
@@ -216,7 +223,8 @@ module _ (ts us : Trees) (ks : List ℕ) (h : g.Attributes everything ts us ks) 
           (λ t cs ys m row. met [] ys (rw append-nil (another (g.NamedField.field h i e c j refl m))))))
       go i false rs ws m row = refused
 
-  fieldStart-read : (bs : List ℕ) (vs : Trees) → g.Visibility everything us vs bs → (a : List Trees) (v : Visibility) (row : ℕ)
+  fieldStart-read : (bs : List ℕ) (vs : Trees) → g.Visibility everything us vs bs
+      → (a : List Trees) (v : Visibility) (row : ℕ)
       → Sound (λ m qs ws. FieldRead ts m (ks ++ (bs ++ qs)) ws) (r.fieldStart a v row vs)
   fieldStart-read bs end i a v row = met {a = done} [] end (rw append-nil (last h i))
   fieldStart-read bs (group d vs ws) i a v row = refused

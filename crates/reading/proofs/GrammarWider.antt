@@ -64,7 +64,8 @@ module _ (fewer more : Difference → Bool) (wider : (d : Difference) → fewer 
   visibility (g.Visibility.wrapped-scoped u v a) =
       g.Visibility.wrapped-scoped (wider g.wrapped-pub u) (wider g.any-scope v) a
 
-  separator : {b : ℕ} {t : Bool} {ts us : Trees} {rs : List ℕ} → g.Separator fewer b t ts us rs → g.Separator more b t ts us rs
+  separator : {b : ℕ} {t : Bool} {ts us : Trees} {rs : List ℕ} → g.Separator fewer b t ts us rs
+      → g.Separator more b t ts us rs
   separator (g.Separator.present e) = g.Separator.present e
   separator (g.Separator.absent e) = g.Separator.absent e
 

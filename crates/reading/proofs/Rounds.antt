@@ -1,7 +1,7 @@
--- One predicate on the answers of readers, `Conserved`: each row that is taken has one of the nineteen roles; these rows
--- and those that are left make up the stream, and what is left has no more texts than it; a refusal has a number of the
--- reader's own, at the end mark or at a row below a bound. A reader that goes round takes a row each time, so that its
--- fuel does not matter.
+-- One predicate on the answers of readers, `Conserved`: each row that is taken has one of the nineteen roles; these
+-- rows and those that are left make up the stream, and what is left has no more texts than it; a refusal has a number
+-- of the reader's own, at the end mark or at a row below a bound. A reader that goes round takes a row each time, so
+-- that its fuel does not matter.
 use mathlib.Core.Path.{_≡_, refl, ap}
 use mathlib.Core.Bool.{Bool, true, false, cond, _&&_}
 use mathlib.Core.List.{List, [], _∷_, _++_}
@@ -169,7 +169,8 @@ module _ {b : ℕ} where
       Conserved b Any (group d ts us) (took a (r.copied n ts) us)
   copied-alone n e d ts us = taken (r.copied n ts) us (past-group n e d ts us) tt
 
-  pub copied-conserved : {A : Type 0} {T : A → Trees → Type 0} {t : Took A} (n : ℕ) → IsRole n → (d : ℕ) (ts us : Trees) →
+  pub copied-conserved : {A : Type 0} {T : A → Trees → Type 0} {t : Took A} (n : ℕ) → IsRole n
+      → (d : ℕ) (ts us : Trees) →
       Conserved b T us t → Conserved b T (group d ts us) (onward (r.copied n ts) t)
   copied-conserved n e d ts us c = onward-conserved (r.copied n ts) (past-group n e d ts us) c
 

@@ -216,7 +216,8 @@ word-ident : {n p : ℕ} {t : List ℕ} {ts us : Trees} {rs : List ℕ} → Word
 word-ident (ident e) = g.Word.ident e
 word-ident (wrapped e) = g.Word.wrapped refl e
 
-lone-word : (w : List ℕ) (ts : Trees) → lone isIdent ts ≡ true → same (r.firstText ts) w ≡ true → lone (isWord w) ts ≡ true
+lone-word : (w : List ℕ) (ts : Trees) → lone isIdent ts ≡ true → same (r.firstText ts) w ≡ true
+    → lone (isWord w) ts ≡ true
 lone-word w end e f = absurd (false≢true e)
 lone-word w (group d ts us) e f = absurd (false≢true e)
 lone-word w (leaf q end) e f = and-both _ _ e f

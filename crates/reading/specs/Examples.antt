@@ -1,4 +1,5 @@
--- The lines of document 01 marked ★ ("The listing program" and "Rows on the edge"): lists, and the paper's answer to each.
+-- The lines of document 01 marked ★ ("The listing program" and "Rows on the edge"): lists, and the paper's answer to
+-- each.
 use mathlib.Core.Bool.{Bool, true, false, _&&_}
 use mathlib.Core.List.{List, [], _∷_}
 use Prim.Native.Nat.{ℕ}
@@ -42,7 +43,10 @@ ARROW = "kind text\ni struct\ni A\np <\ni F\np :\ni Fn\no (\nc )\np -\np >\ni u8
 abbrev pub examples : List Example
 examples =
     -- the listing's example
-    record { list = VALVE; expected = roles (4 ∷ 6 ∷ 7 ∷ 14 ∷ 15 ∷ 10 ∷ 16 ∷ 10 ∷ 15 ∷ 14 ∷ 18 ∷ 14 ∷ 10 ∷ 15 ∷ 10 ∷ 16 ∷ 16 ∷ 14 ∷ []) }
+    record {
+      list = VALVE;
+      expected = roles (4 ∷ 6 ∷ 7 ∷ 14 ∷ 15 ∷ 10 ∷ 16 ∷ 10 ∷ 15 ∷ 14 ∷ 18 ∷ 14 ∷ 10 ∷ 15 ∷ 10 ∷ 16 ∷ 16 ∷ 14 ∷ []);
+    }
     -- no rows
     ∷ record { list = "kind text\n"; expected = refused 11 END }
     -- no bytes
@@ -50,13 +54,19 @@ examples =
     -- `struct A ;`
     ∷ record { list = "kind text\ni struct\ni A\np ;\n"; expected = roles (6 ∷ 7 ∷ 14 ∷ []) }
     -- `struct A < F : Fn ( ) - > u8 > ( F ) ;`
-    ∷ record { list = ARROW; expected = roles (6 ∷ 7 ∷ 8 ∷ 9 ∷ 10 ∷ 11 ∷ 11 ∷ 11 ∷ 11 ∷ 11 ∷ 11 ∷ 8 ∷ 14 ∷ 18 ∷ 14 ∷ 0 ∷ []) }
+    ∷ record {
+      list = ARROW;
+      expected = roles (6 ∷ 7 ∷ 8 ∷ 9 ∷ 10 ∷ 11 ∷ 11 ∷ 11 ∷ 11 ∷ 11 ∷ 11 ∷ 8 ∷ 14 ∷ 18 ∷ 14 ∷ 0 ∷ []);
+    }
     -- `enum E { A = 1 B = 2 }`
     ∷ record { list = "kind text\ni enum\ni E\no {\ni A\np =\nl 1\ni B\np =\nl 2\nc }\n"; expected = accepted }
     -- `enum E { A B }`
     ∷ record { list = "kind text\ni enum\ni E\no {\ni A\ni B\nc }\n"; expected = refused 20 4 }
     -- `enum E { A = - 9223372036854775808 }`
-    ∷ record { list = "kind text\ni enum\ni E\no {\ni A\np =\np -\nl 9223372036854775808\nc }\n"; expected = refused 26 6 }
+    ∷ record {
+      list = "kind text\ni enum\ni E\no {\ni A\np =\np -\nl 9223372036854775808\nc }\n";
+      expected = refused 26 6;
+    }
     -- with 807 at its end
     ∷ record { list = "kind text\ni enum\ni E\no {\ni A\np =\np -\nl 9223372036854775807\nc }\n"; expected = accepted }
     -- `struct A { a : u8 > }`

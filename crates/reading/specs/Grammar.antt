@@ -14,7 +14,9 @@ use Rattle.token_list.specs.Text.{rawName}
 use Rattle.token_list.specs.Row.{Row}
 use Rattle.token_list.specs.Stream.{Trees, end, leaf, group, size}
 use Rattle.reading.specs.Role as role
-use Rattle.reading.specs.Token.{isIdent, isLiteral, isPunct, isWord, copied, lone, starts, opens, isGroup, isEnd, scoped, negatable, PUB, STRUCT, ENUM, CONST, WHERE, Stops, stopping, parameterStops, fieldStops, clauseStops, noStops}
+use Rattle.reading.specs.Token.{isIdent, isLiteral, isPunct, isWord, copied, lone, starts, opens, isGroup, isEnd}
+use Rattle.reading.specs.Token.{scoped, negatable, PUB, STRUCT, ENUM, CONST, WHERE, Stops, stopping}
+use Rattle.reading.specs.Token.{parameterStops, fieldStops, clauseStops, noStops}
 use Rattle.reading.specs.Keyword.{identifier}
 use Rattle.reading.specs.SimplePath.{scopeForm}
 

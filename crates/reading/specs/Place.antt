@@ -11,7 +11,8 @@ use Rattle.reading.specs.Role as role
 use Rattle.reading.specs.Token.{starts, isPunct, isWord, groupSize, CONST, Stops}
 use Rattle.reading.specs.Declaration.{Value, absent, literal, negative}
 use Rattle.reading.specs.Took.{Took, took, stopped, Reader, pure, Point, beyond, _>>=_}
-use Rattle.reading.specs.Reading.{RunEnd, atEnd, ended, runFrom, attributes, visibility, word, named!, namedKind, dataType, generics, clause, variantFields, variant}
+use Rattle.reading.specs.Reading.{RunEnd, atEnd, ended, runFrom, attributes, visibility, word, named!, namedKind}
+use Rattle.reading.specs.Reading.{dataType, generics, clause, variantFields, variant}
 
 -- the ident of a word: in the word's own row, or inside what wraps it
 abbrev pub identRow : ℕ → Trees → ℕ

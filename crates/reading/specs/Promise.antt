@@ -1,5 +1,5 @@
--- The promises on roles, under the names that people look for: sound, complete, unambiguous (document 01, "Role grammar"
--- and "Four questions about the promises"). The contract of `parse::item::new` ensures `SingleAssignment`.
+-- The promises on roles, under the names that people look for: sound, complete, unambiguous (document 01, "Role
+-- grammar" and "Four questions about the promises"). The contract of `parse::item::new` ensures `SingleAssignment`.
 --
 -- They are stated with the list check and the role grammar alone; nothing of the reading has to be read. To believe
 -- demand 3, read in this order (lines of definitions, without comments and imports):
@@ -31,8 +31,8 @@ pub record OneEach (isRole : ℕ → Bool) (rows : ℕ) (roles : List ℕ) : Typ
   pub counted : length roles ≡ rows
   pub named : all isRole roles ≡ true
 
--- Of a list s and a role buffer of `room` bytes: whether the list is accepted, and the buffer's final bytes. A list may be
--- read where it passes refusals 1 to 7, with a byte a row; `Obeying` says which assignments obey.
+-- Of a list s and a role buffer of `room` bytes: whether the list is accepted, and the buffer's final bytes. A list may
+-- be read where it passes refusals 1 to 7, with a byte a row; `Obeying` says which assignments obey.
 pub record Assigns (isRole : ℕ → Bool) (Obeying : List ℕ → Type 0) (s : List ℕ) (room : ℕ) (accepted : Bool)
     (buffer : List ℕ) : Type 0 where
   -- what is accepted may be read; the buffer's first bytes are an assignment that obeys, and all after it are 255

@@ -13,9 +13,16 @@ use Rattle.token_list.specs.Row.{Row, first}
 use Rattle.token_list.specs.Check.{END}
 use Rattle.token_list.specs.Stream.{Trees, end, leaf, group, size}
 use Rattle.reading.specs.Role as role
-pub use Rattle.reading.specs.Token.{isIdent, isLiteral, isPunct, isWord, groupSize, copied, lone, PUB, STRUCT, ENUM, CONST, WHERE, scopeWord, scoped, worthFrom, worth, negatable, Stops, stopping, parameterStops, fieldStops, clauseStops}
-use Rattle.reading.specs.Declaration.{Visibility, default, public, restricted, Kind, struct, enum, Parameter, lifetime, constant, type, Generics, without, angled, Constraints, unconstrained, constrained, UnnamedField, Field, Fields, unit, named, tuple, Value, absent, literal, negative, Variant, Body, fields, variants, Declaration}
-use Rattle.reading.specs.Took.{Took, took, stopped, refuse, ranOut, Reader, onward, after, _>>=_, pure, placeOf, wrong}
+pub use Rattle.reading.specs.Token.{isIdent, isLiteral, isPunct, isWord, groupSize, copied, lone, PUB, STRUCT}
+pub use Rattle.reading.specs.Token.{ENUM, CONST, WHERE, scopeWord, scoped, worthFrom, worth, negatable, Stops}
+pub use Rattle.reading.specs.Token.{stopping, parameterStops, fieldStops, clauseStops}
+use Rattle.reading.specs.Declaration.{Visibility, default, public, restricted, Kind, struct, enum, Parameter}
+use Rattle.reading.specs.Declaration.{lifetime, constant, type, Generics, without, angled, Constraints}
+use Rattle.reading.specs.Declaration.{unconstrained, constrained, UnnamedField, Field, Fields, unit, named, tuple}
+use Rattle.reading.specs.Declaration.{Value, absent, literal, negative, Variant, Body, fields, variants}
+use Rattle.reading.specs.Declaration.{Declaration}
+use Rattle.reading.specs.Took.{Took, took, stopped, refuse, ranOut, Reader, onward, after, _>>=_, pure, placeOf}
+use Rattle.reading.specs.Took.{wrong}
 
 -- ## Words and punctuation (parse/utils.rs)
 

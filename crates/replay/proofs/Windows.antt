@@ -44,8 +44,8 @@ module _ (b : List ℕ) (from : ℕ) where
       ∙ ap (λ (l : List ℕ). l ++ drop (i + 1) b) more
 
 -- all of them are moved
-pub slid-whole : (b : List ℕ) (v : Window) → Within (length b) v → {n : ℕ} {l : List ℕ} → n ≡ size v
+pub slid-within : (b : List ℕ) (v : Window) → Within (length b) v → {n : ℕ} {l : List ℕ} → n ≡ size v
     → l ≡ slice (v .from) (v .to) b ++ drop n b → take n l ≡ unread b v
-slid-whole b v i {n} {l} e f =
+slid-within b v i {n} {l} e f =
     let m = length-slice (v .from) (v .to) b (i .room) in
     ap (take n) f ∙ take-at (unread b v) (drop n b) n (omega (arith, e, m))

@@ -36,7 +36,8 @@ ghost use Rattle.reading.specs.Answer.{answer};
 ghost use Rattle.describe.specs.Listing as listing;
 ghost use Rattle.writing.specs.Answer as writing;
 ghost use Rattle.tagged_reading.specs.Answer as tagged;
-ghost use Rattle.replay.specs.Answer.{OUTPUT, letterFits, lettersFit, acceptedFits, rolesFit, everyFits, writtenFits, writerOf, PREFIX, taggedFits, right};
+ghost use Rattle.replay.specs.Answer.{OUTPUT, letterFits, lettersFit, acceptedFits, rolesFit, everyFits};
+ghost use Rattle.replay.specs.Answer.{writtenFits, writerOf, PREFIX, taggedFits, right};
 
 // Whether the bytes from start to end are the report of the list check.
 fn is_check(list: &[u8], s: &[u8], start: usize, end: usize) -> bool
@@ -199,8 +200,8 @@ fn is_generics(writer: Writer, list: &[u8], s: &[u8], start: usize, end: usize) 
     is_written(answer, &out, s, start, end)
 }
 
-// Whether the bytes from start to end are `none`, the refusal, or the letters of every row's role in the tagged attribute
-// that the recorded answers are about.
+// Whether the bytes from start to end are `none`, the refusal, or the letters of every row's role in the tagged
+// attribute that the recorded answers are about.
 fn is_tagged(list: &[u8], s: &[u8], start: usize, end: usize) -> bool
     requires { ⌜ (start ≤ end) × (end ≤ length (now s)) ⌝ }
     ensures { λ r. ⌜ r ≡ taggedFits (slice start end (now (s .entry)))

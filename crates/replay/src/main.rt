@@ -174,13 +174,13 @@ fn step(buf: &mut [u8], list: &mut [u8], s: State) -> Turn
         Next::Over(turn) => turn,
         Next::Take(next, size) => {
             let start = next.at;
-            let whole = moved(next, ready(buf, start, size));
-            take_list(buf, list, whole, size)
+            let window = moved(next, ready(buf, start, size));
+            take_list(buf, list, window, size)
         }
         Next::Compare(next, topic, size) => {
             let start = next.at;
-            let whole = moved(next, ready(buf, start, size));
-            compare(buf, list, whole, topic, size)
+            let window = moved(next, ready(buf, start, size));
+            compare(buf, list, window, topic, size)
         }
     }
 }

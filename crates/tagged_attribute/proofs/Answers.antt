@@ -22,7 +22,8 @@ use Rattle.tagged_reading.specs.Reading.{Answer, none, read, refused, adding, b
 use Rattle.tagged_reading.specs.Answer as answers
 use Rattle.tagged_reading.proofs.Told as told
 use Rattle.tagged_reading.proofs.Promise.{answer-refusal}
-use Rattle.tagged_attribute.specs.Contract.{entriesAt, listed, EntriesRead, EntriesFrom, Fits, TaggedAs, Given, Answered, reads}
+use Rattle.tagged_attribute.specs.Contract.{entriesAt, listed, EntriesRead, EntriesFrom, Fits, TaggedAs, Given}
+use Rattle.tagged_attribute.specs.Contract.{Answered, reads}
 use Rattle.tagged_attribute.specs.declared.utils.Tagged.{Tagged}
 use Rattle.tagged_attribute.specs.declared.utils.Tagged.the-variants as taggeds
 use Rattle.tagged_attribute.proofs.Buffers.{stored}

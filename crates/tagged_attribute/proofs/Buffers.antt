@@ -42,7 +42,7 @@ stored b0 b1 rs v w end rows left e f g h =
     let q : length b1 ≡ length b0 = ap length e ∙ length-sets b0 0 rs in
     let n : length all-rows ≡ rows = omega (arith, length-append rs (replicate left v), length-replicate left v, g) in
     let y : length b1 - rows ≡ past = omega (arith, q, n) in
-    let whole : length (all-rows ++ replicate past w) ≡ length b0 = omega (
+    let as-long : length (all-rows ++ replicate past w) ≡ length b0 = omega (
       arith,
       length-append all-rows (replicate past w),
       length-replicate past w,
@@ -50,7 +50,7 @@ stored b0 b1 rs v w end rows left e f g h =
     ) in
     let first : sets b1 end (replicate (rows - end) v) ≡ sets b0 0 all-rows =
     (λ i. sets (e i) (f i) (replicate (z i) v)) ∙ joined rs (replicate left v) in
-    (λ i. sets (first i) (sym n i) (replicate (y i) w)) ∙ joined all-rows (replicate past w) ∙ sets-all b0 _ whole
+    (λ i. sets (first i) (sym n i) (replicate (y i) w)) ∙ joined all-rows (replicate past w) ∙ sets-all b0 _ as-long
   where
     joined : (xs ys : List ℕ) → sets (sets b0 0 xs) (length xs) ys ≡ sets b0 0 (xs ++ ys)
     joined xs ys =

@@ -18,7 +18,8 @@ use Rattle.tagged_reading.specs.Role as role
 use Rattle.tagged_reading.specs.Role.{others}
 use Rattle.tagged_reading.specs.Entry.{Entry, tag, property}
 use Rattle.tagged_reading.specs.Reading.{Answer, read, refused, adding, entries, keyed, valued, separated}
-use Rattle.tagged_attribute.specs.Contract.{Onward, Added, partRoles, tagRoles, propertyRoles, TagRead, PropertyRead, EntryRead, tokenText, entriesAt}
+use Rattle.tagged_attribute.specs.Contract.{Onward, Added, partRoles, tagRoles, propertyRoles, TagRead}
+use Rattle.tagged_attribute.specs.Contract.{PropertyRead, EntryRead, tokenText, entriesAt}
 use Rattle.tagged_attribute.specs.declared.entry.EntryStep.{EntryStep}
 use Rattle.tagged_attribute.proofs.Cursors.{onward-leaf, onward-group, onward-then, token-in, stream-past}
 

@@ -16,7 +16,8 @@ use Rattle.parse.specs.Contract.{stream, pastOf}
 use Rattle.parse.specs.declared.utils.Step.{Step}
 use Rattle.parse.proofs.Meeting.{group-stream, past-in-of}
 use Rattle.tagged_reading.specs.Role.{others}
-use Rattle.tagged_reading.specs.Reading.{Answer, none, refused, adding, before, entries, FIRST-ENTRY, listAfter, attribute, tagged}
+use Rattle.tagged_reading.specs.Reading.{Answer, none, refused, adding, before, entries, FIRST-ENTRY, listAfter}
+use Rattle.tagged_reading.specs.Reading.{attribute, tagged}
 use Rattle.tagged_attribute.specs.Contract.{Onward, listed, GroupAlone, AloneAs, EntriesFrom, FoundAs}
 use Rattle.tagged_attribute.specs.declared.utils.Found.{Found}
 use Rattle.tagged_attribute.proofs.Cursors.{onward-leaf, onward-group, stream-past}

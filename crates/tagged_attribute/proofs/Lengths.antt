@@ -13,7 +13,8 @@ use Rattle.token_list.proofs.Passed.{passed-list}
 use Rattle.reading.specs.Token.{isIdent, isLiteral, isPunct, isWord, isEnd, groupSize}
 use Rattle.tagged_reading.specs.Role.{others}
 use Rattle.tagged_reading.specs.Entry.{Entry, tag, property}
-use Rattle.tagged_reading.specs.Reading.{Answer, none, read, refused, adding, before, entries, keyed, valued, separated, FIRST-ENTRY, tagged}
+use Rattle.tagged_reading.specs.Reading.{Answer, none, read, refused, adding, before, entries, keyed, valued, separated}
+use Rattle.tagged_reading.specs.Reading.{FIRST-ENTRY, tagged}
 use Rattle.tagged_reading.specs.Answer.{answer}
 use Rattle.tagged_reading.proofs.Promise.{read-passed}
 use Rattle.tagged_attribute.specs.Contract.{listed}

@@ -53,7 +53,8 @@ readable s row t k = record { forth = k .text; within = token-within s _ t k }
 -- ## The line of the entry at a cursor
 
 module _ {s : List ℕ} {c : Cursor} {x y : List ℕ} {at r : ℕ} where
-  pub line-tag : {t : TagAt} → TagRead s c (entriesAt s c) t → Put x y at r (entryLine (tag (tokenText s (t .tag)))) → LineAt s c (t .next) x y at r
+  pub line-tag : {t : TagAt} → TagRead s c (entriesAt s c) t → Put x y at r (entryLine (tag (tokenText s (t .tag))))
+      → LineAt s c (t .next) x y at r
   line-tag {t} h p =
       let text = ap (λ (k : List ℕ). entryLine (tag k)) (sym (h .tag .bytes)) in
       record {
@@ -64,7 +65,8 @@ module _ {s : List ℕ} {c : Cursor} {x y : List ℕ} {at r : ℕ} where
       }
 
   pub line-property : {p : PropertyAt} → PropertyRead s c (entriesAt s c) p
-      → Put x y at r (entryLine (property (tokenText s (p .key)) (tokenText s (p .literal)))) → LineAt s c (p .next) x y at r
+      → Put x y at r (entryLine (property (tokenText s (p .key)) (tokenText s (p .literal))))
+      → LineAt s c (p .next) x y at r
   line-property {p} h w =
       let text : entryLine (property (tokenText s (p .key)) (tokenText s (p .literal))) ≡
       entryLine (property (h .name) (h .text)) =
@@ -76,7 +78,8 @@ module _ {s : List ℕ} {c : Cursor} {x y : List ℕ} {at r : ℕ} where
         put = subst (Put x y at r) (text ∙ sym (append-nil (entryLine (property (h .name) (h .text))))) w;
       }
 
-pub line-lost : {s : List ℕ} {c d : Cursor} {rs : List ℕ} (x : List ℕ) (at : ℕ) → length x < FAR → Added s c d [] rs (entriesAt s c)
+pub line-lost : {s : List ℕ} {c d : Cursor} {rs : List ℕ} (x : List ℕ) (at : ℕ) → length x < FAR
+    → Added s c d [] rs (entriesAt s c)
     → LineAt s c d x x at at
 line-lost x at f h = record { es = []; rs = _; added = h; put = nothing x at f }
 
@@ -117,7 +120,8 @@ pub record Written (s : List ℕ) (from c : Cursor) (x y : List ℕ) (start at :
   pub same : entriesAt s from ≡ adding es rs (entriesAt s c)
   pub put : Put x y start at (entryLines es)
 
-pub written-start : (s : List ℕ) (c : Cursor) (x : List ℕ) (at : ℕ) → length x < FAR → InList s c → Written s c c x x at at
+pub written-start : (s : List ℕ) (c : Cursor) (x : List ℕ) (at : ℕ) → length x < FAR → InList s c
+    → Written s c c x x at at
 written-start s c x at f i =
     record {
       es = [];

@@ -11,7 +11,8 @@ use Rattle.parse.proofs.Buffer.{sets-append}
 use Rattle.tagged_reading.specs.Role.{others}
 use Rattle.tagged_reading.specs.Entry.{Entry, tag, property}
 use Rattle.tagged_reading.specs.Reading.{Answer, none, read, refused, adding}
-use Rattle.tagged_attribute.specs.Contract.{Onward, Added, TagRead, PropertyRead, EntryRead, partRoles, tagRoles, propertyRoles, entriesAt, Turned, TurnRead, EntriesRead, EnteredAs}
+use Rattle.tagged_attribute.specs.Contract.{Onward, Added, TagRead, PropertyRead, EntryRead, partRoles, tagRoles}
+use Rattle.tagged_attribute.specs.Contract.{propertyRoles, entriesAt, Turned, TurnRead, EntriesRead, EnteredAs}
 use Rattle.tagged_attribute.specs.declared.entry.TagAt.{TagAt}
 use Rattle.tagged_attribute.specs.declared.entry.PropertyAt.{PropertyAt}
 use Rattle.tagged_attribute.specs.declared.entry.EntryStep.{EntryStep}

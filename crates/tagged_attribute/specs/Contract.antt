@@ -18,7 +18,8 @@ use Rattle.parse.specs.declared.utils.Step.the-variants as steps
 use Rattle.tagged_reading.specs.Role as role
 use Rattle.tagged_reading.specs.Role.{others}
 use Rattle.tagged_reading.specs.Entry.{Entry, tag, property}
-use Rattle.tagged_reading.specs.Reading.{Answer, none, read, refused, adding, entries, FIRST-ENTRY, before, attribute, tagged}
+use Rattle.tagged_reading.specs.Reading.{Answer, none, read, refused, adding, entries, FIRST-ENTRY, before, attribute}
+use Rattle.tagged_reading.specs.Reading.{tagged}
 use Rattle.tagged_reading.specs.Answer as answers
 use Rattle.tagged_attribute.specs.declared.entry.TagAt.{TagAt}
 use Rattle.tagged_attribute.specs.declared.entry.PropertyAt.{PropertyAt}

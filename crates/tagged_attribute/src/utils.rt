@@ -31,7 +31,9 @@ ghost use Rattle.parse.specs.Contract.{stream};
 ghost use Rattle.tagged_reading.specs.Role.{others};
 ghost use Rattle.tagged_reading.specs.Reading.{adding, before, FIRST-ENTRY, attribute, tagged};
 ghost use Rattle.tagged_reading.specs.Promise.{TaggedAssignment};
-ghost use Rattle.tagged_attribute.specs.Contract.{partRoles, tagRoles, propertyRoles, TurnRead, EnteredAs, AloneAs, FoundAs, Passed, listed, entriesAt, Fits, Given, Answered, reads};
+ghost use Rattle.tagged_attribute.specs.Contract.{partRoles, tagRoles, propertyRoles, TurnRead, EnteredAs};
+ghost use Rattle.tagged_attribute.specs.Contract.{AloneAs, FoundAs, Passed, listed, entriesAt, Fits, Given};
+ghost use Rattle.tagged_attribute.specs.Contract.{Answered, reads};
 
 // Where the entries begin, how many there are, and how many rows the list has, each with its role.
 pub struct EntriesAt {

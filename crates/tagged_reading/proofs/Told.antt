@@ -21,7 +21,8 @@ use Rattle.tagged_reading.specs.Role.{others, isRole}
 use Rattle.tagged_reading.specs.Entry.{Entry, tag, property}
 use Rattle.tagged_reading.specs.Grammar as g
 use Rattle.tagged_reading.specs.Grammar.{everything}
-use Rattle.tagged_reading.specs.Reading.{Answer, none, read, refused, adding, before, entries, keyed, valued, separated, FIRST-ENTRY, listAfter, attribute, tagged}
+use Rattle.tagged_reading.specs.Reading.{Answer, none, read, refused, adding, before, entries, keyed, valued}
+use Rattle.tagged_reading.specs.Reading.{separated, FIRST-ENTRY, listAfter, attribute, tagged}
 use Rattle.tagged_reading.specs.Answer.{ownNumber}
 
 -- ## Roles

@@ -1,4 +1,4 @@
--- The groupSize answer about a tagged attribute, and the whole role buffer (document 01, "What the reader hands back").
+-- The whole answer about a tagged attribute, and the whole role buffer (document 01, "What the reader hands back").
 use mathlib.Core.Bool.{Bool, true, false, cond, _||_}
 use mathlib.Core.List.{List, _++_}
 use Prim.Native.Nat.{ℕ, _-_}

@@ -50,10 +50,19 @@ examples =
     ∷ record { list = "kind text\no [\ni q\no (\nc )\nc ]\n"; expected = nothing }
     ∷ record { list = "kind text\no [\ni r#p\no (\nc )\nc ]\n"; expected = nothing }
     -- any delimiters, and a row after the list
-    ∷ record { list = "kind text\no (\ni p\no {\ni a\nc }\ni x\nc )\n"; expected = roles (23 ∷ 23 ∷ 23 ∷ 20 ∷ 23 ∷ 23 ∷ 23 ∷ []) }
+    ∷ record {
+      list = "kind text\no (\ni p\no {\ni a\nc }\ni x\nc )\n";
+      expected = roles (23 ∷ 23 ∷ 23 ∷ 20 ∷ 23 ∷ 23 ∷ 23 ∷ []);
+    }
     -- `k =` at the end; `k = x y`; `k = x ,`; `k = 1 b`
-    ∷ record { list = "kind text\no [\ni p\no (\ni k\np =\nc )\nc ]\n"; expected = roles (23 ∷ 23 ∷ 23 ∷ 23 ∷ 23 ∷ 23 ∷ 23 ∷ []) }
-    ∷ record { list = "kind text\no [\ni p\no (\ni k\np =\ni x\ni y\nc )\nc ]\n"; expected = roles (23 ∷ 23 ∷ 23 ∷ 23 ∷ 23 ∷ 23 ∷ 20 ∷ 23 ∷ 23 ∷ []) }
+    ∷ record {
+      list = "kind text\no [\ni p\no (\ni k\np =\nc )\nc ]\n";
+      expected = roles (23 ∷ 23 ∷ 23 ∷ 23 ∷ 23 ∷ 23 ∷ 23 ∷ []);
+    }
+    ∷ record {
+      list = "kind text\no [\ni p\no (\ni k\np =\ni x\ni y\nc )\nc ]\n";
+      expected = roles (23 ∷ 23 ∷ 23 ∷ 23 ∷ 23 ∷ 23 ∷ 20 ∷ 23 ∷ 23 ∷ []);
+    }
     ∷ record { list = "kind text\no [\ni p\no (\ni k\np =\ni x\np ,\nc )\nc ]\n"; expected = refused 29 6 }
     ∷ record { list = "kind text\no [\ni p\no (\ni k\np =\nl 1\ni b\nc )\nc ]\n"; expected = refused 28 6 }
     ∷ []

@@ -10,7 +10,8 @@ use borrow.Author.Tests.{eqb-true, eqb-false, leb-true, leb-false, ltb-false}
 use lib.Dec.{eqb, leb, ltb}
 use lib.ListN.{length, take, drop, length-append, length-drop}
 use Rattle.token_list.specs.Text.{LF, same, closer}
-use Rattle.token_list.specs.Row.{Row, Lines, tail, line, lines, written, begun, Form, plain, opens, closed, wrong, form}
+use Rattle.token_list.specs.Row.{Row, Lines, tail, line, lines, written, begun, Form, plain, opens, closed, wrong}
+use Rattle.token_list.specs.Row.{form}
 use Rattle.token_list.specs.Check.{Answer, passed, refused, END, Open, step, walk, NAMES, check}
 use Rattle.token_list.specs.Place.{OneRefusal, checkNumber}
 use Rattle.token_list.specs.Contract.{checked, CheckedAs}

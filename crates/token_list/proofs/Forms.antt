@@ -8,12 +8,15 @@ use borrow.Author.Tests.{eq-eqb, ne-eqb, eqb-true, eqb-false, le-leb, lt-leb, le
 use lib.Dec.{eqb, leb, ltb}
 use lib.ListN.{length, getD, drop}
 use lib.Seq.{slice, slice-empty, length-slice}
-use Rattle.token_list.specs.Text.{LF, all, member, name, nameStart, namePart, digit, literal, literalStart, printable, single, punctuation, opening, closing}
+use Rattle.token_list.specs.Text.{LF, all, member, name, nameStart, namePart, digit, literal, literalStart}
+use Rattle.token_list.specs.Text.{printable, single, punctuation, opening, closing}
 use Rattle.token_list.specs.Row.{line, lines, front, Form, plain, opens, closed, wrong, form, formOf, first}
 use Rattle.token_list.specs.Check.{isRow}
-use Rattle.token_list.specs.Contract.{shape, singleForm, oneByte, formed, inText, TextEnd, TokenLine, Shaped, ShapedUnlessWrong}
+use Rattle.token_list.specs.Contract.{shape, singleForm, oneByte, formed, inText, TextEnd, TokenLine, Shaped}
+use Rattle.token_list.specs.Contract.{ShapedUnlessWrong}
 use Rattle.token_list.specs.declared.row.Line.{Line}
-use Rattle.token_list.proofs.Texts.{chosen, passed-over, only, single-only, first-only, slice-next, slice-none, and-last, and-fails, and-both, and-parts, or-holds}
+use Rattle.token_list.proofs.Texts.{chosen, passed-over, only, single-only, first-only, slice-next, slice-none}
+use Rattle.token_list.proofs.Texts.{and-last, and-fails, and-both, and-parts, or-holds}
 use Rattle.token_list.proofs.Lines.{lines-byte, lines-end, line-from}
 
 pub ident-form : (k : ℕ) (t : List ℕ) → k ≡ 105 → formOf k t ≡ cond (name t) plain wrong
@@ -246,7 +249,7 @@ module _ (s : List ℕ) (at : ℕ) (r : Line) (space : getD s (at + 1) 0 ≡ 32)
       formOf (getD s at 0) (getD s (at + 2) 0 ∷ t) ≡ plain)
       → TokenLine s names (at + 2) r → ShapedUnlessWrong s at r
   quick-token names p fit form tl w =
-      let x = tl .whole w in
+      let x = tl .ends w in
       let e = x .0 in
       let te = x .1 in
       let text : slice (at + 2) e s ≡ getD s (at + 2) 0 ∷ slice (at + 2 + 1) e s =

@@ -8,9 +8,12 @@ use borrow.Author.Tests.{lt-ltb, eqb-true, eqb-false, leb-false}
 use lib.Dec.{eqb, leb, ltb}
 use lib.ListN.{length, take, drop}
 use Rattle.token_list.specs.Text.{LF, same, name, literal, single, punctuation, opening, closing, closer}
-use Rattle.token_list.specs.Row.{Row, Lines, tail, line, lines, front, byte, rows, written, Form, plain, opens, closed, wrong, form, formOf, first}
-use Rattle.token_list.specs.Check.{Answer, passed, refused, Open, close, step, walk, NAMES, check, isRow, right, allRight, closedBy, enclosing, nested}
-use Rattle.token_list.specs.Stream.{Trees, Streams, head, others, before, streams, size, follows, allClosed, rowsAt, at}
+use Rattle.token_list.specs.Row.{Row, Lines, tail, line, lines, front, byte, rows, written, Form, plain, opens}
+use Rattle.token_list.specs.Row.{closed, wrong, form, formOf, first}
+use Rattle.token_list.specs.Check.{Answer, passed, refused, Open, close, step, walk, NAMES, check, isRow, right}
+use Rattle.token_list.specs.Check.{allRight, closedBy, enclosing, nested}
+use Rattle.token_list.specs.Stream.{Trees, Streams, head, others, before, streams, size, follows, allClosed}
+use Rattle.token_list.specs.Stream.{rowsAt, at}
 use Rattle.token_list.specs.Contract.{PassedList}
 use Rattle.token_list.proofs.Texts.{chosen, passed-over, and-both, and-parts}
 use Rattle.token_list.proofs.Streams.{before-close, before-open, before-leaf}
@@ -80,7 +83,7 @@ delimiters-length [] = refl
 delimiters-length (g ∷ gs) = ap suc (delimiters-length gs)
 
 record Seen (ls : Lines) (r : ℕ) (gs : List Open) (n : ℕ) : Type 0 where
-  whole : joined ls ≡ written (rows ls)
+  written : joined ls ≡ written (rows ls)
   count : r + length (rows ls) ≡ n
   nests : nested (delimiters gs) (rows ls) ≡ true
 
@@ -100,8 +103,8 @@ module _ (ls : Lines) (ih : (r : ℕ) (gs : List Open) (n : ℕ) → walk r gs l
   unfolding joined theLine
   row-seen f hs sn q =
       record {
-        whole = ap (λ (x : ℕ). k ∷ x ∷ t ++ LF ∷ joined ls) (eqb-true s 32 space) ∙
-            ap (λ (bs : List ℕ). k ∷ 32 ∷ t ++ LF ∷ bs) (sn .whole);
+        written = ap (λ (x : ℕ). k ∷ x ∷ t ++ LF ∷ joined ls) (eqb-true s 32 space) ∙
+            ap (λ (bs : List ℕ). k ∷ 32 ∷ t ++ LF ∷ bs) (sn .written);
         count = omega (arith, sn .count);
         nests = and-both _ _ (and-both _ _ f short) q;
       }
@@ -204,7 +207,7 @@ line-seen ls ih (k ∷ s ∷ t) r n gs e = pick (eqb s 32 && leb (length t) 255)
 
 seen : (ls : Lines) (r : ℕ) (gs : List Open) (n : ℕ) → walk r gs ls ≡ passed n → Seen ls r gs n
 unfolding joined delimiters
-seen (tail []) r [] n e = let same : r ≡ n = cc in record { whole = refl; count = omega arith; nests = refl }
+seen (tail []) r [] n e = let same : r ≡ n = cc in record { written = refl; count = omega arith; nests = refl }
 seen (tail []) r (g ∷ gs) n e = absurd (never _ _ _ e)
 seen (tail (b ∷ bs)) r gs n e = absurd (go (leb 4096 r) e)
   where
@@ -241,7 +244,7 @@ others-length (t ∷ ts) n e = omega arith
 
 record Balanced (rs : List Row) (ds : List ℕ) : Type 0 where
   outer : length (streams rs .outer) ≡ length ds
-  whole : allClosed rs ≡ true
+  closed : allClosed rs ≡ true
   right : allRight rs ≡ true
 
 balanced-row : (r : Row) (rs : List Row) (ds : List ℕ) → ((es : List ℕ) → nested es rs ≡ true → Balanced rs es) →
@@ -258,7 +261,7 @@ balanced-row r rs ds ih e = kind (eqb (r .kind) 111) (eqb (r .kind) 99) refl ref
         record {
           outer = ap (λ (st : Streams). length (st .outer)) (before-open r (streams rs) (eqb-true _ _ a)) ∙
               others-length (streams rs .outer) (length ds) (bl .outer);
-          whole = and-both _ _ (bl .whole)
+          closed = and-both _ _ (bl .closed)
               (chosen _ (follows (streams rs .outer)) true a ∙ follows-of (streams rs .outer) (length ds) (bl .outer));
           right = forms bl;
         }
@@ -269,7 +272,7 @@ balanced-row r rs ds ih e = kind (eqb (r .kind) 111) (eqb (r .kind) 99) refl ref
         record {
           outer = ap (λ (st : Streams). length (st .outer)) (before-close r (streams rs) (eqb-true _ _ b)) ∙
               ap suc (bl .outer) ∙ sym (enclosed ds (first (r .text)) (p .0));
-          whole = and-both _ _ (bl .whole) (passed-over _ (follows (streams rs .outer)) true a);
+          closed = and-both _ _ (bl .closed) (passed-over _ (follows (streams rs .outer)) true a);
           right = forms bl;
         }
     kind false false a b =
@@ -277,12 +280,12 @@ balanced-row r rs ds ih e = kind (eqb (r .kind) 111) (eqb (r .kind) 99) refl ref
         record {
           outer = ap (λ (st : Streams). length (st .outer))
               (before-leaf r (streams rs) (eqb-false _ _ a) (eqb-false _ _ b)) ∙ bl .outer;
-          whole = and-both _ _ (bl .whole) (passed-over _ (follows (streams rs .outer)) true a);
+          closed = and-both _ _ (bl .closed) (passed-over _ (follows (streams rs .outer)) true a);
           right = forms bl;
         }
 
 balanced : (rs : List Row) (ds : List ℕ) → nested ds rs ≡ true → Balanced rs ds
-balanced [] [] e = record { outer = refl; whole = refl; right = refl }
+balanced [] [] e = record { outer = refl; closed = refl; right = refl }
 balanced [] (d ∷ ds) e = absurd (false≢true e)
 balanced (r ∷ rs) ds e = balanced-row r rs ds (balanced rs) e
 
@@ -339,15 +342,15 @@ passed-list s n e = long (ltb 65536 (length s)) e
         let bl = balanced (rowsAt s 10) [] (sn .nests) in
         let o = no-outer (at s 10 .outer) (bl .outer) in
         let c : length (rowsAt s 10) ≡ n = omega (arith, sn .count) in
-        let bytes : drop 10 s ≡ written (rowsAt s 10) = sym (joined-lines (drop 10 s)) ∙ sn .whole in
+        let bytes : drop 10 s ≡ written (rowsAt s 10) = sym (joined-lines (drop 10 s)) ∙ sn .written in
         record {
           names = same-path _ _ q;
           written = bytes;
           nested = sn .nests;
           count = c;
-          whole = record { written = bytes; right = bl .right; closed = bl .whole };
+          rightRows = record { written = bytes; right = bl .right; closed = bl .closed };
           outer = o;
-          size = omega (arith, counted (rowsAt s 10) (bl .whole), ap around o);
+          size = omega (arith, counted (rowsAt s 10) (bl .closed), ap around o);
         }
 
     long : (b : Bool) → cond b (refused 1 65535) (cond (same (take 10 s) NAMES) (walk 0 [] (lines (drop 10 s)))

@@ -12,7 +12,7 @@ use Rattle.token_list.specs.Text.{LF}
 use Rattle.token_list.specs.Row.{Row, lines, rows, formOf, written}
 use Rattle.token_list.specs.Check.{isRow, right, allRight}
 use Rattle.token_list.specs.Stream.{rowsAt, allClosed}
-use Rattle.token_list.specs.Contract.{RowEnd, Whole}
+use Rattle.token_list.specs.Contract.{RowEnd, RightRows}
 use Rattle.token_list.proofs.Texts.{and-parts}
 use Rattle.token_list.proofs.Lines.{Scanned, scan-start, scan-more, scan-found}
 use Rattle.token_list.proofs.Forms.{no-wrong, lf-kind, zero-kind, lf-text, no-text}
@@ -32,7 +32,7 @@ pub record FirstRow (s : List ℕ) (i : ℕ) : Type 0 where
   pub bytes : drop i s ≡ row .kind ∷ 32 ∷ first ∷ text ++ LF ∷ written rest
   pub right : isRow (formOf (row .kind) (first ∷ text)) ≡ true
 
-pub first-row : (s : List ℕ) (i : ℕ) → Whole s i → i < length s → FirstRow s i
+pub first-row : (s : List ℕ) (i : ℕ) → RightRows s i → i < length s → FirstRow s i
 first-row s i w h = go (rowsAt s i) refl
   where
     go : (rs : List Row) → rowsAt s i ≡ rs → FirstRow s i
@@ -112,7 +112,7 @@ pub record Ahead (s : List ℕ) (i k : ℕ) : Type 0 where
   pub lf : getD s end 0 ≡ LF
 
 module _ (s : List ℕ) (i : ℕ) where
-  pub ahead-start : Whole s i → i < length s → Ahead s i (i + 3)
+  pub ahead-start : RightRows s i → i < length s → Ahead s i (i + 3)
   unfolding last
   ahead-start w h =
       let f = first-row s i w h in
@@ -147,8 +147,12 @@ module _ (s : List ℕ) (i : ℕ) where
   ahead-found k q a =
       let h : k < length s = omega (arith, a .ahead, a .within) in
       record {
-        line = record
-            { start = a .scanned .start; found = λ g. scan-found s i k g q (a .scanned); none = λ g. absurd (omega (arith, g, h)); lf = λ g. q };
+        line = record {
+          start = a .scanned .start;
+          found = λ g. scan-found s i k g q (a .scanned);
+          none = λ g. absurd (omega (arith, g, h));
+          lf = λ g. q;
+        };
         text = a .text;
         within = h;
       }
@@ -158,12 +162,13 @@ module _ (s : List ℕ) (i : ℕ) where
 pub closed-next : (r : Row) (rs : List Row) → allClosed (r ∷ rs) ≡ true → allClosed rs ≡ true
 closed-next r rs w = and-parts (allClosed rs) _ w .0
 
-pub whole-next : (s : List ℕ) (i e : ℕ) → i + 2 ≤ e → e < length s → Whole s i → {k : ℕ} → rowsAt s i ≡ record {
-  kind = k;
-  text = slice (i + 2) e s;
-} ∷ rowsAt s (e + 1)
-    → Whole s (e + 1)
-whole-next s i e h g w {k} r =
+pub right-rows-next : (s : List ℕ) (i e : ℕ) → i + 2 ≤ e → e < length s → RightRows s i → {k : ℕ}
+    → rowsAt s i ≡ record {
+      kind = k;
+      text = slice (i + 2) e s;
+    } ∷ rowsAt s (e + 1)
+    → RightRows s (e + 1)
+right-rows-next s i e h g w {k} r =
     let text = slice (i + 2) e s in
     let row : Row = record { kind = k; text = text } in
     let n : i + suc (suc (length text + 1)) ≡ e + 1 = omega (arith, length-slice (i + 2) e s (omega arith)) in

@@ -9,13 +9,16 @@ use lib.Dec.{eqb}
 use lib.ListN.{length, getD, drop}
 use lib.Seq.{slice, drop-nil}
 use Rattle.token_list.specs.Row.{Row, line, rows, first}
-use Rattle.token_list.specs.Stream.{Trees, end, leaf, group, Streams, head, others, before, streams, size, firstKind, firstByte, follows, allClosed, rowsAt, at, rowStart}
-use Rattle.token_list.specs.Contract.{RowEnd, Whole, InList, Looked, TokenAt, LeafAt, GroupAt, Skipped, skipped, deeper}
+use Rattle.token_list.specs.Stream.{Trees, end, leaf, group, Streams, head, others, before, streams, size}
+use Rattle.token_list.specs.Stream.{firstKind, firstByte, follows, allClosed, rowsAt, at, rowStart}
+use Rattle.token_list.specs.Contract.{RowEnd, RightRows, InList, Looked, TokenAt, LeafAt, GroupAt, Skipped}
+use Rattle.token_list.specs.Contract.{skipped, deeper}
 use Rattle.token_list.specs.declared.check.Cursor.{Cursor}
 use Rattle.token_list.specs.declared.stream.Token.{Token}
 use Rattle.token_list.proofs.Texts.{and-parts, chosen, passed-over, slice-next}
 use Rattle.token_list.proofs.Starts.{next-start}
-use Rattle.token_list.proofs.Rows.{rows-none, FirstRow, first-row, first-kind, first-at, some-kind, whole-next}
+use Rattle.token_list.proofs.Rows.{rows-none, FirstRow, first-row, first-kind, first-at, some-kind}
+use Rattle.token_list.proofs.Rows.{right-rows-next}
 
 -- ## The row at an offset
 
@@ -78,7 +81,7 @@ module _ (s : List ℕ) (c : Cursor) (inList : InList s c) where
   pub close-here : c .at < length s → getD s (c .at) 0 ≡ 99 → at s (c .at) .here ≡ end
   unfolding at
   close-here h q =
-      let f = first-row s (c .at) (inList .whole) h in
+      let f = first-row s (c .at) (inList .rightRows) h in
       ap (λ (t : Streams). t .here) (ap streams (f .here) ∙
       before-close _ (streams (f .rest)) (first-kind s (c .at) f ∙ q))
 
@@ -91,7 +94,7 @@ module _ (s : List ℕ) (c : Cursor) (inList : InList s c) where
   look-here h x = go (eqb (f .row .kind) 111) refl
     where
       f : FirstRow s (c .at)
-      f = first-row s (c .at) (inList .whole) h
+      f = first-row s (c .at) (inList .rightRows) h
 
       k : f .row .kind ≡ getD s (c .at) 0
       k = first-kind s (c .at) f
@@ -125,8 +128,8 @@ module _ (s : List ℕ) (c : Cursor) (inList : InList s c) (e : ℕ) (l : RowEnd
   the-row : rowsAt s (c .at) ≡ theRow ∷ rowsAt s (e + 1)
   the-row = row-at s (c .at) e l
 
-  whole : allClosed (theRow ∷ rowsAt s (e + 1)) ≡ true
-  whole = sym (ap allClosed the-row) ∙ inList .whole .closed
+  row-closed : allClosed (theRow ∷ rowsAt s (e + 1)) ≡ true
+  row-closed = sym (ap allClosed the-row) ∙ inList .rightRows .closed
 
   stepped : at s (c .at) ≡ before theRow (at s (e + 1))
   stepped = at-row s (c .at) (e + 1) theRow the-row
@@ -147,7 +150,7 @@ module _ (s : List ℕ) (c : Cursor) (inList : InList s c) (e : ℕ) (l : RowEnd
         next = refl;
         within = omega (arith, l .within);
         first = first-byte;
-        whole = whole-next s (c .at) e (omega (arith, l .text)) (l .within) (inList .whole) the-row;
+        rightRows = right-rows-next s (c .at) e (omega (arith, l .text)) (l .within) (inList .rightRows) the-row;
       }
 
   pub leaf-here : (getD s (c .at) 0 ≡ 111 → ⊥) → (getD s (c .at) 0 ≡ 99 → ⊥) → LeafAt s (c .at) theToken
@@ -165,7 +168,7 @@ module _ (s : List ℕ) (c : Cursor) (inList : InList s c) (e : ℕ) (l : RowEnd
         after = head ts;
         here =
             ap (λ (t : Streams). t .here) b ∙ ap (λ (d : ℕ). group d (at s (e + 1) .here) (head ts)) (sym first-byte);
-        outer = followed ts (closed-open theRow (rowsAt s (e + 1)) whole o) ∙
+        outer = followed ts (closed-open theRow (rowsAt s (e + 1)) row-closed o) ∙
             ap (λ (us : List Trees). head ts ∷ us) (sym (ap (λ (t : Streams). t .outer) b));
       }
 
@@ -187,7 +190,7 @@ pub record Inside (s : List ℕ) (c : Cursor) (i row depth : ℕ) : Type 0 where
   pub deep : depth ≤ i + 1
   pub within : i ≤ length s
   pub forth : c .at + row ≤ i + c .row
-  pub whole : Whole s i
+  pub rightRows : RightRows s i
   pub left : drop depth (stack (at s i)) ≡ at s (c .at) .outer
   pub rows : row + pending depth (stack (at s i)) ≡ c .row + size (at s (c .at) .here) + 1
 
@@ -199,7 +202,7 @@ inside-start s c i =
       deep = omega arith;
       within = i .within;
       forth = omega arith;
-      whole = i .whole;
+      rightRows = i .rightRows;
       left = refl;
       rows = omega arith;
     }
@@ -212,8 +215,8 @@ module _ (s : List ℕ) (c : Cursor) (i row : ℕ) where
     row-here : rowsAt s i ≡ theStep ∷ rowsAt s (e + 1)
     row-here = row-at s i e l
 
-    step-whole : allClosed (theStep ∷ rowsAt s (e + 1)) ≡ true
-    step-whole = sym (ap allClosed row-here) ∙ n .whole .closed
+    step-closed : allClosed (theStep ∷ rowsAt s (e + 1)) ≡ true
+    step-closed = sym (ap allClosed row-here) ∙ n .rightRows .closed
 
     -- the step to a new depth, from the two facts that speak of streams
     stepped-to : (d : ℕ) → d ≤ suc k + 1 → k ≤ d → drop d (stack (at s (e + 1))) ≡ at s (c .at) .outer
@@ -227,7 +230,7 @@ module _ (s : List ℕ) (c : Cursor) (i row : ℕ) where
           deep = omega (arith, n .deep, q);
           within = omega (arith, p);
           forth = omega (arith, n .forth, q);
-          whole = whole-next s i e (omega (arith, q)) p (n .whole) row-here;
+          rightRows = right-rows-next s i e (omega (arith, q)) p (n .rightRows) row-here;
           left = left;
           rows = omega (arith, n .rows, rows);
         }
@@ -241,7 +244,7 @@ module _ (s : List ℕ) (c : Cursor) (i row : ℕ) where
     step-open : getD s i 0 ≡ 111 → Inside s c (e + 1) (row + 1) (suc k + 1)
     unfolding at
     step-open o =
-        let w = followed (T .outer) (closed-open theStep (rowsAt s (e + 1)) step-whole o) in
+        let w = followed (T .outer) (closed-open theStep (rowsAt s (e + 1)) step-closed o) in
         let g = b ∙ before-open theStep T o in
         let p : pending (suc (suc k)) (stack T) ≡ size
         (T .here) + 1 + (size (head (T .outer)) + 1 + pending k (others (T .outer))) =
@@ -288,7 +291,7 @@ module _ (s : List ℕ) (c : Cursor) (i row : ℕ) where
   there = record { at = i; row = row }
 
   there-in : {depth : ℕ} → Inside s c i row depth → InList s there
-  there-in n = record { starts = n .starts; counted = n .counted; within = n .within; whole = n .whole }
+  there-in n = record { starts = n .starts; counted = n .counted; within = n .within; rightRows = n .rightRows }
 
   pub inside-done : (depth : ℕ) → depth ≤ 0 → Inside s c i row depth → skipped (at s (c .at) .outer) s c there
   inside-done zero h n =

@@ -9,7 +9,8 @@ use lib.Dec.{T, eqb, leb}
 use borrow.Author.Tests.{eq-eqb, ne-eqb, leb-true, leb-false}
 use lib.ListN.{length, getD, take, drop, length-take, drop-of-length-le}
 use lib.Seq.{slice, slice-cons, drop-cons, take-suc, drop-append-le, length-take-le}
-use Rattle.token_list.specs.Text.{all, member, same, rawName, plainName, neverRaw, single, literal, literalStart, printable}
+use Rattle.token_list.specs.Text.{all, member, same, rawName, plainName, neverRaw, single, literal, literalStart}
+use Rattle.token_list.specs.Text.{printable}
 use Rattle.token_list.specs.Row.{first}
 
 -- a part that ends where it starts, or before, is empty

@@ -79,8 +79,10 @@ module _ (s : List ℕ) (levels : ℕ) (c : Cursor) (at r : ℕ) (re : Reached s
     form-is x e = sym (sh .right) ∙ ap shape e
 
     pub at-wrong : line .shape ≡ Wrong → Walked s c levels (stopped 3 r)
-    at-wrong e = record
-        { right = λ gs q. re .same gs q ∙ no-row r gs (lines (drop at s)) (begun s at h) k (form-is Wrong e); past = tt }
+    at-wrong e = record {
+      right = λ gs q. re .same gs q ∙ no-row r gs (lines (drop at s)) (begun s at h) k (form-is Wrong e);
+      past = tt;
+    }
 
     is-row : (x : Shape) → line .shape ≡ x → (shape x ≡ wrong → ⊥) → shape (line .shape) ≡ wrong → ⊥
     is-row x e n q = n (sym (ap shape e) ∙ q)

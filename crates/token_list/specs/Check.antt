@@ -8,7 +8,8 @@ use lib.ListN.{length, take, drop}
 use Rattle.token_list.specs.Byte.{bytes}
 use Rattle.token_list.specs.Layout.{OPEN, CLOSE, FIRST-ROW, MAX-BYTES, MAX-ROWS, MAX-TEXT, MAX-DEPTH}
 use Rattle.token_list.specs.Text.{same, closer}
-use Rattle.token_list.specs.Row.{Lines, tail, line, lines, Form, plain, opens, closed, wrong, form, formOf, first, Row}
+use Rattle.token_list.specs.Row.{Lines, tail, line, lines, Form, plain, opens, closed, wrong, form, formOf, first}
+use Rattle.token_list.specs.Row.{Row}
 
 pub data Answer : Type 0 where
   -- the number of rows

@@ -8,15 +8,18 @@ use lib.ListN.{length, getD, take, drop}
 use lib.Seq.{slice}
 use Rattle.token_list.specs.Byte.{SPACE, LF}
 use Rattle.token_list.specs.Layout.{PUNCT, OPEN, CLOSE, FIRST-ROW, TEXT-OFFSET, MAX-TEXT, MAX-DEPTH}
-use Rattle.token_list.specs.Row.{Lines, tail, line, lines, Form, plain, opens, closed, wrong, form, first, Row, written}
-use Rattle.token_list.specs.Check.{Answer, passed, refused, Open, ended, close, walk, NAMES, check, allRight, nested}
+use Rattle.token_list.specs.Row.{Lines, tail, line, lines, Form, plain, opens, closed, wrong, form, first, Row}
+use Rattle.token_list.specs.Row.{written}
+use Rattle.token_list.specs.Check.{Answer, passed, refused, Open, ended, close, walk, NAMES, check, allRight}
+use Rattle.token_list.specs.Check.{nested}
 use Rattle.token_list.specs.Place.{OneRefusal, checkNumber}
 use Rattle.token_list.specs.declared.check.Cursor.{Cursor}
 use Rattle.token_list.specs.declared.check.Checked.{Checked}
 use Rattle.token_list.specs.declared.check.Checked.the-variants.{Passed, Refused}
 use Rattle.token_list.specs.declared.check.LevelEnd.{LevelEnd}
 use Rattle.token_list.specs.declared.check.LevelEnd.the-variants.{End, Close, Refused as Stopped}
-use Rattle.token_list.specs.Stream.{Trees, end, leaf, group, size, firstKind, firstByte, follows, allClosed, rowsAt, at, rowStart}
+use Rattle.token_list.specs.Stream.{Trees, end, leaf, group, size, firstKind, firstByte, follows, allClosed}
+use Rattle.token_list.specs.Stream.{rowsAt, at, rowStart}
 use Rattle.token_list.specs.declared.stream.Token.{Token}
 use Rattle.token_list.specs.declared.stream.Glance.{Glance}
 use Rattle.token_list.specs.declared.stream.Peeked.{Peeked}
@@ -63,7 +66,7 @@ singleForm k b =
     (cond (eqb k OPEN) (cond (opening b) (opens b) wrong)
     (cond (eqb k CLOSE) (cond (closing b) (closed b) wrong) wrong))
 
--- the first line as a row, where it is whole
+-- the first line as a row, where it has an end
 abbrev pub formed : Lines → Form
 formed (tail t) = wrong
 formed (line l ls) = form l
@@ -77,7 +80,7 @@ pub record Shaped (s : List ℕ) (at : ℕ) (r : Line) : Type 0 where
 -- r is a token whose text starts at `start` and fits, or it is wrong, which tells nothing
 pub record TokenLine (s : List ℕ) (names : Bool) (start : ℕ) (r : Line) : Type 0 where
   pub told : (shape (r .shape) ≡ wrong → ⊥) → shape (r .shape) ≡ plain
-  pub whole : (shape (r .shape) ≡ wrong → ⊥)
+  pub ends : (shape (r .shape) ≡ wrong → ⊥)
       → (e : ℕ) × TextEnd s names start e × (e < length s) × (getD s e 0 ≡ LF) × (e - start ≤ MAX-TEXT)
       × (r .next ≡ e + 1)
 
@@ -86,7 +89,7 @@ abbrev pub ShapedUnlessWrong : List ℕ → ℕ → Line → Type 0
 ShapedUnlessWrong s at r = (shape (r .shape) ≡ wrong → ⊥) → Shaped s at r
 
 -- the bytes from i on are rows, each of a right form, and each group that opens in them is closed
-pub record Whole (s : List ℕ) (i : ℕ) : Type 0 where
+pub record RightRows (s : List ℕ) (i : ℕ) : Type 0 where
   pub written : drop i s ≡ written (rowsAt s i)
   pub right : allRight (rowsAt s i) ≡ true
   pub closed : allClosed (rowsAt s i) ≡ true
@@ -97,7 +100,7 @@ pub record InList (s : List ℕ) (c : Cursor) : Type 0 where
   pub starts : c .at ≡ rowStart s (c .row)
   pub counted : c .row ≤ c .at
   pub within : c .at ≤ length s
-  pub whole : Whole s (c .at)
+  pub rightRows : RightRows s (c .at)
 
 -- ## Rows and streams at a cursor
 
@@ -120,7 +123,7 @@ pub record TokenAt (s : List ℕ) (i : ℕ) (t : Token) : Type 0 where
   pub next : t .next ≡ t .end + 1
   pub within : t .next ≤ length s
   pub first : t .first ≡ first (slice (t .start) (t .end) s)
-  pub whole : Whole s (t .next)
+  pub rightRows : RightRows s (t .next)
 
 -- a token that is no group, and the stream after it
 pub record LeafAt (s : List ℕ) (i : ℕ) (t : Token) : Type 0 where
@@ -209,6 +212,6 @@ pub record PassedList (s : List ℕ) (n : ℕ) : Type 0 where
   pub written : drop FIRST-ROW s ≡ written (rowsAt s FIRST-ROW)
   pub nested : nested [] (rowsAt s FIRST-ROW) ≡ true
   pub count : length (rowsAt s FIRST-ROW) ≡ n
-  pub whole : Whole s FIRST-ROW
+  pub rightRows : RightRows s FIRST-ROW
   pub outer : at s FIRST-ROW .outer ≡ []
   pub size : size (at s FIRST-ROW .here) ≡ n

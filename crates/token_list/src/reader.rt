@@ -77,8 +77,8 @@ pub fn next<'a>(r: Reader<'a>) -> Reader<'a>
     }
 }
 
-// What a reader of the list shows at a row that starts at `at`. Those who go through rows call this and `next_at`, which
-// take a plain slice and numbers.
+// What a reader of the list shows at a row that starts at `at`. Those who go through rows call this and `next_at`,
+// which take a plain slice and numbers.
 pub fn peek_at(list: &[u8], row: usize, at: usize) -> Shown
     ensures { λ r. ⌜ Shows (now (list .entry)) at r ⌝ }
 {

@@ -16,7 +16,8 @@ ghost use lib.ListN.{length};
 ghost use lib.Seq.{slice};
 ghost use Rattle.token_list.specs.Text.{name, plainName, rawName, neverRaw, literal, literalStart, closer};
 ghost use Rattle.token_list.specs.Row.{formOf};
-ghost use Rattle.token_list.specs.Contract.{LineEnd, Shaped, ShapedUnlessWrong, shape, singleForm, oneByte, TokenLine};
+ghost use Rattle.token_list.specs.Contract.{LineEnd, Shaped, ShapedUnlessWrong, shape, singleForm, oneByte};
+ghost use Rattle.token_list.specs.Contract.{TokenLine};
 
 // The form of a line: a token, an opening or closing row with its delimiter, or no row.
 pub enum Shape {
@@ -314,12 +315,12 @@ pub fn line_shape(s: &[u8], at: usize) -> Line
         Shape::Plain => quick,
         Shape::Opens(_) => quick,
         Shape::Closed(_) => quick,
-        Shape::Wrong => whole_shape(s, at),
+        Shape::Wrong => long_shape(s, at),
     }
 }
 
 // The same of any line but one with a text of one byte.
-fn whole_shape(s: &[u8], at: usize) -> Line
+fn long_shape(s: &[u8], at: usize) -> Line
     requires { ⌜ oneByte (now s) at ≡ false ⌝ }
     ensures { λ r. ⌜ Shaped (now (s .entry)) at r ⌝ }
 {

@@ -5,7 +5,7 @@ ghost use mathlib.Core.Path.{_≡_};
 ghost use Prim.Native.Nat.{_+_, _^_, _<_};
 ghost use lib.ListN.{length};
 ghost use Rattle.token_list.specs.Stream.{at};
-ghost use Rattle.token_list.specs.Contract.{Whole, RowEnd, InList, Looked, stands, deeper, skipped};
+ghost use Rattle.token_list.specs.Contract.{RightRows, RowEnd, InList, Looked, stands, deeper, skipped};
 
 // A row: its kind, the first byte of its text (a punctuation's byte, a group's delimiter), where
 // its text starts and ends, and where the next row starts.
@@ -50,7 +50,7 @@ pub fn look(s: &[u8], c: Cursor) -> Glance
 
 // Where the row at `at` ends, at its LF. Kind, space and a byte of text stand before it.
 fn row_end(s: &[u8], at: usize) -> usize
-    requires { ⌜ Whole (now s) at ⌝ }
+    requires { ⌜ RightRows (now s) at ⌝ }
     requires { ⌜ at < length (now s) ⌝ }
     ensures { λ r. ⌜ RowEnd (now (s .entry)) at r ⌝ }
 {

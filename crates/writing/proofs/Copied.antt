@@ -65,7 +65,7 @@ unfolding rowStart
 rows-from s {n} c row =
     let rs = rowsAt s FIRST-ROW in
     let p = passed-list s n c in
-    let text : lines (drop FIRST-ROW s) ≡ linesOf rs = ap lines (p .written) ∙ lines-written rs (p .whole .right) in
+    let text : lines (drop FIRST-ROW s) ≡ linesOf rs = ap lines (p .written) ∙ lines-written rs (p .rightRows .right) in
     let before = bytesBefore row (lines (drop FIRST-ROW s)) in
     ap (λ (t : List ℕ). rows (lines t)) (sym (drop-drop before FIRST-ROW s))
     ∙ ap rows (lines-from row (drop FIRST-ROW s) ∙ ap (linesFrom row) text ∙ lines-drop row rs)
@@ -137,8 +137,8 @@ copied s {n} c d b us passes i j here row =
     second ∙ ap (λ (k : ℕ). drop k R) row ∙ sym (drop-drop (size b) (c .row) R) ∙ ap (drop (size b)) split
     ∙ drop-at (runRows b) rest (size b) (rows-length b) in
     let text : drop (c .at) s ≡ written (runRows b) ++ drop (d .at) s =
-    i .whole .written ∙ ap written (first ∙ split) ∙ written-append (runRows b) rest
-    ∙ ap (λ (t : List ℕ). written (runRows b) ++ t) (sym (j .whole .written ∙ ap written after)) in
+    i .rightRows .written ∙ ap written (first ∙ split) ∙ written-append (runRows b) rest
+    ∙ ap (λ (t : List ℕ). written (runRows b) ++ t) (sym (j .rightRows .written ∙ ap written after)) in
     let long = ap length text ∙ length-append (written (runRows b)) (drop (d .at) s) in
     let far : length (written (runRows b)) ≡ d .at - c .at =
     omega (arith, long, length-drop (c .at) s, length-drop (d .at) s, i .within, j .within) in

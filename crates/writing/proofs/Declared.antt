@@ -28,7 +28,8 @@ use Rattle.writing.proofs.Joined.{joined, size-joined, rows-joined, tok
 use Rattle.writing.proofs.Balanced.{sound, sound-joined, list-stream}
 use Rattle.reading.specs.Grammar as g
 use Rattle.reading.proofs.CompleteTokens.{same-path}
-use Rattle.writing.proofs.Read.{RunAt, OptionalRun, ParameterAt, CommaAt, ParametersAt, GenericsAt, Later, Within, item-read}
+use Rattle.writing.proofs.Read.{RunAt, OptionalRun, ParameterAt, CommaAt, ParametersAt, GenericsAt, Later}
+use Rattle.writing.proofs.Read.{Within, item-read}
 use Rattle.writing.proofs.Reread.{StandsAlone, typeConst}
 
 -- ## Bytes and depths
@@ -79,7 +80,7 @@ nameOf (type n b d) = n
 abbrev pub cost : Parameter → ℕ
 cost p = length (written (parameterRows p))
 
--- a parameter p of the stream ts, whose run is whole
+-- a parameter p of the stream ts, whose run stands alone
 pub record Declared (ts : Trees) (p : Parameter) : Type 0 where
   pub stands : StandsAlone (runOf p)
   pub plain : typeConst p ≡ false
@@ -160,7 +161,8 @@ record CountedRun (ts b us : Trees) : Type 0 where
   bounds : length (written (bounds b)) + weight us ≤ weight ts
   const : length (written (constraints b)) + weight us ≤ weight ts + 4
 
-past-separator : (m : ℕ) (c : Row) {us b vs : Trees} → isPunct (suc m) c ≡ true → Run us b vs → CountedRun (leaf c us) b vs
+past-separator : (m : ℕ) (c : Row) {us b vs : Trees} → isPunct (suc m) c ≡ true → Run us b vs
+    → CountedRun (leaf c us) b vs
 past-separator m c {us} {b} {vs} e r =
     let more = punct-bytes m c us e in
     record {
@@ -177,7 +179,8 @@ past-separator m c {us} {b} {vs} e r =
       const = omega (arith, r .bytes);
     }
 
-counted-of : (m : ℕ) {ts b us : Trees} → OptionalRun (suc m) ts b us → isEnd us ≡ false → sound ts ≡ true → CountedRun ts b us
+counted-of : (m : ℕ) {ts b us : Trees} → OptionalRun (suc m) ts b us → isEnd us ≡ false → sound ts ≡ true
+    → CountedRun ts b us
 counted-of m {ts = ts} OptionalRun.none n h = record { run = no-run ts h; bounds = omega arith; const = omega arith }
 counted-of m (OptionalRun.some {c = c} {us = us} e r) n h = past-separator m c e (run-of r n (right-leaf c us h .1))
 

@@ -112,9 +112,9 @@ streams-rows (group d ts us) rs e =
     let inner : List Row = closing d ∷ rest in
     let closed = ap (before (closing d)) (streams-rows us rs (p .1))
     ∙ before-close (closing d) (prepended us (streams rs)) refl in
-    let whole : streams (runRows ts ++ inner) ≡ _ = streams-rows ts inner (p .0) ∙ ap (prepended ts) closed in
+    let after-run : streams (runRows ts ++ inner) ≡ _ = streams-rows ts inner (p .0) ∙ ap (prepended ts) closed in
     ap (λ (qs : List Row). streams (opening d ∷ qs)) (append-assoc (runRows ts) (closing d ∷ runRows us) rs)
-    ∙ ap (before (opening d)) whole
+    ∙ ap (before (opening d)) after-run
     ∙ before-open (opening d) _ refl
     ∙ ap (λ (t : Trees). record { here = group d t (joined us (streams rs .here)); outer = streams rs .outer })
     (joined-end ts)

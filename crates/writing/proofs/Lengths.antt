@@ -19,11 +19,13 @@ use Rattle.reading.specs.Reading.{item}
 use Rattle.reading.proofs.Frame.{framed-cases}
 use Rattle.writing.specs.Rows.{ident, punct, listOf}
 use Rattle.writing.specs.Generics as generics
-use Rattle.writing.specs.Generics.{parameterRows, parted, angledRows, genericsRows, named, names, addedLifetime, addedType, additional}
+use Rattle.writing.specs.Generics.{parameterRows, parted, angledRows, genericsRows, named, names, addedLifetime}
+use Rattle.writing.specs.Generics.{addedType, additional}
 use Rattle.writing.specs.Names.{lineNames, namesOf}
 use Rattle.output.specs.Answer.{Answer, wrote, refused}
 use Rattle.output.proofs.Answers.{Within, fitted-same}
-use Rattle.writing.specs.Answer.{Writer, implGenerics, typeGenerics, withAdditional, text, itemAnswer, fullAnswer, answer, MOST, addedBytes, mostWith, mostAdded, Fits}
+use Rattle.writing.specs.Answer.{Writer, implGenerics, typeGenerics, withAdditional, text, itemAnswer, fullAnswer}
+use Rattle.writing.specs.Answer.{answer, MOST, addedBytes, mostWith, mostAdded, Fits}
 use Rattle.writing.proofs.Balanced.{list-stream}
 use Rattle.writing.proofs.Declared.{row-bytes, rows-bytes, cost, total, declared-of}
 

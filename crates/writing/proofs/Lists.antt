@@ -17,7 +17,8 @@ use Rattle.reading.specs.Declaration.{Parameter, lifetime, constant, type, Gene
 use Rattle.reading.specs.Took.{took}
 use Rattle.reading.specs.Reading.{item}
 use Rattle.writing.specs.Rows.{ident, punct, runRows}
-use Rattle.writing.specs.Generics.{bounds, parameterRows, parted, angledRows, genericsRows, named, names, addedLifetime, addedType}
+use Rattle.writing.specs.Generics.{bounds, parameterRows, parted, angledRows, genericsRows, named, names}
+use Rattle.writing.specs.Generics.{addedLifetime, addedType}
 use Rattle.writing.specs.Names.{namesOf, rightName, rightNames}
 use Rattle.writing.specs.Answer.{implGenerics, typeGenerics, withAdditional}
 use Rattle.writing.specs.Depth.{depth}

@@ -9,7 +9,8 @@ use lib.Dec.{eqb, ltb}
 use lib.ListN.{length}
 use Rattle.token_list.specs.Byte.{SPACE, LF, HASH}
 use Rattle.token_list.specs.Layout.{IDENT, LITERAL, PUNCT, OPEN, CLOSE, MAX-BYTES, MAX-ROWS, MAX-DEPTH}
-use Rattle.token_list.specs.Text.{all, name, plainName, nameStart, namePart, rawName, literal, literalStart, printable, single, punctuation, opening, closing, closer}
+use Rattle.token_list.specs.Text.{all, name, plainName, nameStart, namePart, rawName, literal, literalStart, printable}
+use Rattle.token_list.specs.Text.{single, punctuation, opening, closing, closer}
 use Rattle.token_list.specs.Row.{Row, line, lines, byte, written, Form, plain, opens, closed, wrong, formOf, first}
 use Rattle.token_list.specs.Check.{Answer, passed, Open, step, walk, check, isRow, right, closedBy, enclosing, nested}
 use Rattle.token_list.proofs.Texts.{chosen, passed-over, and-both, and-parts}

@@ -16,7 +16,8 @@ use Rattle.reading.specs.Declaration.{Parameter, Generics, without, angled}
 use Rattle.reading.specs.Took.{Took, took, stopped, Reader, after, _>>=_, pure}
 use Rattle.reading.specs.Reading as r
 use Rattle.reading.specs.Reading.{Maybe, done, one, RunEnd, rounds, more}
-use Rattle.reading.proofs.SoundTokens.{Sound, met, refused, choice, onward-still, after-met, runFrom-sound, attributes-sound, visibility-sound, dataType-sound}
+use Rattle.reading.proofs.SoundTokens.{Sound, met, refused, choice, onward-still, after-met, runFrom-sound}
+use Rattle.reading.proofs.SoundTokens.{attributes-sound, visibility-sound, dataType-sound}
 use Rattle.reading.proofs.GrammarSound.{punctIf-sound}
 use Rattle.writing.proofs.Joined.{joined, front-joined}
 use Rattle.writing.proofs.Runs.{Alone, held}

@@ -13,7 +13,8 @@ use Rattle.reading.specs.Role as role
 use Rattle.reading.specs.Token.{STRUCT, CONST}
 use Rattle.reading.specs.Grammar as g
 use Rattle.reading.specs.Grammar.{everything, Obeys}
-use Rattle.reading.specs.Declaration.{default, struct, Parameter, lifetime, constant, type, Generics, angled, Declaration}
+use Rattle.reading.specs.Declaration.{default, struct, Parameter, lifetime, constant, type, Generics, angled}
+use Rattle.reading.specs.Declaration.{Declaration}
 use Rattle.reading.specs.Took.{Took, took, Reader, onward, after, _>>=_, pure}
 use Rattle.reading.specs.Reading as r
 use Rattle.reading.specs.Reading.{every}
@@ -22,7 +23,9 @@ use Rattle.reading.proofs.GrammarWider as wider
 use Rattle.reading.proofs.Promise.{obeys-unique}
 use Rattle.writing.specs.Rows.{ident, punct}
 use Rattle.writing.specs.Generics.{angledRows, named, names, addedLifetime, addedType, additional}
-use Rattle.writing.specs.ReadBack.{behindStruct, unitStruct, withCommas, Reads, Refused, ReadBack, runOf, endsInMinus, lastMinus, constNamed, constAdded, addedException, withoutDefault, WritersReadBack}
+use Rattle.writing.specs.ReadBack.{behindStruct, unitStruct, withCommas, Reads, Refused, ReadBack, runOf}
+use Rattle.writing.specs.ReadBack.{endsInMinus, lastMinus, constNamed, constAdded, addedException, withoutDefault}
+use Rattle.writing.specs.ReadBack.{WritersReadBack}
 use Rattle.writing.proofs.Joined.{tokens}
 use Rattle.writing.proofs.Written.{partedThen, allTokens, behind-struct}
 use Rattle.writing.proofs.Runs.{AFTER}
@@ -67,7 +70,7 @@ same-roles {ts} {rs = rs} {qs = qs} e h =
     let same = obeys-unique qs (rs ++ []) (wider.obeys withCommas everything (λ d e. refl) h) (obeys-sound e) in
     subst (λ (x : List ℕ). Obeys withCommas ts x) (same ∙ append-nil rs) h
 
--- ## Any parameters whose runs are whole
+-- ## Any parameters whose runs stand alone
 
 read-back : (ps : List Parameter) → AllStandAlone ps → allTokens ps ≡ true
     → ReadBack (anyConst ps || lastMinus ps) (angledRows ps) (map withoutDefault ps)

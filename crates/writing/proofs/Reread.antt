@@ -21,7 +21,8 @@ use Rattle.reading.proofs.Conserved.{every-step, parameter-round}
 use Rattle.writing.specs.Rows.{ident, punct}
 use Rattle.writing.specs.ReadBack.{runOf, endsInMinus, lastMinus, withoutDefault, withCommas}
 use Rattle.writing.proofs.Joined.{joined}
-use Rattle.writing.proofs.Runs.{Alone, ends-in-minus, before-comma, before-angle, AFTER, before-arrow, alone-length, run-taken, run-value}
+use Rattle.writing.proofs.Runs.{Alone, ends-in-minus, before-comma, before-angle, AFTER, before-arrow}
+use Rattle.writing.proofs.Runs.{alone-length, run-taken, run-value}
 use Rattle.writing.proofs.Written.{boundsThen, parameterThen, partedThen}
 
 -- a run by itself
@@ -235,7 +236,8 @@ module _ (angle : ℕ) where
       (chosen (same n CONST) _ _ c)
 
   -- a run that ends in `-`: the `>` belongs to it, and the stream gives out
-  minus-refused : (p : Parameter) → StandsAlone (runOf p) → typeConst p ≡ false → endsInMinus (runOf p) ≡ true → (row : ℕ)
+  minus-refused : (p : Parameter) → StandsAlone (runOf p) → typeConst p ≡ false → endsInMinus (runOf p) ≡ true
+      → (row : ℕ)
       → Stopped (every (r.parameter angle) row (parameterThen p AFTER))
   minus-refused p w c e row =
       let i = before-arrow (sym (ends-in-minus (runOf p)) ∙ e) (w .alone) in

@@ -14,7 +14,8 @@ use Rattle.token_list.specs.Stream.{Trees, end, leaf, group, size}
 use Rattle.token_list.proofs.Texts.{and-parts}
 use Rattle.reading.specs.Role as role
 use Rattle.reading.specs.Token.{isPunct, isEnd, copied, parameterStops}
-use Rattle.reading.specs.Grammar.{Difference, nothing, everything, Run, arrow, deeper, back, angle, comma, stop, token, inside, ended}
+use Rattle.reading.specs.Grammar.{Difference, nothing, everything, Run, arrow, deeper, back, angle, comma, stop, token}
+use Rattle.reading.specs.Grammar.{inside, ended}
 use Rattle.reading.specs.Took.{took}
 use Rattle.reading.specs.Reading as r
 use Rattle.reading.proofs.Rounds.{copied-length}
@@ -155,4 +156,5 @@ pub run-value : {ts us : Trees} {rs : List ℕ} (b : Trees) → Run everything p
     → ts ≡ joined b us → length rs ≡ size b → (row : ℕ) → r.run parameterStops role.bound row ts ≡ took b rs us
 run-value {us = us} {rs = rs} b h e n row =
     run-taken h row
-    ∙ ap (λ (t : Trees). took t rs us) (ap (λ (x : Trees). r.firstRows x (length rs)) e ∙ front-joined b us (length rs) n)
+    ∙ ap (λ (t : Trees). took t rs us)
+    (ap (λ (x : Trees). r.firstRows x (length rs)) e ∙ front-joined b us (length rs) n)

@@ -9,7 +9,8 @@ use Rattle.token_list.specs.Text.{same}
 use Rattle.token_list.specs.Row.{Row}
 use Rattle.token_list.specs.Stream.{Trees, end, leaf, group, streams}
 use Rattle.reading.specs.Token.{isPunct, STRUCT, CONST}
-use Rattle.reading.specs.Declaration.{default, struct, Parameter, lifetime, constant, type, angled, unconstrained, unit, fields, Declaration}
+use Rattle.reading.specs.Declaration.{default, struct, Parameter, lifetime, constant, type, angled, unconstrained, unit}
+use Rattle.reading.specs.Declaration.{fields, Declaration}
 use Rattle.reading.specs.Took.{Cause, took, stopped}
 use Rattle.reading.specs.Reading.{item}
 use Rattle.reading.specs.Grammar as grammar

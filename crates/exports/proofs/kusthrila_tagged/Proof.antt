@@ -25,9 +25,8 @@ enum-known-r c = search needs
 coded-requires : tie.Need-coded-requires
 coded-requires c κs =
     let parse-tagged-attribute = c .before .before .before .before .before .parse-tagged-attribute in
-    let before = c .before .before .before .before .before in
+    let earlier = c .before .before .before .before .before in
     let r = c .before .r in
-    let earlier = before in
     let args = earlier .before .before .before .before .before .args in
     let s = args .list .now in
     let a = answer (args .prefix .now) s (length (args .roles .now)) in
@@ -69,10 +68,9 @@ same-length-3 c = search needs
 returns-3 : tie.Need-returns-3
 returns-3 c =
     let parse-tagged-attribute = c .before .before .before .before .before .before .parse-tagged-attribute in
-    let before = c .before .before .before .before .before .before in
+    let earlier = c .before .before .before .before .before .before in
     let coded = c .coded in
     let r = c .before .before .r in
-    let earlier = before in
     let args = earlier .before .before .before .before .before .args in
     let s = args .list .now in
     let a = answer (args .prefix .now) s (length (args .roles .now)) in

@@ -45,8 +45,7 @@ array-share-prefix-lifetimes c = search needs
 slice-aggregate-report : tie.Need-slice-aggregate-report
 slice-aggregate-report c =
     let name-buffer = c .before .before .before .before .before .before .before .before .before .name-buffer in
-    let gather-all = c .before .before .before .before .before .gather-all in
-    let gathered = gather-all in
+    let gathered = c .before .before .before .before .before .gather-all in
     sym (length-take-le (gathered .result .lifetimes) (gathered .last .0)
     (omega (arith, gathered .kept .0, name-buffer .ensures)))
 
@@ -56,8 +55,7 @@ array-share-prefix-types c = search needs
 slice-aggregate-report-2 : tie.Need-slice-aggregate-report-2
 slice-aggregate-report-2 c =
     let name-buffer2 = c .before .before .before .before .before .before .before .before .before .name-buffer2 in
-    let gather-all = c .before .before .before .before .before .before .gather-all in
-    let gathered = gather-all in
+    let gathered = c .before .before .before .before .before .before .gather-all in
     sym (length-take-le (gathered .result .types) (gathered .last .1 .0)
     (omega (arith, gathered .kept .1 .0, name-buffer2 .ensures)))
 

@@ -25,20 +25,17 @@ returns c = rw (c .enum-told .given .1)
 
 returns-2 : tie.Need-returns-2
 returns-2 c =
-    let header-2 = c .before .before .before .before .before .header in
-    let header = header-2 in
+    let header = c .before .before .before .before .before .header in
     rw (header .given .1, c .enum-told2 .given .1, c .before .before .moved .ensures)
 
 returns-3 : tie.Need-returns-3
 returns-3 c =
-    let header-2 = c .before .before .before .before .before .before .header in
-    let header = header-2 in
+    let header = c .before .before .before .before .before .before .header in
     rw (header .given .1, c .before .section .given .1, c .before .before .before .moved .ensures)
 
 returns-4 : tie.Need-returns-4
 returns-4 c =
-    let header-2 = c .before .before .before .before .before .header in
-    let header = header-2 in
+    let header = c .before .before .before .before .before .header in
     rw (header .given .1, c .enum-told3 .given .1, c .before .before .moved .ensures)
 
 pub begin-spec : {M : Type 1} → statement M

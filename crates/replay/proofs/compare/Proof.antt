@@ -11,8 +11,7 @@ use Rattle.replay.proofs.compare.Tie as tie
 
 returns : tie.Need-returns
 returns c =
-    let args-2 = c .before .before .before .before .before .args in
-    let args = args-2 in
+    let args = c .before .before .before .before .before .args in
     rw (eq-eqb (args .s .cases) 0 (c .if1 .taken))
 
 sub-if2 : tie.Need-sub-if2
@@ -20,8 +19,7 @@ sub-if2 c = search needs
 
 returns-2 : tie.Need-returns-2
 returns-2 c =
-    let args-2 = c .before .before .before .before .before .before .before .args in
-    let args = args-2 in
+    let args = c .before .before .before .before .before .before .before .args in
     let case = ne-eqb (args .s .cases) 0 (c .before .before .if1 .left) in
     rw (case, lt-ltb (size (args .s .at)) (args .size) (c .if2 .taken))
 
@@ -30,8 +28,7 @@ add-end c = search needs
 
 slice-aggregate-is-right : tie.Need-slice-aggregate-is-right
 slice-aggregate-is-right c =
-    let before = c .before .before .before .before .before .before .before .before in
-    let start = before in
+    let start = c .before .before .before .before .before .before .before .before in
     sym (length-take-le (start .args .s .list) (start .args .list .now) (start .pre .list))
 
 is-right-requires : tie.Need-is-right-requires
@@ -51,8 +48,7 @@ counted-requires c κs = search needs
 
 returns-3 : tie.Need-returns-3
 returns-3 c =
-    let before = c .before .before .before .before .before in
-    let compared = before in
+    let compared = c .before .before .before .before .before in
     let there = compared .before .before in
     let start = there .before .before .before .before .before .before .before in
     let n = start .args .size in

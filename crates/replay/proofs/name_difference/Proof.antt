@@ -46,11 +46,9 @@ put-byte-requires c κs = search needs
 
 array-share-prefix-out : tie.Need-array-share-prefix-out
 array-share-prefix-out c =
-    let before = c .before .before .before .before .before .before .before in
-    let put-topic = c .before .before .before .before .put-topic in
+    let middle = c .before .before .before .before .before .before .before in
+    let m = c .before .before .before .before .put-topic in
     let e = c .before .put-byte in
-    let m = put-topic in
-    let middle = before in
     let start = middle .before .before .before .before .before .before .before .before .before .before in
     let v = middle .put-bytes2 in
     let n = middle .before .before .before .before .put-number in

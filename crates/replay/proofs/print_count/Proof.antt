@@ -26,13 +26,10 @@ put-byte-requires c κs = search needs
 
 array-share-prefix-out : tie.Need-array-share-prefix-out
 array-share-prefix-out c =
-    let before = c .before .before .before .before .before .before .before .before .before .before in
-    let put-bytes = c .before .before .before .before .before .before .before .put-bytes in
-    let put-number = c .before .before .before .before .put-number in
+    let start = c .before .before .before .before .before .before .before .before .before .before in
+    let w = c .before .before .before .before .before .before .before .put-bytes in
+    let n = c .before .before .before .before .put-number in
     let e = c .before .put-byte in
-    let n = put-number in
-    let w = put-bytes in
-    let start = before in
     let number = decimal-few (start .args .count) (omega arith) in
     let word = at-most (w .ensures) in
     let counted = at-most (n .ensures) in

@@ -71,10 +71,8 @@ loop-less c = search needs
 
 loop-again : tie.Need-loop-again Inv-loop μ-loop
 loop-again c =
-    let loop = c .before .before .before .before .before .before .before .before .before .before .before .loop in
-    let step = c .before .before .before .before .before .before .before .step in
-    let turn = step in
-    let old = loop in
+    let old = c .before .before .before .before .before .before .before .before .before .before .before .loop in
+    let turn = c .before .before .before .before .before .before .before .step in
     let buf = turn .last .0 in
     let list = old .list in
     let stepped = stepped-onward (old .buf) buf list (turn .last .1 .0) (old .s) (turn .result) (old .inv .0) in

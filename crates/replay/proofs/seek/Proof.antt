@@ -7,15 +7,13 @@ use Rattle.replay.proofs.seek.Tie as tie
 
 returns : tie.Need-returns
 returns c =
-    let args-2 = c .before .before .before .before .before .args in
-    let args = args-2 in
+    let args = c .before .before .before .before .before .args in
     let s = args .s in
     rw (eq-eqb (s .at .from) (s .at .to) (c .before .before .if1 .taken), lt-ltb 0 (s .skip) (c .if2 .taken))
 
 returns-2 : tie.Need-returns-2
 returns-2 c =
-    let args-2 = c .before .before .before .before .before .args in
-    let args = args-2 in
+    let args = c .before .before .before .before .before .args in
     let s = args .s in
     rw (eq-eqb (s .at .from) (s .at .to) (c .before .before .if1 .taken), le-ltb 0 (s .skip) (c .if2 .left))
 

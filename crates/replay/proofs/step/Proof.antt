@@ -51,12 +51,10 @@ moved-requires c κs = search needs
 
 seek-requires : tie.Need-seek-requires
 seek-requires c κs =
-    let before = c .before .before .before .before .before .before .before .before .before in
-    let ready = c .before .before .before .before .ready in
-    let start = before in
+    let start = c .before .before .before .before .before .before .before .before .before in
+    let read = c .before .before .before .before .ready in
     let b = start .args .buf .now in
     let at = start .args .s .at in
-    let read = ready in
     rw (c .before .moved .ensures)
     (ready-within b (read .last .0) HEADER at (read .result) (start .pre .unread) (read .ensures))
 
@@ -76,12 +74,10 @@ moved-requires-2 c κs = search needs
 
 take-list-requires : tie.Need-take-list-requires
 take-list-requires c κs =
-    let before = c .before .before .before .before .before .before .before .before .before in
-    let ready2 = c .before .before .before .before .before .ready2 in
-    let told = before in
+    let told = c .before .before .before .before .before .before .before .before .before in
+    let read = c .before .before .before .before .before .ready2 in
     let next = told .next .given in
     let d = told .before .before in
-    let read = ready2 in
     let asked = placed d (next .1) in
     rw (c .before .before .moved2 .ensures)
     (placed-ready (filled d) (read .last .0) (next .0 .1 .0) (next .0 .0) (read .result) asked (read .ensures))
@@ -99,12 +95,10 @@ moved-requires-3 c κs = search needs
 
 compare-requires : tie.Need-compare-requires
 compare-requires c κs =
-    let before = c .before .before .before .before .before .before .before .before .before in
-    let ready3 = c .before .before .before .before .before .ready3 in
-    let told = before in
+    let told = c .before .before .before .before .before .before .before .before .before in
+    let read = c .before .before .before .before .before .ready3 in
     let next = told .next2 .given in
     let d = told .before .before in
-    let read = ready3 in
     let asked = placed d (next .1) in
     rw (c .before .before .moved3 .ensures)
     (placed-ready (filled d) (read .last .0) (next .0 .1 .1 .0) (next .0 .0) (read .result) asked (read .ensures))
@@ -117,8 +111,7 @@ returns c = stepped (c .before .before .before) _ (c .before .turn .given .1) (r
 
 same-length-2 : tie.Need-same-length-2
 same-length-2 c =
-    let before = c .before .before .before .before .before .before .before .before in
-    let read = before in
+    let read = c .before .before .before .before .before .before .before .before in
     let first = read .before .before .before .before .before .before .before .before .before .before .before .ready in
     read .ready2 .kept .0 ∙ first .kept .0
 
@@ -127,14 +120,12 @@ same-length-3 c = search needs
 
 returns-2 : tie.Need-returns-2
 returns-2 c =
-    let before = c .before .before .before .before .before .before .before .before .before .before .before .before in
-    let ready2 = c .before .before .before .before .before .before .before .before .ready2 in
+    let asked = c .before .before .before .before .before .before .before .before .before .before .before .before in
+    let read = c .before .before .before .before .before .before .before .before .ready2 in
     let moved2 = c .before .before .before .before .before .moved2 in
-    let asked = before in
     let d = asked .before .before in
     let list = start d .args .list .now in
     let next = asked .next .given in
-    let read = ready2 in
     let same = moved2 .ensures in
     let taking = c .before .before .take-list .ensures in
     let turn = taking .0 ∙ ap (λ (t : State). taken (length list) t (next .0 .1 .0)) same in
@@ -143,8 +134,7 @@ returns-2 c =
 
 same-length-4 : tie.Need-same-length-4
 same-length-4 c =
-    let before = c .before .before .before .before .before .before in
-    let read = before in
+    let read = c .before .before .before .before .before .before in
     let first = read .before .before .before .before .before .before .before .before .before .before .before .ready in
     read .ready3 .kept .0 ∙ first .kept .0
 
@@ -153,13 +143,11 @@ same-length-5 c = search needs
 
 returns-3 : tie.Need-returns-3
 returns-3 c =
-    let before = c .before .before .before .before .before .before .before .before .before .before in
-    let ready3 = c .before .before .before .before .before .before .ready3 in
-    let asked = before in
+    let asked = c .before .before .before .before .before .before .before .before .before .before in
+    let read = c .before .before .before .before .before .before .ready3 in
     let d = asked .before .before in
     let list = start d .args .list .now in
     let next = asked .next2 .given in
-    let read = ready3 in
     let topic = next .0 .1 .0 in
     let size = next .0 .1 .1 .0 in
     let same = c .before .before .before .moved3 .ensures in

@@ -13,8 +13,7 @@ use Rattle.replay.proofs.take_list.Tie as tie
 
 returns : tie.Need-returns
 returns c =
-    let args-2 = c .before .before .before .before .args in
-    let args = args-2 in
+    let args = c .before .before .before .before .args in
     rw (lt-ltb (length (args .list .now)) (args .size) (c .if1 .taken)) (refl, refl)
 
 sub-if2 : tie.Need-sub-if2
@@ -22,8 +21,7 @@ sub-if2 c = search needs
 
 returns-2 : tie.Need-returns-2
 returns-2 c =
-    let args-2 = c .before .before .before .before .before .before .args in
-    let args = args-2 in
+    let args = c .before .before .before .before .before .before .args in
     let room = le-ltb (length (args .list .now)) (args .size) (c .before .before .if1 .left) in
     rw (room, lt-ltb (size (args .s .at)) (args .size) (c .if2 .taken)) (refl, refl)
 
@@ -56,9 +54,8 @@ same-length c = search needs
 
 returns-3 : tie.Need-returns-3
 returns-3 c =
-    let before = c .before .before .before .before .before .before .before .before in
+    let there = c .before .before .before .before .before .before .before .before in
     let put-bytes = c .before .before .before .before .before .put-bytes in
-    let there = before in
     let start = there .before .before .before .before .before .before in
     let n = start .args .size in
     let w = start .args .s .at in

@@ -40,8 +40,7 @@ array-share-prefix-out c = search needs
 
 slice-aggregate-write-all : tie.Need-slice-aggregate-write-all
 slice-aggregate-write-all c =
-    let report-tagged = c .before .before .before .report-tagged in
-    let d = report-tagged in
+    let d = c .before .before .before .report-tagged in
     sym (length-take-le (d .result) (d .last .1 .1 .1 .0) (omega (arith, d .ensures .short, d .kept .1 .1 .1 .0)))
 
 write-all-requires : tie.Need-write-all-requires

@@ -37,7 +37,8 @@ returns c =
     let put-bytes = c .before .before .put-bytes in
     let name = slice (args .p .name .start) (args .p .name .end) (args .s .now) in
     λ a k.
-    let same = quoted a (sym (ap isLifetime (k .kind)) ∙ sym (is-lifetime .ensures) ∙ if1 .taken) ∙ ap (λ n. 39 ∷ n) (k .text .bytes) in
+    let same = quoted a (sym (ap isLifetime (k .kind)) ∙ sym (is-lifetime .ensures) ∙ if1 .taken)
+    ∙ ap (λ n. 39 ∷ n) (k .text .bytes) in
     put-as (ap (λ n. line PARAM n DASH) same) (put-line PARAM (39 ∷ name) DASH (put-head .ensures) (put-bytes .ensures))
 
 slice-aggregate-put-head-2 : tie.Need-slice-aggregate-put-head-2

@@ -25,8 +25,7 @@ enum-known-t c = search needs
 
 past-requires : tie.Need-past-requires
 past-requires c κs =
-    let pre-2 = c .before .before .before .before .before .before .before .before .pre in
-    let pre = pre-2 in
+    let pre = c .before .before .before .before .before .before .before .before .pre in
     (pre, (meeting.peeked _ _ ((c .before .before .before .peek) .ensures) ((c .before .t) .given .1)) .token)
 
 enum-told-3 : tie.Need-enum-told-3
@@ -34,12 +33,9 @@ enum-told-3 c = search needs
 
 struct-lines-requires : tie.Need-struct-lines-requires
 struct-lines-requires c κs =
-    let before = c .before .before .before .before .before .before .before .before in
-    let t-2 = c .before .before .before .before .before .before .t in
-    let past-2 = c .before .before .before .before .past in
-    let past = past-2 in
-    let t = t-2 in
-    let after-peek = before in
+    let after-peek = c .before .before .before .before .before .before .before .before in
+    let t = c .before .before .before .before .before .before .t in
+    let past = c .before .before .before .before .past in
     let peek = after-peek .peek in
     let pre = after-peek .before .before .before .before .before .pre in
     meeting.past-in-of _ _ _ _ (past .ensures) pre (meeting.peeked _ _ (peek .ensures) (t .given .1) .token)
@@ -49,27 +45,22 @@ enum-told-4 c = search needs
 
 variant-lines-requires : tie.Need-variant-lines-requires
 variant-lines-requires c κs =
-    let before = c .before .before .before .before .before .before .before .before in
-    let t-2 = c .before .before .before .before .before .before .t in
-    let past-2 = c .before .before .before .before .past in
-    let past = past-2 in
-    let t = t-2 in
-    let after-peek = before in
+    let after-peek = c .before .before .before .before .before .before .before .before in
+    let t = c .before .before .before .before .before .before .t in
+    let past = c .before .before .before .before .past in
     let peek = after-peek .peek in
     let pre = after-peek .before .before .before .before .before .pre in
     meeting.past-in-of _ _ _ _ (past .ensures) pre (meeting.peeked _ _ (peek .ensures) (t .given .1) .token)
 
 returns : tie.Need-returns
 returns c =
-    let args-2 = c .before .before .before .before .before .before .before .args in
-    let args = args-2 in
+    let args = c .before .before .before .before .before .before .before .args in
     let peek = c .before .before .peek in
     λ b k. body-end (contract.kindOf (args .d .kind)) k (meeting.peeked _ _ (peek .ensures) (c .enum-told .given .1))
 
 returns-2 : tie.Need-returns-2
 returns-2 c =
-    let before = c .before .before .before .before .before .before .before in
-    let start = before in
+    let start = c .before .before .before .before .before .before .before in
     let kind = contract.kindOf (start .args .d .kind) in
     let leaf = meeting.peeked _ _ (c .before .before .peek .ensures) (c .enum-told2 .given .1) in
     λ b k. put-as (body-leaf kind k leaf) (nothing _ _ (omega (arith, start .good)))
@@ -82,14 +73,10 @@ same-length-2 c = search needs
 
 returns-3 : tie.Need-returns-3
 returns-3 c =
-    let before = c .before .before .before .before .before .before .before .before .before .before .before in
-    let past-2 = c .before .before .before .before .before .before .before .before .before .past in
-    let enum-told3-2 = c .before .before .before .before .before .before .before .enum-told3 in
-    let struct-lines-2 = c .before .before .before .before .struct-lines in
-    let struct-lines = struct-lines-2 in
-    let enum-told3 = enum-told3-2 in
-    let past = past-2 in
-    let after-t = before in
+    let after-t = c .before .before .before .before .before .before .before .before .before .before .before in
+    let past = c .before .before .before .before .before .before .before .before .before .past in
+    let enum-told3 = c .before .before .before .before .before .before .before .enum-told3 in
+    let struct-lines = c .before .before .before .before .struct-lines in
     let t = after-t .t in
     let peek = after-t .before .before .peek in
     let args = after-t .before .before .before .before .before .before .before .args in
@@ -108,14 +95,10 @@ same-length-4 c = search needs
 
 returns-4 : tie.Need-returns-4
 returns-4 c =
-    let before = c .before .before .before .before .before .before .before .before .before .before .before in
-    let past-2 = c .before .before .before .before .before .before .before .before .before .past in
-    let enum-told4-2 = c .before .before .before .before .before .before .before .enum-told4 in
-    let variant-lines-2 = c .before .before .before .before .variant-lines in
-    let variant-lines = variant-lines-2 in
-    let enum-told4 = enum-told4-2 in
-    let past = past-2 in
-    let after-t = before in
+    let after-t = c .before .before .before .before .before .before .before .before .before .before .before in
+    let past = c .before .before .before .before .before .before .before .before .before .past in
+    let enum-told4 = c .before .before .before .before .before .before .before .enum-told4 in
+    let variant-lines = c .before .before .before .before .variant-lines in
     let t = after-t .t in
     let peek = after-t .before .before .peek in
     let args = after-t .before .before .before .before .before .before .before .args in

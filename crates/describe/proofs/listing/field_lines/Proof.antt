@@ -16,10 +16,8 @@ enum-known-fields c = search needs
 
 named-lines-requires : tie.Need-named-lines-requires
 named-lines-requires c κs =
-    let args-2 = c .before .before .before .before .before .before .before .before .args in
-    let pre-2 = c .before .before .before .before .before .before .before .before .pre in
-    let args = args-2 in
-    let pre = pre-2 in
+    let args = c .before .before .before .before .before .before .before .before .args in
+    let pre = c .before .before .before .before .before .before .before .before .pre in
     let fields = c .before .before .before .fields in
     subst (λ v. contract.FieldsOf (args .s .now) v (pre .0)) (fields .given .1) (pre .1) .2 .inList
 
@@ -28,17 +26,14 @@ enum-known-fields-2 c = search needs
 
 tuple-lines-requires : tie.Need-tuple-lines-requires
 tuple-lines-requires c κs =
-    let args-2 = c .before .before .before .before .before .before .before .before .args in
-    let pre-2 = c .before .before .before .before .before .before .before .before .pre in
-    let args = args-2 in
-    let pre = pre-2 in
+    let args = c .before .before .before .before .before .before .before .before .args in
+    let pre = c .before .before .before .before .before .before .before .before .pre in
     let fields = c .before .before .before .fields2 in
     subst (λ v. contract.FieldsOf (args .s .now) v (pre .0)) (fields .given .1) (pre .1) .2 .inList
 
 returns : tie.Need-returns
 returns c =
-    let before = c .before .before .before .before .before in
-    let start = before in
+    let start = c .before .before .before .before .before in
     let args = start .args in
     λ f k.
     let same = subst (λ v. contract.FieldsOf (args .s .now) v f) (c .enum-told .given .1) k in
@@ -52,10 +47,8 @@ same-length-2 c = search needs
 
 returns-2 : tie.Need-returns-2
 returns-2 c =
-    let before = c .before .before .before .before .before .before .before .before in
-    let named-lines-2 = c .before .before .before .before .named-lines in
-    let named-lines = named-lines-2 in
-    let after-fields = before in
+    let after-fields = c .before .before .before .before .before .before .before .before in
+    let named-lines = c .before .before .before .before .named-lines in
     let fields = after-fields .fields in
     let args = after-fields .before .before .before .before .before .args in
     λ f k.
@@ -70,10 +63,8 @@ same-length-4 c = search needs
 
 returns-3 : tie.Need-returns-3
 returns-3 c =
-    let before = c .before .before .before .before .before .before .before .before in
-    let tuple-lines-2 = c .before .before .before .before .tuple-lines in
-    let tuple-lines = tuple-lines-2 in
-    let after-fields2 = before in
+    let after-fields2 = c .before .before .before .before .before .before .before .before in
+    let tuple-lines = c .before .before .before .before .tuple-lines in
     let fields2 = after-fields2 .fields2 in
     let args = after-fields2 .before .before .before .before .before .args in
     λ f k.

@@ -16,8 +16,7 @@ same-length c = search needs
 
 returns : tie.Need-returns
 returns c =
-    let put-listing-2 = c .before .before .before .before .put-listing in
-    let put-listing = put-listing-2 in
+    let put-listing = c .before .before .before .before .put-listing in
     λ x k. fits-not (listing x) (put-listing .result) (put-listing .ensures x k .next) (omega arith)
 
 put-listing-requires-2 : tie.Need-put-listing-requires-2
@@ -31,11 +30,9 @@ same-length-3 c = search needs
 
 returns-2 : tie.Need-returns-2
 returns-2 c =
-    let put-listing-2 = c .before .before .before .before .before .before .before .before .before .before .before .put-listing in
-    let put-listing2-2 = c .before .before .before .before .put-listing2 in
     let put-listing =
-    put-listing-2 in
-    let put-listing2 = put-listing2-2 in
+    c .before .before .before .before .before .before .before .before .before .before .before .put-listing in
+    let put-listing2 = c .before .before .before .before .put-listing2 in
     λ x k.
     fits (listing x) (put-listing .result) (put-listing .ensures x k .next) (omega arith)
     (put-listing2 .ensures x k)

@@ -37,10 +37,8 @@ none h e = put-as (ap (λ (g : Generics). numbered parameterLine 0 (parametersOf
 
 returns : tie.Need-returns
 returns c =
-    let before = c .before .before .before .before .before .before .before .before .before in
-    let peek-2 = c .before .before .before .before .before .peek in
-    let start = before in
-    let peek = peek-2 in
+    let start = c .before .before .before .before .before .before .before .before .before in
+    let peek = c .before .before .before .before .before .peek in
     let t = c .before .before .before .t in
     let leaf = meeting.peeked _ _ (peek .ensures) (t .given .1) in
     let punct = meeting.punct-of _ _ _ _ (leaf .token) in
@@ -49,34 +47,28 @@ returns c =
 
 past-requires : tie.Need-past-requires
 past-requires c κs =
-    let pre-2 = c .before .before .before .before .before .before .before .before .before .pre in
-    let peek-2 = c .before .before .before .before .before .peek in
-    let pre = pre-2 in
-    let peek = peek-2 in
+    let pre = c .before .before .before .before .before .before .before .before .before .pre in
+    let peek = c .before .before .before .before .before .peek in
     (pre, (meeting.peeked _ _ (peek .ensures) ((c .before .before .before .t) .given .1)) .token)
 
 parameter-lines-requires : tie.Need-parameter-lines-requires
 parameter-lines-requires c κs =
-    let pre-2 = c .before .before .before .before .before .before .before .before .before .before .before .before .pre in
-    let peek-2 = c .before .before .before .before .before .before .before .before .peek in
-    let t-2 = c .before .before .before .before .before .before .t in
-    let pre = pre-2 in
-    let peek = peek-2 in
-    let t = t-2 in
+    let pre =
+    c .before .before .before .before .before .before .before .before .before .before .before .before .pre in
+    let peek = c .before .before .before .before .before .before .before .before .peek in
+    let t = c .before .before .before .before .before .before .t in
     let leaf = meeting.peeked _ _ (peek .ensures) (t .given .1) in
     meeting.past-in-of _ _ _ _ (c .before .before .past .ensures) pre (leaf .token)
 
 returns-2 : tie.Need-returns-2
 returns-2 c =
-    let before = c .before .before .before .before .before .before in
-    let start = before in
+    let start = c .before .before .before .before .before .before in
     let end = meeting.peeked _ _ (c .before .before .peek .ensures) (c .enum-told .given .1) in
     λ g k. none (omega (arith, start .good)) (generics-end k end)
 
 returns-3 : tie.Need-returns-3
 returns-3 c =
-    let before = c .before .before .before .before .before .before in
-    let start = before in
+    let start = c .before .before .before .before .before .before in
     let group = meeting.peeked _ _ (c .before .before .peek .ensures) (c .enum-told2 .given .1) in
     λ g k. none (omega (arith, start .good)) (generics-group k _ group)
 
@@ -88,16 +80,11 @@ same-length-2 c = search needs
 
 returns-4 : tie.Need-returns-4
 returns-4 c =
-    let before = c .before .before .before .before .before .before .before .before .before .before .before in
-    let is-punct-2 = c .before .before .before .before .before .before .before .before .before .is-punct in
-    let if1-2 = c .before .before .before .before .before .before .before .before .if1 in
-    let past-2 = c .before .before .before .before .before .before .before .past in
-    let parameter-lines-2 = c .before .before .before .before .parameter-lines in
-    let parameter-lines = parameter-lines-2 in
-    let past = past-2 in
-    let if1 = if1-2 in
-    let is-punct = is-punct-2 in
-    let after-t = before in
+    let after-t = c .before .before .before .before .before .before .before .before .before .before .before in
+    let is-punct = c .before .before .before .before .before .before .before .before .before .is-punct in
+    let if1 = c .before .before .before .before .before .before .before .before .if1 in
+    let past = c .before .before .before .before .before .before .before .past in
+    let parameter-lines = c .before .before .before .before .parameter-lines in
     let t = after-t .t in
     let peek = after-t .before .before .peek in
     let leaf = meeting.peeked _ _ (peek .ensures) (t .given .1) in

@@ -5,7 +5,8 @@ use lib.ListN.{length}
 use mathlib.Core.Path.{ap, _∙_}
 use Rattle.output.specs.Text.{decimal}
 use Rattle.parse.proofs.Inside.{meets-tells}
-use Rattle.describe.proofs.Lined.{Lined, named, turn, lined-start, lined-less, lined-more, lined-done, lined-refused}
+use Rattle.describe.proofs.Lined.{Lined, named, turn, lined-start, lined-less, lined-more, lined-done}
+use Rattle.describe.proofs.Lined.{lined-refused}
 use Rattle.describe.proofs.Worths.{put-as}
 use Rattle.describe.specs.Listing.{FIELD, line}
 use Rattle.describe.proofs.listing.named_lines.Statement.{statement}
@@ -31,37 +32,29 @@ enum-known-name c = search needs
 
 put-named-requires : tie.Need-put-named-requires Inv-loop μ-loop
 put-named-requires c κs =
-    let named-field-2 = c .before .before .before .before .before .before .named-field in
-    let named-field = named-field-2 in
+    let named-field = c .before .before .before .before .before .before .named-field in
     let name = c .before .before .name in
     meets-tells (turn named (name .given .1) (named-field .ensures)) .4 .2 .within
 
 add-count : tie.Need-add-count Inv-loop μ-loop
 add-count c =
-    let before = c .before .before .before .before .before .before .before .before in
-    let back8 = before in
+    let back8 = c .before .before .before .before .before .before .before .before in
     let good = back8 .before .before .before .before .before .before .before .good in
     let loop = back8 .before .before .before .loop in
     omega (arith, loop .inv .few, loop .inv .inList .within, good)
 
 loop-less : tie.Need-loop-less Inv-loop μ-loop
 loop-less c =
-    let loop-2 = c .before .before .before .before .before .before .before .before .before .before .before .loop in
-    let named-field-2 = c .before .before .before .before .before .before .before .before .before .named-field in
-    let name-2 = c .before .before .before .before .before .name in
-    let loop = loop-2 in
-    let named-field = named-field-2 in
-    let name = name-2 in
+    let loop = c .before .before .before .before .before .before .before .before .before .before .before .loop in
+    let named-field = c .before .before .before .before .before .before .before .before .before .named-field in
+    let name = c .before .before .before .before .before .name in
     lined-less named (loop .inv) (turn named (name .given .1) (named-field .ensures)) (λ v h. (h .0, h .1, h .2))
 
 loop-again : tie.Need-loop-again Inv-loop μ-loop
 loop-again c =
-    let loop-2 = c .before .before .before .before .before .before .before .before .before .before .before .loop in
-    let named-field-2 = c .before .before .before .before .before .before .before .before .before .named-field in
-    let name-2 = c .before .before .before .before .before .name in
-    let loop = loop-2 in
-    let named-field = named-field-2 in
-    let name = name-2 in
+    let loop = c .before .before .before .before .before .before .before .before .before .before .before .loop in
+    let named-field = c .before .before .before .before .before .before .before .before .before .named-field in
+    let name = c .before .before .before .before .before .name in
     let put-named = c .before .before .put-named in
     lined-more named (loop .inv) (turn named (name .given .1) (named-field .ensures)) (λ v h. (h .0, h .1, h .2))
     (λ a t. put-as (ap (λ n. line FIELD n (decimal (loop .count))) (t .bytes)) (put-named .ensures))
@@ -72,24 +65,19 @@ enum-told c = search needs
 
 same-length : tie.Need-same-length Inv-loop μ-loop
 same-length c =
-    let loop-2 = c .before .before .before .before .before .before .loop in
-    let named-field-2 = c .before .before .before .before .named-field in
-    let loop = loop-2 in
-    let named-field = named-field-2 in
+    let loop = c .before .before .before .before .before .before .loop in
+    let named-field = c .before .before .before .before .named-field in
     named-field .kept .1 .1 .0 ∙ loop .inv .rolesKept
 
 same-length-2 : tie.Need-same-length-2 Inv-loop μ-loop
 same-length-2 c =
-    let loop-2 = c .before .before .before .before .before .before .loop in
-    let loop = loop-2 in
+    let loop = c .before .before .before .before .before .before .loop in
     loop .inv .outKept
 
 returns : tie.Need-returns Inv-loop μ-loop
 returns c =
-    let loop-2 = c .before .before .before .before .before .before .loop in
-    let named-field-2 = c .before .before .before .before .named-field in
-    let loop = loop-2 in
-    let named-field = named-field-2 in
+    let loop = c .before .before .before .before .before .before .loop in
+    let named-field = c .before .before .before .before .named-field in
     λ xs k. lined-done named (loop .inv) (turn named (c .enum-told .given .1) (named-field .ensures)) (λ v h. h) xs k
 
 enum-told-2 : tie.Need-enum-told-2 Inv-loop μ-loop
@@ -97,24 +85,19 @@ enum-told-2 c = search needs
 
 same-length-3 : tie.Need-same-length-3 Inv-loop μ-loop
 same-length-3 c =
-    let loop-2 = c .before .before .before .before .before .before .loop in
-    let named-field-2 = c .before .before .before .before .named-field in
-    let loop = loop-2 in
-    let named-field = named-field-2 in
+    let loop = c .before .before .before .before .before .before .loop in
+    let named-field = c .before .before .before .before .named-field in
     named-field .kept .1 .1 .0 ∙ loop .inv .rolesKept
 
 same-length-4 : tie.Need-same-length-4 Inv-loop μ-loop
 same-length-4 c =
-    let loop-2 = c .before .before .before .before .before .before .loop in
-    let loop = loop-2 in
+    let loop = c .before .before .before .before .before .before .loop in
     loop .inv .outKept
 
 returns-2 : tie.Need-returns-2 Inv-loop μ-loop
 returns-2 c =
-    let loop-2 = c .before .before .before .before .before .before .loop in
-    let named-field-2 = c .before .before .before .before .named-field in
-    let loop = loop-2 in
-    let named-field = named-field-2 in
+    let loop = c .before .before .before .before .before .before .loop in
+    let named-field = c .before .before .before .before .named-field in
     λ xs k. lined-refused named (loop .inv) (turn named (c .enum-told2 .given .1) (named-field .ensures)) xs k
 
 pub named-lines-spec : {M : Type 1} → statement M

@@ -4,7 +4,8 @@ use Prim.Native.Nat.{ℕ, _+_, _-_}
 use lib.ListN.{length}
 use mathlib.Core.Path.{_∙_}
 use Rattle.parse.proofs.Inside.{meets-tells}
-use Rattle.describe.proofs.Lined.{Lined, parameters, turn, lined-start, lined-less, lined-more, lined-done, lined-refused}
+use Rattle.describe.proofs.Lined.{Lined, parameters, turn, lined-start, lined-less, lined-more, lined-done}
+use Rattle.describe.proofs.Lined.{lined-refused}
 use Rattle.describe.proofs.listing.parameter_lines.Statement.{statement}
 use Rattle.describe.proofs.listing.parameter_lines.Tie as tie
 
@@ -28,10 +29,8 @@ enum-known-p c = search needs
 
 put-parameter-requires : tie.Need-put-parameter-requires Inv-loop μ-loop
 put-parameter-requires c κs =
-    let before-2 = c .before .before .before .before .before .before in
-    let before = before-2 in
+    let after-parameter = c .before .before .before .before .before .before in
     let p = c .before .before .p in
-    let after-parameter = before in
     let parameter = after-parameter .parameter in
     let angle = after-parameter .before .before .before .before .before .before .args .angle in
     let m = meets-tells (turn (parameters angle) (p .given .1) (parameter .ensures)) in
@@ -39,11 +38,8 @@ put-parameter-requires c κs =
 
 loop-less : tie.Need-loop-less Inv-loop μ-loop
 loop-less c =
-    let before-2 = c .before .before .before .before .before .before .before .before .before .before in
-    let p-2 = c .before .before .before .before .before .before .p in
-    let before = before-2 in
-    let p = p-2 in
-    let after-parameter = before in
+    let after-parameter = c .before .before .before .before .before .before .before .before .before .before in
+    let p = c .before .before .before .before .before .before .p in
     let parameter = after-parameter .parameter in
     let loop = after-parameter .before .before .loop in
     let q = parameters (after-parameter .before .before .before .before .before .before .args .angle) in
@@ -51,11 +47,8 @@ loop-less c =
 
 loop-again : tie.Need-loop-again Inv-loop μ-loop
 loop-again c =
-    let before-2 = c .before .before .before .before .before .before .before .before .before .before in
-    let p-2 = c .before .before .before .before .before .before .p in
-    let before = before-2 in
-    let p = p-2 in
-    let after-parameter = before in
+    let after-parameter = c .before .before .before .before .before .before .before .before .before .before in
+    let p = c .before .before .before .before .before .before .p in
     let parameter = after-parameter .parameter in
     let loop = after-parameter .before .before .loop in
     let q = parameters (after-parameter .before .before .before .before .before .before .args .angle) in
@@ -70,26 +63,20 @@ enum-told c = search needs
 
 same-length : tie.Need-same-length Inv-loop μ-loop
 same-length c =
-    let loop-2 = c .before .before .before .before .before .before .loop in
-    let parameter-2 = c .before .before .before .before .parameter in
-    let loop = loop-2 in
-    let parameter = parameter-2 in
+    let loop = c .before .before .before .before .before .before .loop in
+    let parameter = c .before .before .before .before .parameter in
     parameter .kept .1 .1 .0 ∙ loop .inv .1 .rolesKept
 
 same-length-2 : tie.Need-same-length-2 Inv-loop μ-loop
 same-length-2 c =
-    let loop-2 = c .before .before .before .before .before .before .loop in
-    let loop = loop-2 in
+    let loop = c .before .before .before .before .before .before .loop in
     loop .inv .1 .outKept
 
 returns : tie.Need-returns Inv-loop μ-loop
 returns c =
-    let args-2 = c .before .before .before .before .before .before .before .before .before .before .args in
-    let loop-2 = c .before .before .before .before .before .before .loop in
-    let parameter-2 = c .before .before .before .before .parameter in
-    let args = args-2 in
-    let loop = loop-2 in
-    let parameter = parameter-2 in
+    let args = c .before .before .before .before .before .before .before .before .before .before .args in
+    let loop = c .before .before .before .before .before .before .loop in
+    let parameter = c .before .before .before .before .parameter in
     let q = parameters (args .angle) in
     λ xs k. lined-done q (loop .inv .1) (turn q (c .enum-told .given .1) (parameter .ensures)) (λ v h. h) xs k
 
@@ -98,26 +85,20 @@ enum-told-2 c = search needs
 
 same-length-3 : tie.Need-same-length-3 Inv-loop μ-loop
 same-length-3 c =
-    let loop-2 = c .before .before .before .before .before .before .loop in
-    let parameter-2 = c .before .before .before .before .parameter in
-    let loop = loop-2 in
-    let parameter = parameter-2 in
+    let loop = c .before .before .before .before .before .before .loop in
+    let parameter = c .before .before .before .before .parameter in
     parameter .kept .1 .1 .0 ∙ loop .inv .1 .rolesKept
 
 same-length-4 : tie.Need-same-length-4 Inv-loop μ-loop
 same-length-4 c =
-    let loop-2 = c .before .before .before .before .before .before .loop in
-    let loop = loop-2 in
+    let loop = c .before .before .before .before .before .before .loop in
     loop .inv .1 .outKept
 
 returns-2 : tie.Need-returns-2 Inv-loop μ-loop
 returns-2 c =
-    let args-2 = c .before .before .before .before .before .before .before .before .before .before .args in
-    let loop-2 = c .before .before .before .before .before .before .loop in
-    let parameter-2 = c .before .before .before .before .parameter in
-    let args = args-2 in
-    let loop = loop-2 in
-    let parameter = parameter-2 in
+    let args = c .before .before .before .before .before .before .before .before .before .before .args in
+    let loop = c .before .before .before .before .before .before .loop in
+    let parameter = c .before .before .before .before .parameter in
     let q = parameters (args .angle) in
     λ xs k. lined-refused q (loop .inv .1) (turn q (c .enum-told2 .given .1) (parameter .ensures)) xs k
 

@@ -22,11 +22,9 @@ enum-known-d c = search needs
 
 fit-listing-requires : tie.Need-fit-listing-requires
 fit-listing-requires c κs =
-    let args-2 = c .before .before .before .before .before .before .before .before .before .before .before .before .args in
-    let item-2 = c .before .before .before .before .before .before .before .item in
     let args =
-    args-2 in
-    let item = item-2 in
+    c .before .before .before .before .before .before .before .before .before .before .before .before .args in
+    let item = c .before .before .before .before .before .before .before .item in
     let m = meets-tells (meeting.say (itemShown (args .s .now) first) itemSaid
     ((c .before .before .before .d) .given .1) (item .ensures)) in
     (m .0, m .4 .0)
@@ -36,10 +34,8 @@ same-length c = search needs
 
 returns : tie.Need-returns
 returns c =
-    let args-2 = c .before .before .before .before .before .before .before .before .before .before .args in
-    let item-2 = c .before .before .before .before .before .item in
-    let args = args-2 in
-    let item = item-2 in
+    let args = c .before .before .before .before .before .before .before .before .before .before .args in
+    let item = c .before .before .before .before .before .item in
     let e = meets-refusal (meeting.say (itemShown (args .s .now) first) itemSaid ((c .before .r) .given .1)
     (item .ensures)) .1 in
     written-refused (ap (λ t. fitted (length (args .out .now)) (itemAnswer t)) e)
@@ -52,10 +48,8 @@ same-length-3 c = search needs
 
 returns-2 : tie.Need-returns-2
 returns-2 c =
-    let before = c .before .before .before .before .before .before .before .before in
-    let fit-listing-2 = c .before .before .before .before .fit-listing in
-    let fit-listing = fit-listing-2 in
-    let after-d = before in
+    let after-d = c .before .before .before .before .before .before .before .before in
+    let fit-listing = c .before .before .before .before .fit-listing in
     let d = after-d .d in
     let item = after-d .before .before .before .before .item in
     let args = after-d .before .before .before .before .before .before .before .before .before .args in

@@ -19,10 +19,8 @@ same-length-2 c = search needs
 
 returns : tie.Need-returns
 returns c =
-    let args-2 = c .before .before .before .before .before .before .before .before .before .before .before .args in
-    let named-lines-2 = c .before .before .before .before .named-lines in
-    let args = args-2 in
-    let named-lines = named-lines-2 in
+    let args = c .before .before .before .before .before .before .before .before .before .before .before .args in
+    let named-lines = c .before .before .before .before .named-lines in
     λ f k.
     let a = subst (λ z. fieldsIn z (args .s .now) (args .c) f) (eq-eqb (args .delimiter) 123 (omega arith)) k in
     put-as (ap fieldLines (a .1)) (named-lines .ensures (a .0) (a .2))
@@ -38,10 +36,8 @@ same-length-4 c = search needs
 
 returns-2 : tie.Need-returns-2
 returns-2 c =
-    let args-2 = c .before .before .before .before .before .before .before .before .before .before .before .args in
-    let tuple-lines-2 = c .before .before .before .before .tuple-lines in
-    let args = args-2 in
-    let tuple-lines = tuple-lines-2 in
+    let args = c .before .before .before .before .before .before .before .before .before .before .before .args in
+    let tuple-lines = c .before .before .before .before .tuple-lines in
     λ f k.
     let a = subst (λ z. fieldsIn z (args .s .now) (args .c) f) (ne-eqb (args .delimiter) 123 (λ e. omega arith)) k in
     put-as (ap fieldLines (a .1)) (tuple-lines .ensures (a .0) (a .2))

@@ -5,7 +5,8 @@ use lib.ListN.{length}
 use mathlib.Core.Path.{_∙_}
 use Rattle.output.proofs.Texts.{joined}
 use Rattle.parse.proofs.Inside.{meets-tells}
-use Rattle.describe.proofs.Lined.{Lined, variants, turn, lined-start, lined-less, lined-more, lined-done, lined-refused}
+use Rattle.describe.proofs.Lined.{Lined, variants, turn, lined-start, lined-less, lined-more, lined-done}
+use Rattle.describe.proofs.Lined.{lined-refused}
 use Rattle.describe.proofs.listing.variant_lines.Statement.{statement}
 use Rattle.describe.proofs.listing.variant_lines.Tie as tie
 
@@ -29,25 +30,22 @@ enum-known-v c = search needs
 
 put-variant-requires : tie.Need-put-variant-requires Inv-loop μ-loop
 put-variant-requires c κs =
-    let variant-2 = c .before .before .before .before .before .before .variant in
-    let variant = variant-2 in
+    let variant = c .before .before .before .before .before .before .variant in
     let v = c .before .before .v in
     let m = meets-tells (turn variants (v .given .1) (variant .ensures)) in
     (m .4 .0, m .4 .2)
 
 field-lines-requires : tie.Need-field-lines-requires Inv-loop μ-loop
 field-lines-requires c κs =
-    let variant-2 = c .before .before .before .before .before .before .before .before .before .before .before .variant in
-    let v-2 = c .before .before .before .before .before .before .before .v in
-    let variant = variant-2 in
-    let v = v-2 in
+    let variant =
+    c .before .before .before .before .before .before .before .before .before .before .before .variant in
+    let v = c .before .before .before .before .before .before .before .v in
     let m = meets-tells (turn variants (v .given .1) (variant .ensures)) in
     (m .4 .0 .fields, m .4 .2 .fields)
 
 add-number : tie.Need-add-number Inv-loop μ-loop
 add-number c =
-    let before = c .before .before .before .before .before .before .before .before .before .before in
-    let after-put-variant = before in
+    let after-put-variant = c .before .before .before .before .before .before .before .before .before .before in
     let after-loop = after-put-variant .before .before .before .before .before .before .before .before .before in
     let loop = after-loop .loop in
     let start = after-loop .before .before .before .before in
@@ -55,8 +53,7 @@ add-number c =
 
 loop-less : tie.Need-loop-less Inv-loop μ-loop
 loop-less c =
-    let before = c .before .before .before .before .before .before .before .before .before .before in
-    let after-put-variant = before in
+    let after-put-variant = c .before .before .before .before .before .before .before .before .before .before in
     let v = after-put-variant .before .before .before .v in
     let variant = after-put-variant .before .before .before .before .before .before .before .variant in
     let loop = after-put-variant .before .before .before .before .before .before .before .before .before .loop in
@@ -64,10 +61,8 @@ loop-less c =
 
 loop-again : tie.Need-loop-again Inv-loop μ-loop
 loop-again c =
-    let before = c .before .before .before .before .before .before .before .before .before .before in
-    let field-lines-2 = c .before .before .before .before .before .field-lines in
-    let field-lines = field-lines-2 in
-    let after-put-variant = before in
+    let after-put-variant = c .before .before .before .before .before .before .before .before .before .before in
+    let field-lines = c .before .before .before .before .before .field-lines in
     let put-variant = after-put-variant .put-variant in
     let v = after-put-variant .before .before .before .v in
     let variant = after-put-variant .before .before .before .before .before .before .before .variant in
@@ -82,24 +77,19 @@ enum-told c = search needs
 
 same-length : tie.Need-same-length Inv-loop μ-loop
 same-length c =
-    let loop-2 = c .before .before .before .before .before .before .loop in
-    let variant-2 = c .before .before .before .before .variant in
-    let loop = loop-2 in
-    let variant = variant-2 in
+    let loop = c .before .before .before .before .before .before .loop in
+    let variant = c .before .before .before .before .variant in
     variant .kept .1 .1 .0 ∙ loop .inv .rolesKept
 
 same-length-2 : tie.Need-same-length-2 Inv-loop μ-loop
 same-length-2 c =
-    let loop-2 = c .before .before .before .before .before .before .loop in
-    let loop = loop-2 in
+    let loop = c .before .before .before .before .before .before .loop in
     loop .inv .outKept
 
 returns : tie.Need-returns Inv-loop μ-loop
 returns c =
-    let loop-2 = c .before .before .before .before .before .before .loop in
-    let variant-2 = c .before .before .before .before .variant in
-    let loop = loop-2 in
-    let variant = variant-2 in
+    let loop = c .before .before .before .before .before .before .loop in
+    let variant = c .before .before .before .before .variant in
     λ xs k. lined-done variants (loop .inv) (turn variants (c .enum-told .given .1) (variant .ensures)) (λ v h. h) xs k
 
 enum-told-2 : tie.Need-enum-told-2 Inv-loop μ-loop
@@ -107,24 +97,19 @@ enum-told-2 c = search needs
 
 same-length-3 : tie.Need-same-length-3 Inv-loop μ-loop
 same-length-3 c =
-    let loop-2 = c .before .before .before .before .before .before .loop in
-    let variant-2 = c .before .before .before .before .variant in
-    let loop = loop-2 in
-    let variant = variant-2 in
+    let loop = c .before .before .before .before .before .before .loop in
+    let variant = c .before .before .before .before .variant in
     variant .kept .1 .1 .0 ∙ loop .inv .rolesKept
 
 same-length-4 : tie.Need-same-length-4 Inv-loop μ-loop
 same-length-4 c =
-    let loop-2 = c .before .before .before .before .before .before .loop in
-    let loop = loop-2 in
+    let loop = c .before .before .before .before .before .before .loop in
     loop .inv .outKept
 
 returns-2 : tie.Need-returns-2 Inv-loop μ-loop
 returns-2 c =
-    let loop-2 = c .before .before .before .before .before .before .loop in
-    let variant-2 = c .before .before .before .before .variant in
-    let loop = loop-2 in
-    let variant = variant-2 in
+    let loop = c .before .before .before .before .before .before .loop in
+    let variant = c .before .before .before .before .variant in
     λ xs k. lined-refused variants (loop .inv) (turn variants (c .enum-told2 .given .1) (variant .ensures)) xs k
 
 pub variant-lines-spec : {M : Type 1} → statement M

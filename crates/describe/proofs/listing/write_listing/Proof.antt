@@ -22,15 +22,13 @@ slice-aggregate-read-listing c = search needs
 
 read-listing-requires : tie.Need-read-listing-requires
 read-listing-requires c κs =
-    let check-2 = c .before .before .before .before .check in
-    let check = check-2 in
+    let check = c .before .before .before .before .check in
     let enum-told = c .before .before .enum-told in
     first-in _ _ (sym (check .ensures .answer) ∙ ap checked (enum-told .given .1))
 
 returns : tie.Need-returns
 returns c =
-    let args-2 = c .before .before .before .before .before .before .args in
-    let args = args-2 in
+    let args = c .before .before .before .before .before .before .args in
     let e = listing-checked (args .list .now) (length (args .out .now))
     (sym (c .before .before .before .check .ensures .answer) ∙ ap checked ((c .before .r) .given .1)) in (
       written-refused e,
@@ -42,11 +40,9 @@ same-length c = search needs
 
 returns-2 : tie.Need-returns-2
 returns-2 c =
-    let args-2 = c .before .before .before .before .before .before .before .before .before .before .before .args in
-    let check-2 = c .before .before .before .before .before .before .before .before .check in
+    let args = c .before .before .before .before .before .before .before .before .before .before .before .args in
+    let check = c .before .before .before .before .before .before .before .before .check in
     let enum-told-2 = c .before .before .before .before .before .before .enum-told in
-    let args = args-2 in
-    let check = check-2 in
     let enum-told = enum-told-2 in (
       written-as
           (listing-read (args .list .now) (length (args .out .now))

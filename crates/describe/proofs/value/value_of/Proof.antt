@@ -3,7 +3,8 @@ use lib.ListN.{length}
 use native.Mathlib.Omega.{arith}
 use mathlib.Core.Path.{ap, sym, _∙_}
 use Rattle.token_list.specs.Contract.{checked}
-use Rattle.describe.proofs.Answers.{placed-as, placed-refused, value-checked, value-short, value-read, value-refusal}
+use Rattle.describe.proofs.Answers.{placed-as, placed-refused, value-checked, value-short, value-read}
+use Rattle.describe.proofs.Answers.{value-refusal}
 use Rattle.token_list.proofs.Bounds.{bounds}
 use borrow.Author.Needs.{needs}
 use Rattle.describe.proofs.value.value_of.Statement.{statement}

@@ -23,7 +23,7 @@ same-length c = search needs
 
 returns : tie.Need-returns
 returns c =
-    let args-2 = c .before .before .before .before .before .before .before .before .before .before .before .before
+    let args = c .before .before .before .before .before .before .before .before .before .before .before .before
     .before .before .before .before .before .before .args in
     let good = c .before .before .before .before .before .before .before .before .before .before .before .before
     .before .before .before .before .before .before .good in
@@ -31,7 +31,6 @@ returns c =
     .before .before .before .put-refusal in
     let put-meaning = c .before .before .before .before .before .before .before .before .before .before .put-meaning in
     let put-byte = c .before .before .before .before .before .before .put-byte in
-    let args = args-2 in
     let head = put-refusal .ensures in
     let rest = joined (put-meaning .ensures) (joined (put-byte .ensures) (c .before .before .put-near .ensures)) in
     let text = joined (from-printed (head .0) (head .1) (omega (arith, good))) rest in

@@ -30,28 +30,22 @@ put-bytes-requires c κs = search needs
 
 slice-reshare-prefix-put-roles : tie.Need-slice-reshare-prefix-put-roles
 slice-reshare-prefix-put-roles c =
-    let args-2 = c .before .before .before .before .before .before .before .before .before .before .before .before
+    let args = c .before .before .before .before .before .before .before .before .before .before .before .before
     .before .before .before .before .args in
-    let read-roles-2 = c .before .before .before .before .before .before .before .before .before .before .before
+    let read-roles = c .before .before .before .before .before .before .before .before .before .before .before
     .read-roles in
-    let n-2 = c .before .before .before .before .before .before .before .n in
-    let n = n-2 in
-    let read-roles = read-roles-2 in
-    let args = args-2 in
+    let n = c .before .before .before .before .before .before .before .n in
     let f = found (n .given .0 .0) (answer (args .list .now) (length (args .roles .now))) (n .given .1)
     (read-roles .ensures .0) in
     f .within
 
 slice-aggregate-put-roles : tie.Need-slice-aggregate-put-roles
 slice-aggregate-put-roles c =
-    let args-2 = c .before .before .before .before .before .before .before .before .before .before .before .before
+    let args = c .before .before .before .before .before .before .before .before .before .before .before .before
     .before .before .before .before .before .args in
-    let read-roles-2 = c .before .before .before .before .before .before .before .before .before .before .before
+    let read-roles = c .before .before .before .before .before .before .before .before .before .before .before
     .before .read-roles in
-    let n-2 = c .before .before .before .before .before .before .before .before .n in
-    let n = n-2 in
-    let read-roles = read-roles-2 in
-    let args = args-2 in
+    let n = c .before .before .before .before .before .before .before .before .n in
     let f = found (n .given .0 .0) (answer (args .list .now) (length (args .roles .now))) (n .given .1)
     (read-roles .ensures .0) in
     sym (length-take-le (n .given .0 .0) (read-roles .last .1 .0) (f .within))
@@ -67,14 +61,11 @@ same-length-2 c = search needs
 
 returns : tie.Need-returns
 returns c =
-    let args-2 = c .before .before .before .before .before .before .before .before .before .before .before .before
+    let args = c .before .before .before .before .before .before .before .before .before .before .before .before
     .before .before .args in
-    let read-roles-2 = c .before .before .before .before .before .before .before .before .before .read-roles in
-    let r-2 = c .before .before .before .before .before .r in
+    let read-roles = c .before .before .before .before .before .before .before .before .before .read-roles in
+    let r = c .before .before .before .before .before .r in
     let put-refused = c .before .before .put-refused in
-    let r = r-2 in
-    let read-roles = read-roles-2 in
-    let args = args-2 in
     let none = not-found (read-roles .last .1 .0) (r .given .0 .0)
     (answer (args .list .now) (length (args .roles .now))) (r .given .1) (read-roles .ensures .0) in (
       rw none (put-refused .ensures .0),
@@ -92,15 +83,12 @@ same-length-4 c = search needs
 
 returns-2 : tie.Need-returns-2
 returns-2 c =
-    let args-2 = c .before .before .before .before .before .before .before .before .before .before .before .before
+    let args = c .before .before .before .before .before .before .before .before .before .before .before .before
     .before .before .before .before .before .before .before .before .args in
-    let read-roles-2 = c .before .before .before .before .before .before .before .before .before .before .before
+    let read-roles = c .before .before .before .before .before .before .before .before .before .before .before
     .before .before .before .before .read-roles in
-    let n-2 = c .before .before .before .before .before .before .before .before .before .before .before .n in
+    let n = c .before .before .before .before .before .before .before .before .before .before .before .n in
     let put-bytes = c .before .before .before .before .before .before .before .put-bytes in
-    let n = n-2 in
-    let read-roles = read-roles-2 in
-    let args = args-2 in
     let f = found (n .given .0 .0) (answer (args .list .now) (length (args .roles .now))) (n .given .1)
     (read-roles .ensures .0) in
     let few = explained-few (args .list .now) (length (args .roles .now)) (f .declaration) _ (f .same) in

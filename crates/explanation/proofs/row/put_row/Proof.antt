@@ -26,8 +26,7 @@ same-length c = kept (c .before .before .loop .inv .2)
 
 returns : tie.Need-returns Inv-loop μ-loop
 returns c =
-    let args-2 = c .before .before .before .before .before .args in
-    let args = args-2 in
+    let args = c .before .before .before .before .before .args in
     retold (ap (λ (k : ℕ). shown (take k (args .row .now))) (c .if1 .taken)) (c .before .before .loop .inv .2)
 
 shared-slice-read-put-shown : tie.Need-shared-slice-read-put-shown Inv-loop μ-loop
@@ -45,8 +44,7 @@ loop-less c = omega arith
 loop-again : tie.Need-loop-again Inv-loop μ-loop
 loop-again c =
     let args = c .before .before .before .before .before .before .before .before .before .before .args in
-    let loop-2 = c .before .before .before .before .before .before .before .loop in
-    let loop = loop-2 in
+    let loop = c .before .before .before .before .before .before .before .loop in
     let t = args .row .now in
     let more : loop .i < length t = omega arith in (
       omega arith,
@@ -60,12 +58,11 @@ same-length-2 c = kept (c .before .loop .inv .2)
 
 returns-2 : tie.Need-returns-2 Inv-loop μ-loop
 returns-2 c =
-    let args-2 = c .before .before .before .before .args in
-    let args = args-2 in
+    let args = c .before .before .before .before .args in
     let loop = c .before .loop in
     let t = args .row .now in
-    let whole : length t ≤ loop .i = omega arith in
-    let all : take (loop .i) t ≡ take (args .most) t = take-all (loop .i) t whole ∙ sym (take-all (args .most) t
+    let at-end : length t ≤ loop .i = omega arith in
+    let all : take (loop .i) t ≡ take (args .most) t = take-all (loop .i) t at-end ∙ sym (take-all (args .most) t
     (omega arith)) in
     retold (ap shown all) (loop .inv .2)
 

@@ -42,11 +42,9 @@ loop-less c = omega arith
 
 loop-again : tie.Need-loop-again Inv-loop μ-loop
 loop-again c =
-    let args-2 = c .before .before .before .before .before .before .before .before .before .before .args in
+    let args = c .before .before .before .before .before .before .before .before .before .before .args in
     let count-rows = c .before .before .before .before .before .before .before .count-rows in
-    let loop-2 = c .before .before .before .before .before .before .loop in
-    let args = args-2 in
-    let loop = loop-2 in
+    let loop = c .before .before .before .before .before .before .loop in
     let all = bytesFrom (args .list .now) FIRST-ROW in
     let count = count-rows .result in
     let went = c .next-at .ensures in
@@ -63,14 +61,13 @@ same-length c = kept (c .before .loop .inv .3)
 
 returns : tie.Need-returns Inv-loop μ-loop
 returns c =
-    let args-2 = c .before .before .before .before .before .args in
+    let args = c .before .before .before .before .before .args in
     let count-rows = c .before .before .count-rows in
-    let args = args-2 in
     let loop = c .before .loop in
     let all = bytesFrom (args .list .now) FIRST-ROW in
     let counted = count-rows .ensures in
-    let whole = take-all (loop .i) all (omega (arith, counted)) in
-    retold (ap (nearRows (args .place) (count-rows .result) 0) whole ∙
+    let shown = take-all (loop .i) all (omega (arith, counted)) in
+    retold (ap (nearRows (args .place) (count-rows .result) 0) shown ∙
     ap (λ (n : ℕ). nearRows (args .place) n 0 all) counted) (loop .inv .3)
 
 pub put-near-spec : {M : Type 1} → statement M

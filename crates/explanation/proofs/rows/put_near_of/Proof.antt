@@ -14,9 +14,8 @@ is-near-requires c κs = search needs
 
 returns : tie.Need-returns
 returns c =
-    let args-2 = c .before .before .before .before .args in
+    let args = c .before .before .before .before .args in
     let good = c .before .before .before .before .good in
-    let args = args-2 in
     let none = not-near (args .place) (args .count) (args .n) (bytesFrom (args .list .now) (args .from))
     (sym (c .before .is-near .ensures) ∙ not-true _ (c .if1 .taken)) in
     retold none (nothing _ _ (omega (arith, good)))
@@ -65,25 +64,22 @@ same-length c = search needs
 
 returns-2 : tie.Need-returns-2
 returns-2 c =
-    let args-2 = c .before .before .before .before .before .before .before .before .before .before .before .before
+    let args = c .before .before .before .before .before .before .before .before .before .before .before .before
     .before .args in
     let is-near = c .before .before .before .before .before .before .before .before .before .before .is-near in
     let if1 = c .before .before .before .before .before .before .before .before .before .if1 in
     let peek-at = c .before .before .before .before .before .before .before .before .peek-at in
-    let start-2 = c .before .before .before .before .before .before .start in
-    let start = start-2 in
-    let row = row-shown (args-2 .list .now) (args-2 .from) (peek-at .ensures) (start .given .0 .0)
+    let start = c .before .before .before .before .before .before .start in
+    let row = row-shown (args .list .now) (args .from) (peek-at .ensures) (start .given .0 .0)
     (start .given .0 .1 .0) (start .given .1) in
-    let args = args-2 in
     let test = sym (is-near .ensures) ∙ not-false _ (if1 .left) in
     retold (near-here (args .place) (args .count) (args .n) test (row .here))
     (c .before .before .put-near-line .ensures)
 
 returns-3 : tie.Need-returns-3
 returns-3 c =
-    let args-2 = c .before .before .before .before .before .before .before .args in
+    let args = c .before .before .before .before .before .before .before .args in
     let good = c .before .before .before .before .before .before .before .good in
-    let args = args-2 in
     let none = none-shown (args .list .now) (args .from) (c .before .before .peek-at .ensures)
     (c .enum-told .given .1) in
     retold (near-none (args .place) (args .count) (args .n) none) (nothing _ _ (omega (arith, good)))

@@ -52,17 +52,15 @@ returns : tie.Need-returns
 returns c =
     let args = c .before .before .before .before .before .before .before .before .before .before .before .args in
     let peek-at = c .before .before .before .before .before .before .before .before .peek-at in
-    let start-2 = c .before .before .before .before .before .before .start in
-    let start = start-2 in
+    let start = c .before .before .before .before .before .before .start in
     let row = row-shown (args .list .now) (args .from) (peek-at .ensures) (start .given .0 .0)
     (start .given .0 .1 .0) (start .given .1) in
     retold (role-here (args .n) (args .role) (row .here)) (c .before .before .put-role-line .ensures)
 
 returns-2 : tie.Need-returns-2
 returns-2 c =
-    let args-2 = c .before .before .before .before .before .args in
+    let args = c .before .before .before .before .before .args in
     let good = c .before .before .before .before .before .good in
-    let args = args-2 in
     let none = none-shown (args .list .now) (args .from) (c .before .before .peek-at .ensures)
     (c .enum-told .given .1) in
     retold (role-none (args .n) (args .role) none) (nothing _ _ (omega (arith, good)))

@@ -43,10 +43,8 @@ loop-less c = omega arith
 
 loop-again : tie.Need-loop-again Inv-loop μ-loop
 loop-again c =
-    let args-2 = c .before .before .before .before .before .before .before .before .before .before .before .args in
-    let loop-2 = c .before .before .before .before .before .before .before .loop in
-    let args = args-2 in
-    let loop = loop-2 in
+    let args = c .before .before .before .before .before .before .before .before .before .before .before .args in
+    let loop = c .before .before .before .before .before .before .before .loop in
     let all = bytesFrom (args .list .now) FIRST-ROW in
     let t = args .roles .now in
     let more : loop .i < length t = omega arith in
@@ -64,8 +62,7 @@ same-length c = kept (c .before .loop .inv .3)
 
 returns : tie.Need-returns Inv-loop μ-loop
 returns c =
-    let args-2 = c .before .before .before .before .before .args in
-    let args = args-2 in
+    let args = c .before .before .before .before .before .args in
     let loop = c .before .loop in
     let t = args .roles .now in
     retold (ap (λ (rs : List ℕ). roleRows 0 rs (bytesFrom (args .list .now) FIRST-ROW)) (take-all (loop .i) t

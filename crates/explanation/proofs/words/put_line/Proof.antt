@@ -59,11 +59,9 @@ returns : tie.Need-returns
 returns c =
     let args = c .before .before .before .before .before .before .before .before .before .before .before .before .args
     in
-    let seek-2 = c .before .before .before .before .before .before .before .before .before .seek in
+    let seek = c .before .before .before .before .before .before .before .before .before .seek in
     let peek-at = c .before .before .before .before .before .before .before .before .peek-at in
-    let start-2 = c .before .before .before .before .before .before .start in
-    let start = start-2 in
-    let seek = seek-2 in
+    let start = c .before .before .before .before .before .before .start in
     let row = row-shown (args .text .now) (seek .result .at) (peek-at .ensures) (start .given .0 .0)
     (start .given .0 .1 .0) (start .given .1) in
     retold (ap first (sym (row .here) ∙ seek .ensures .rest)) (c .before .before .put-bytes .ensures)

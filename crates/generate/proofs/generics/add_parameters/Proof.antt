@@ -6,7 +6,8 @@ use lib.ListN.{length}
 use Rattle.writing.specs.Names.{namesOf}
 use Rattle.writing.specs.Generics.{addedType}
 use Rattle.generate.specs.Contract.{shaped}
-use Rattle.generate.proofs.Parameters.{Turned, turn, turned-start, turned-less, turned-in, turned-more, turned-done, turned-refused}
+use Rattle.generate.proofs.Parameters.{Turned, turn, turned-start, turned-less, turned-in, turned-more}
+use Rattle.generate.proofs.Parameters.{turned-done, turned-refused}
 use Rattle.generate.proofs.generics.add_parameters.Statement.{statement}
 use Rattle.generate.proofs.generics.add_parameters.Tie as tie
 

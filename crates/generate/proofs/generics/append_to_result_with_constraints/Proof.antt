@@ -23,8 +23,7 @@ put-constraints-requires : tie.Need-put-constraints-requires
 put-constraints-requires c κs =
     let back8 = c .before .before .before .before .before .before .before .before in
     let back16 = back8 .before .before .before .before .before .before .before .before in
-    let before = back16 .before in
-    let start = before in
+    let start = back16 .before in
     let s = start .args .s .now in
     let same = c .before .before .before .constraints .ensures in
     let pre = start .pre in

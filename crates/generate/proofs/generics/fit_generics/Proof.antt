@@ -20,8 +20,7 @@ returns : tie.Need-returns
 returns c =
     let back8 = c .before .before .before .before .before .before .before .before in
     let args = back8 .before .before .before .before .before .args in
-    let put-generics = c .before .before .before .before .before .put-generics in
-    let put = put-generics in
+    let put = c .before .before .before .before .before .put-generics in
     let f = parametersBy (args .names) (args .lifetimes .now) (args .types .now) in
     λ g k. fits-not (listOf (genericsRows f g)) (put .result .bytes) (put .ensures g k .put .next) (omega arith)
 

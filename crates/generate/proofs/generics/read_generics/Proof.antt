@@ -46,10 +46,9 @@ fit-generics-requires : tie.Need-fit-generics-requires
 fit-generics-requires c κs =
     let back8 = c .before .before .before .before .before .before .before .before in
     let back16 = back8 .before .before .before .before .before .before .before .before in
-    let before = back16 .before in
+    let start = back16 .before in
     let item = back8 .before .before .item in
     let d = c .before .before .before .before .before .before .d in
-    let start = before in
     let told = meeting.say (itemShown (start .args .s .now) first) itemSaid (d .given .1) (item .ensures) in
     (start .pre, meets-tells told .4 .0 .generics .inList)
 

@@ -55,8 +55,7 @@ loop-less c =
 
 loop-again : tie.Need-loop-again Inv-loop μ-loop
 loop-again c =
-    let before = c .before .before .before .before .before in
-    let end = before in
+    let end = c .before .before .before .before .before in
     let turn = end .before .before in
     let args = turn .before .before .before .args in
     let text = args .text .now in

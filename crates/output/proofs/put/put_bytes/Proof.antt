@@ -32,8 +32,7 @@ loop-less c = omega arith
 
 loop-again : tie.Need-loop-again Inv-loop μ-loop
 loop-again c =
-    let before = c .before .before .before .before .before .before in
-    let l = before in
+    let l = c .before .before .before .before .before .before in
     let t = l .before .before .before .args .text .now in
     let more : l .loop .i < length t = omega arith in (
       omega arith,
@@ -45,8 +44,7 @@ same-length c = kept (c .before .loop .inv .1)
 
 returns : tie.Need-returns Inv-loop μ-loop
 returns c =
-    let args-2 = c .before .before .before .before .args in
-    let args = args-2 in
+    let args = c .before .before .before .before .args in
     let t = args .text .now in
     rw (take-all (c .before .loop .i) t (omega arith)) at (c .before .loop .inv .1)
 

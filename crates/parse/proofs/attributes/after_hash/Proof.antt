@@ -181,7 +181,8 @@ returns-7 c =
           (meeting.punct-of _ _ _ _ (l .token) ∙ sym (is-punct .ensures) ∙ not-false _ (if1 .left))
           _ (past .ensures) _ k _ _ ((c .before .before .set-role) .ensures)
           (meeting.punct-of _ _ _ _ (k .token) ∙ sym (is-punct2 .ensures) ∙ not-false _ (if2 .left)),
-      subst (λ (n : ℕ). contract.TokenIn (args .s .now) n (q .given .0 .0)) (ap (λ (x : Cursor). x .row) (past .ensures))
+      subst (λ (n : ℕ). contract.TokenIn (args .s .now) n (q .given .0 .0))
+          (ap (λ (x : Cursor). x .row) (past .ensures))
           (places.token-in _ _ _ below (k .token)),
     )
 
@@ -212,7 +213,8 @@ returns-8 c =
           (meeting.punct-of _ _ _ _ (l .token) ∙ sym (is-punct .ensures) ∙ not-false _ (if1 .left))
           _ (past .ensures) _ below k _ _ _ _ (if3 .left) (set-role2 .ensures)
           ((c .before .before .take-group) .ensures),
-      subst (λ (n : ℕ). contract.TokenIn (args .s .now) n (g .given .0 .0)) (ap (λ (x : Cursor). x .row) (past .ensures))
+      subst (λ (n : ℕ). contract.TokenIn (args .s .now) n (g .given .0 .0))
+          (ap (λ (x : Cursor). x .row) (past .ensures))
           (places.token-in _ _ _ below (k .token)),
     )
 

@@ -77,7 +77,8 @@ same-length-3 c = search needs
 returns-3 : tie.Need-returns-3
 returns-3 c =
     let consume-ident = c .before .before .before .before .before .consume-ident in
-    meeting.meets-missing reading.namedKind (meeting.say-word ((c .before .enum-told) .given .1) (consume-ident .ensures))
+    meeting.meets-missing reading.namedKind
+    (meeting.say-word ((c .before .enum-told) .given .1) (consume-ident .ensures))
     (meeting.meets-wrong _ _ ((c .wrong-token) .ensures))
 
 same-length-4 : tie.Need-same-length-4

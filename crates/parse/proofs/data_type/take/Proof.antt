@@ -14,11 +14,11 @@ use Rattle.parse.proofs.data_type.take.Statement.{statement}
 use Rattle.parse.proofs.data_type.take.Tie as tie
 
 -- the name, and the head that the word and the name make
-abbrev whole : declaration.Kind → List ℕ → Reader reading.Head
-whole k n = pure (record { kind = k; name = n })
+abbrev head-of : declaration.Kind → List ℕ → Reader reading.Head
+head-of k n = pure (record { kind = k; name = n })
 
 abbrev name-of : declaration.Kind → reading.Word → Reader reading.Head
-name-of k v = reading.named! v >>= whole k
+name-of k v = reading.named! v >>= head-of k
 
 abbrev rest : declaration.Kind → Reader reading.Head
 rest k = reading.word role.item-name >>= name-of k

@@ -14,8 +14,7 @@ same-length c = search needs
 
 returns : tie.Need-returns
 returns c =
-    let before = c .before .before .before .before .before .before .before in
-    let d = before in
+    let d = c .before .before .before .before .before .before .before in
     (skipped-open (d .args .s .now) (d .args .c) (c .skip .result) (d .pre .1) (c .skip .ensures), search needs)
 
 pub close-group-spec : {M : Type 1} → statement M

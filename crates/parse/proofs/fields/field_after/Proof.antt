@@ -47,7 +47,8 @@ returns c =
     let wrong-token = c .wrong-token in
     λ p n.
     meeting.meets-then (colon p n) (consume-punct-if .ensures .0)
-    (λ t e. meeting.meets-as (ap (λ x. colon p n x (d .row) (contract.stream (args .s .now) d)) (sym e ∙ not-true _ (if1 .taken)))
+    (λ t e. meeting.meets-as
+    (ap (λ x. colon p n x (d .row) (contract.stream (args .s .now) d)) (sym e ∙ not-true _ (if1 .taken)))
     (meeting.meets-wrong _ _ (wrong-token .ensures)))
 
 field-type-requires : tie.Need-field-type-requires

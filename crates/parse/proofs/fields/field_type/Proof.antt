@@ -21,7 +21,8 @@ consume-punct-if-requires c κs =
     let args = c .before .before .before .before .before .before .before .before .before .before .args in
     let read-tokens-until-punct = c .before .before .before .before .before .before .read-tokens-until-punct in
     let to = c .before .before .to in
-    meeting.landed (meeting.say (contract.runShown (args .s .now) reading.fieldStops role.type (args .c)) contract.runSaid
+    meeting.landed
+    (meeting.say (contract.runShown (args .s .now) reading.fieldStops role.type (args .c)) contract.runSaid
     (to .given .1) (read-tokens-until-punct .ensures))
 
 same-length : tie.Need-same-length
@@ -32,7 +33,8 @@ returns c =
     let args = c .before .before .before .before .before .before .before .before .before .args in
     let read-tokens-until-punct = c .before .before .before .before .before .read-tokens-until-punct in
     let r = c .before .r in
-    meeting.meets-no bodies.commaAfter (meeting.say (contract.runShown (args .s .now) reading.fieldStops role.type (args .c)) contract.runSaid
+    meeting.meets-no bodies.commaAfter
+    (meeting.say (contract.runShown (args .s .now) reading.fieldStops role.type (args .c)) contract.runSaid
     (r .given .1) (read-tokens-until-punct .ensures))
 
 same-length-2 : tie.Need-same-length-2
@@ -45,7 +47,8 @@ returns-2 c =
     let read-tokens-until-punct = back8 .before .before .read-tokens-until-punct in
     let to = c .before .before .before .before .before .before .to in
     let consume-punct-if = c .before .before .before .consume-punct-if in
-    meeting.meets-then bodies.commaAfter (meeting.say (contract.runShown (args .s .now) reading.fieldStops role.type (args .c)) contract.runSaid
+    meeting.meets-then bodies.commaAfter
+    (meeting.say (contract.runShown (args .s .now) reading.fieldStops role.type (args .c)) contract.runSaid
     (to .given .1) (read-tokens-until-punct .ensures))
     (λ t h. meeting.meets-map _ (λ u. t) (λ u k. h) (consume-punct-if .ensures .0))
 

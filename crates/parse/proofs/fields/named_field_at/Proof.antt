@@ -69,7 +69,8 @@ returns c =
     let prefixed = bodies.meets-prefix pre attributes (try-take2 .ensures) in
     meeting.meets-as (bodies.prefix-then (args .c .row) (contract.stream (args .s .now) (args .c)) reading.fieldStart)
     (meeting.meets-then _ prefixed
-    (λ p h. meeting.meets-refused (reading.fieldStart (p .attributes) (p .visibility)) _ _ (meeting.landed prefixed) _ _ _ _ _
+    (λ p h. meeting.meets-refused (reading.fieldStart (p .attributes) (p .visibility)) _ _
+    (meeting.landed prefixed) _ _ _ _ _
     (meeting.peeked _ _ (peek .ensures) (t .given .1) .here) (passed-over _ _ _ (ne-eqb _ _ (if1 .taken)))))
 
 take-token-requires : tie.Need-take-token-requires
@@ -139,7 +140,8 @@ returns-3 c =
     let prefixed = bodies.meets-prefix pre attributes (try-take2 .ensures) in
     meeting.meets-as (bodies.prefix-then (args .c .row) (contract.stream (args .s .now) (args .c)) reading.fieldStart)
     (meeting.meets-then _ prefixed
-    (λ p h. meeting.meets-same (reading.fieldStart (p .attributes) (p .visibility)) _ _ (meeting.landed prefixed) _ _ _ _
+    (λ p h. meeting.meets-same (reading.fieldStart (p .attributes) (p .visibility)) _ _
+    (meeting.landed prefixed) _ _ _ _
     (meeting.peeked _ _ (peek .ensures) (enum-told .given .1)) refl (refl, (p, h .0))))
 
 same-length-4 : tie.Need-same-length-4
@@ -160,7 +162,8 @@ returns-4 c =
     let prefixed = bodies.meets-prefix pre attributes (try-take2 .ensures) in
     meeting.meets-as (bodies.prefix-then (args .c .row) (contract.stream (args .s .now) (args .c)) reading.fieldStart)
     (meeting.meets-then _ prefixed
-    (λ p h. meeting.meets-refused (reading.fieldStart (p .attributes) (p .visibility)) _ _ (meeting.landed prefixed) _ _ _ _ _
+    (λ p h. meeting.meets-refused (reading.fieldStart (p .attributes) (p .visibility)) _ _
+    (meeting.landed prefixed) _ _ _ _ _
     (meeting.peeked _ _ (peek .ensures) (enum-told2 .given .1) .here) refl))
 
 same-length-5 : tie.Need-same-length-5
@@ -254,7 +257,8 @@ returns-6 c =
       subst (λ (x : Point). contract.TokenIn s (x .row) token) start (places.token-in _ _ _ landed (l .token)),
       record {
         prefix = h .0;
-        type = subst (λ (x : Point). contract.RunAt s reading.fieldStops role.type x (typed .given .0 .0 .run) (k .0)) typed-at (k .2);
+        type = subst (λ (x : Point). contract.RunAt s reading.fieldStops role.type x (typed .given .0 .0 .run) (k .0))
+            typed-at (k .2);
       },
     ))
     (meeting.say (contract.NamedAt s _ p text) contract.typeSaid (typed .given .1) (field-after .ensures p text)))))

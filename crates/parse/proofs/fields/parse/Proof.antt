@@ -42,7 +42,8 @@ loop-less c =
     let loop = c .before .before .before .before .before .before .before .loop in
     let tuple-field = c .before .before .before .before .before .tuple-field in
     let next = c .before .next in
-    let n = rounds-more reading.tupleField conserved.tupleField-round (loop .inv) (meeting.say contract.nextShown contract.nextSaid (next .given .1) (tuple-field .ensures)) (λ v h. h) in
+    let n = rounds-more reading.tupleField conserved.tupleField-round (loop .inv)
+    (meeting.say contract.nextShown contract.nextSaid (next .given .1) (tuple-field .ensures)) (λ v h. h) in
     omega (arith, n .1, n .0 .gathering .moved .inList .within)
 
 loop-again : tie.Need-loop-again Inv-loop μ-loop

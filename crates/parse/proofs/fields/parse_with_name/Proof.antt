@@ -43,7 +43,9 @@ loop-less c =
     let loop = c .before .before .before .before .before .before .before .loop in
     let named-field = c .before .before .before .before .before .named-field in
     let next = c .before .next in
-    let n = rounds-more reading.namedField conserved.namedField-round (loop .inv) (meeting.say (contract.namedShown (args .s .now) (loop .c)) contract.namedSaid (next .given .1) (named-field .ensures)) (λ v h. (h .0, h .1)) in
+    let n = rounds-more reading.namedField conserved.namedField-round (loop .inv)
+    (meeting.say (contract.namedShown (args .s .now) (loop .c)) contract.namedSaid (next .given .1)
+    (named-field .ensures)) (λ v h. (h .0, h .1)) in
     omega (arith, n .1, n .0 .gathering .moved .inList .within)
 
 loop-again : tie.Need-loop-again Inv-loop μ-loop

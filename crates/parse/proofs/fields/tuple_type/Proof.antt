@@ -118,7 +118,9 @@ returns-3 c =
       refl,
       record {
         prefix = h .0;
-        type = subst (λ (x : Point). contract.RunAt (args .s .now) reading.fieldStops role.type x (typed .given .0 .0 .run) f) (h .1 .here) k;
+        type = subst
+            (λ (x : Point). contract.RunAt (args .s .now) reading.fieldStops role.type x (typed .given .0 .0 .run) f)
+            (h .1 .here) k;
       },
     ))
     (meeting.say (contract.typeAtShown (args .s .now) (contract.point (args .s .now) d)) contract.typeSaid

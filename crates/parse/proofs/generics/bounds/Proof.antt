@@ -27,10 +27,8 @@ same-length c = search needs
 
 returns : tie.Need-returns
 returns c =
-    let args-2 = c .before .before .before .before .before .before .before .before .before .args in
-    let optional-run-2 = c .before .before .before .before .before .optional-run in
-    let args = args-2 in
-    let optional-run = optional-run-2 in
+    let args = c .before .before .before .before .before .before .before .before .before .args in
+    let optional-run = c .before .before .before .before .before .optional-run in
     let r = c .before .r in
     meeting.meets-none
     (meeting.say (contract.optionalRunShown (args .s .now) COLON (contract.point (args .s .now) (args .c)))
@@ -41,10 +39,8 @@ same-length-2 c = search needs
 
 returns-2 : tie.Need-returns-2
 returns-2 c =
-    let args-2 = c .before .before .before .before .before .before .before .before .before .args in
-    let optional-run-2 = c .before .before .before .before .before .optional-run in
-    let args = args-2 in
-    let optional-run = optional-run-2 in
+    let args = c .before .before .before .before .before .before .before .before .before .args in
+    let optional-run = c .before .before .before .before .before .optional-run in
     let enum-told = c .before .enum-told in
     let none = meeting.say (contract.optionalRunShown (args .s .now) COLON (contract.point (args .s .now) (args .c)))
     (contract.optionalRunSaid (args .c)) (enum-told .given .1) (optional-run .ensures) in
@@ -56,13 +52,12 @@ same-length-3 c = search needs
 
 returns-3 : tie.Need-returns-3
 returns-3 c =
-    let args-2 = c .before .before .before .before .before .before .before .before .before .args in
-    let optional-run-2 = c .before .before .before .before .before .optional-run in
-    let args = args-2 in
-    let optional-run = optional-run-2 in
+    let args = c .before .before .before .before .before .before .before .before .before .args in
+    let optional-run = c .before .before .before .before .before .optional-run in
     let r2 = c .before .r2 in
     meeting.meets-show (λ v h. (h, refl))
-    (meeting.say (contract.optionalRunShown (args .s .now) COLON (contract.point (args .s .now) (args .c))) (contract.optionalRunSaid (args .c)) (r2 .given .1)
+    (meeting.say (contract.optionalRunShown (args .s .now) COLON (contract.point (args .s .now) (args .c)))
+    (contract.optionalRunSaid (args .c)) (r2 .given .1)
     (optional-run .ensures))
 
 pub bounds-spec : {M : Type 1} → statement M

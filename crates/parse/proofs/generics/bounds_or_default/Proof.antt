@@ -22,12 +22,9 @@ same-length c = search needs
 
 returns : tie.Need-returns
 returns c =
-    let args-2 = c .before .before .before .before .before .before .before .before .args in
-    let stands-punct-2 = c .before .before .before .before .before .stands-punct in
-    let if1-2 = c .before .before .before .before .if1 in
-    let args = args-2 in
-    let stands-punct = stands-punct-2 in
-    let if1 = if1-2 in
+    let args = c .before .before .before .before .before .before .before .before .args in
+    let stands-punct = c .before .before .before .before .before .stands-punct in
+    let if1 = c .before .before .before .before .if1 in
     let bounds = c .before .before .bounds in
     let colon = sym (stands-punct .ensures) ∙ if1 .taken in
     λ n. meeting.meets-as (type-bounded n (args .c .row) (contract.stream (args .s .now) (args .c)) colon)
@@ -53,17 +50,14 @@ same-length-2 c = search needs
 
 returns-2 : tie.Need-returns-2
 returns-2 c =
-    let args-2 = c .before .before .before .before .before .before .before .before .before .before .before .args in
-    let stands-punct-2 = c .before .before .before .before .before .before .before .before .stands-punct in
-    let if1-2 = c .before .before .before .before .before .before .before .if1 in
-    let optional-run-2 = c .before .before .before .before .before .optional-run in
-    let args = args-2 in
-    let stands-punct = stands-punct-2 in
-    let if1 = if1-2 in
-    let optional-run = optional-run-2 in
+    let args = c .before .before .before .before .before .before .before .before .before .before .before .args in
+    let stands-punct = c .before .before .before .before .before .before .before .before .stands-punct in
+    let if1 = c .before .before .before .before .before .before .before .if1 in
+    let optional-run = c .before .before .before .before .before .optional-run in
     let r = c .before .r in
     let other = sym (stands-punct .ensures) ∙ if1 .left in
-    let run = meeting.say (contract.optionalRunShown (args .s .now) EQUALS (contract.point (args .s .now) (args .c))) (contract.optionalRunSaid (args .c)) (r .given .1)
+    let run = meeting.say (contract.optionalRunShown (args .s .now) EQUALS (contract.point (args .s .now) (args .c)))
+    (contract.optionalRunSaid (args .c)) (r .given .1)
     (optional-run .ensures) in
     λ n.
     meeting.meets-as (type-defaulted n (args .c .row) (contract.stream (args .s .now) (args .c)) other)
@@ -74,17 +68,14 @@ same-length-3 c = search needs
 
 returns-3 : tie.Need-returns-3
 returns-3 c =
-    let args-2 = c .before .before .before .before .before .before .before .before .before .before .before .args in
-    let stands-punct-2 = c .before .before .before .before .before .before .before .before .stands-punct in
-    let if1-2 = c .before .before .before .before .before .before .before .if1 in
-    let optional-run-2 = c .before .before .before .before .before .optional-run in
-    let args = args-2 in
-    let stands-punct = stands-punct-2 in
-    let if1 = if1-2 in
-    let optional-run = optional-run-2 in
+    let args = c .before .before .before .before .before .before .before .before .before .before .before .args in
+    let stands-punct = c .before .before .before .before .before .before .before .before .stands-punct in
+    let if1 = c .before .before .before .before .before .before .before .if1 in
+    let optional-run = c .before .before .before .before .before .optional-run in
     let enum-told = c .before .enum-told in
     let other = sym (stands-punct .ensures) ∙ if1 .left in
-    let run = meeting.say (contract.optionalRunShown (args .s .now) EQUALS (contract.point (args .s .now) (args .c))) (contract.optionalRunSaid (args .c))
+    let run = meeting.say (contract.optionalRunShown (args .s .now) EQUALS (contract.point (args .s .now) (args .c)))
+    (contract.optionalRunSaid (args .c))
     (enum-told .given .1) (optional-run .ensures) in
     λ n. meeting.meets-say (ap (λ (r : Run). contract.on (r .to)) (sym (c .empty-run .ensures)))
     (meeting.meets-as (type-defaulted n (args .c .row) (contract.stream (args .s .now) (args .c)) other)
@@ -95,17 +86,14 @@ same-length-4 c = search needs
 
 returns-4 : tie.Need-returns-4
 returns-4 c =
-    let args-2 = c .before .before .before .before .before .before .before .before .before .before .before .args in
-    let stands-punct-2 = c .before .before .before .before .before .before .before .before .stands-punct in
-    let if1-2 = c .before .before .before .before .before .before .before .if1 in
-    let optional-run-2 = c .before .before .before .before .before .optional-run in
-    let args = args-2 in
-    let stands-punct = stands-punct-2 in
-    let if1 = if1-2 in
-    let optional-run = optional-run-2 in
+    let args = c .before .before .before .before .before .before .before .before .before .before .before .args in
+    let stands-punct = c .before .before .before .before .before .before .before .before .stands-punct in
+    let if1 = c .before .before .before .before .before .before .before .if1 in
+    let optional-run = c .before .before .before .before .before .optional-run in
     let r2 = c .before .r2 in
     let other = sym (stands-punct .ensures) ∙ if1 .left in
-    let run = meeting.say (contract.optionalRunShown (args .s .now) EQUALS (contract.point (args .s .now) (args .c))) (contract.optionalRunSaid (args .c)) (r2 .given .1)
+    let run = meeting.say (contract.optionalRunShown (args .s .now) EQUALS (contract.point (args .s .now) (args .c)))
+    (contract.optionalRunSaid (args .c)) (r2 .given .1)
     (optional-run .ensures) in
     λ n. meeting.meets-as (type-defaulted n (args .c .row) (contract.stream (args .s .now) (args .c)) other)
     (meeting.meets-map (args .c .row) (λ d. type n end d) (λ d h. (refl, refl, (other, refl, h))) run)

@@ -31,10 +31,8 @@ enum-known-name c = search needs
 
 bounds-requires : tie.Need-bounds-requires
 bounds-requires c κs =
-    let args-2 = c .before .before .before .before .before .before .before .before .before .before .args in
-    let parameter-name-2 = c .before .before .before .before .before .before .parameter-name in
-    let args = args-2 in
-    let parameter-name = parameter-name-2 in
+    let args = c .before .before .before .before .before .before .before .before .before .before .args in
+    let parameter-name = c .before .before .before .before .before .before .parameter-name in
     let name = c .before .before .name in
     meeting.landed (meeting.say (contract.nameShown (args .s .now) (contract.point (args .s .now) (args .c)))
     contract.nameSaid (name .given .1) (parameter-name .ensures))
@@ -47,13 +45,11 @@ enum-known-part c = search needs
 
 parameter-end-requires : tie.Need-parameter-end-requires
 parameter-end-requires c κs =
-    let before = c .before .before .before .before .before .before .before .before in
-    let bounds-2 = c .before .before .before .before .before .before .bounds in
-    let back8 = before in
+    let back8 = c .before .before .before .before .before .before .before .before in
+    let bounds = c .before .before .before .before .before .before .bounds in
     let back16 = back8 .before .before .before .before .before .before .before .before in
     let args = back16 .before .args in
     let name = back8 .before .name in
-    let bounds = bounds-2 in
     let part = c .before .before .part in
     meeting.landed (meeting.say (contract.boundShown (args .s .now) (contract.point (args .s .now)
     (name .given .0 .1 .0))) contract.parameterRunSaid (part .given .1) (bounds .ensures))
@@ -63,10 +59,8 @@ same-length c = search needs
 
 returns : tie.Need-returns
 returns c =
-    let args-2 = c .before .before .before .before .before .before .before .before .before .args in
-    let parameter-name-2 = c .before .before .before .before .before .parameter-name in
-    let args = args-2 in
-    let parameter-name = parameter-name-2 in
+    let args = c .before .before .before .before .before .before .before .before .before .args in
+    let parameter-name = c .before .before .before .before .before .parameter-name in
     let r = c .before .r in
     let named = meeting.say (contract.nameShown (args .s .now) (contract.point (args .s .now) (args .c)))
     contract.nameSaid (r .given .1) (parameter-name .ensures) in
@@ -80,14 +74,12 @@ same-length-2 c = search needs
 
 returns-2 : tie.Need-returns-2
 returns-2 c =
-    let before = c .before .before .before .before .before .before .before .before in
-    let bounds-2 = c .before .before .before .before .before .bounds in
-    let back8 = before in
+    let back8 = c .before .before .before .before .before .before .before .before in
+    let bounds = c .before .before .before .before .before .bounds in
     let back16 = back8 .before .before .before .before .before .before .before .before in
     let args = back16 .args in
     let parameter-name = back8 .before .before .before .before .parameter-name in
     let name = back8 .name in
-    let bounds = bounds-2 in
     let r2 = c .before .r2 in
     let named = meeting.say (contract.nameShown (args .s .now) (contract.point (args .s .now) (args .c)))
     contract.nameSaid (name .given .1) (parameter-name .ensures) in
@@ -108,15 +100,13 @@ same-length-3 c = search needs
 
 returns-3 : tie.Need-returns-3
 returns-3 c =
-    let before = c .before .before .before .before .before .before .before .before in
-    let part-2 = c .before .before .before .before .before .part in
-    let back8 = before in
+    let back8 = c .before .before .before .before .before .before .before .before in
+    let part = c .before .before .before .before .before .part in
     let back16 = back8 .before .before .before .before .before .before .before .before in
     let args = back16 .before .before .before .before .args in
     let parameter-name = back16 .parameter-name in
     let name = back8 .before .before .before .before .name in
     let bounds = back8 .before .bounds in
-    let part = part-2 in
     let parameter-end = c .before .before .parameter-end in
     let named = meeting.say (contract.nameShown (args .s .now) (contract.point (args .s .now) (args .c)))
     contract.nameSaid (name .given .1) (parameter-name .ensures) in

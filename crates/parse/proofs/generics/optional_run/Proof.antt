@@ -36,7 +36,9 @@ returns c =
     let stays = consume-punct-if .ensures .1 .1 none in
     meeting.meets-say (ap contract.on stays)
     (meeting.meets-then runOr (consume-punct-if .ensures .0)
-    (λ t e. meeting.meets-as (ap (λ x. runOr x (consume-punct-if .result .next .row) (contract.stream (args .s .now) (consume-punct-if .result .next))) (sym e ∙ none))
+    (λ t e. meeting.meets-as
+    (ap (λ x. runOr x (consume-punct-if .result .next .row)
+    (contract.stream (args .s .now) (consume-punct-if .result .next))) (sym e ∙ none))
     (meeting.meets-stay _ _ _ _ _ (meeting.landed (consume-punct-if .ensures .0))
     (sym (consume-punct-if .ensures .1 .0) ∙ none, refl))))
 
@@ -95,9 +97,16 @@ returns-3 c =
     let past = places.meets-beyond (reading.punctIf (args .punct) role.separator) (consume-punct-if .ensures .0) .here ∙
     places.punct-past (args .punct) role.separator (contract.point (args .s .now) (args .c)) there in
     meeting.meets-then runOr (consume-punct-if .ensures .0)
-    (λ t e. meeting.meets-as (ap (λ x. runOr x (consume-punct-if .result .next .row) (contract.stream (args .s .now) (consume-punct-if .result .next))) (sym e ∙ not-false _ (if1 .left)))
+    (λ t e. meeting.meets-as
+    (ap (λ x. runOr x (consume-punct-if .result .next .row)
+    (contract.stream (args .s .now) (consume-punct-if .result .next))) (sym e ∙ not-false _ (if1 .left)))
     (meeting.meets-show
-    (λ v h. (there, subst (λ (x : Point). contract.RunAt (args .s .now) reading.parameterStops role.bound x (run-of (consume-punct-if .result .next) (to .given .0 .0) (to .given .0 .1 .0) (to .given .0 .1 .1 .0)) v) past h)) run))
+    (λ v h. (
+      there,
+      subst (λ (x : Point). contract.RunAt (args .s .now) reading.parameterStops role.bound x
+          (run-of (consume-punct-if .result .next) (to .given .0 .0) (to .given .0 .1 .0) (to .given .0 .1 .1 .0)) v)
+          past h,
+    )) run))
 
 pub optional-run-spec : {M : Type 1} → statement M
 optional-run-spec =

@@ -20,13 +20,13 @@ same-length c = search needs
 
 returns : tie.Need-returns
 returns c =
-    let args-2 = c .before .before .before .before .before .before .before .before .before .args in
-    let parameter-run-2 = c .before .before .before .before .before .before .parameter-run in
-    let args = args-2 in
-    let parameter-run = parameter-run-2 in
+    let args = c .before .before .before .before .before .before .before .before .before .args in
+    let parameter-run = c .before .before .before .before .before .before .parameter-run in
     let consume-punct-if = c .before .before .before .consume-punct-if in
     λ a x h place at.
-    let run = subst⁻¹ (λ (r : ParameterRun). contract.ParameterRunAt (args .s .now) (pastToken x) (contract.boundOf a) (contract.defaultOf a) r)
+    let run =
+    subst⁻¹ (λ (r : ParameterRun). contract.ParameterRunAt (args .s .now) (pastToken x) (contract.boundOf a)
+    (contract.defaultOf a) r)
     (parameter-run .ensures) at in
     meeting.meets-then (λ t. pure (reading.one a)) (consume-punct-if .ensures .0)
     (λ t e. meeting.meets-stay _ _ _ _ (reading.one a) (meeting.landed (consume-punct-if .ensures .0))

@@ -19,10 +19,8 @@ enum-known-part c = search needs
 
 parameter-end-requires : tie.Need-parameter-end-requires
 parameter-end-requires c κs =
-    let args-2 = c .before .before .before .before .before .before .before .before .before .before .args in
-    let bounds-or-default-2 = c .before .before .before .before .before .before .bounds-or-default in
-    let args = args-2 in
-    let bounds-or-default = bounds-or-default-2 in
+    let args = c .before .before .before .before .before .before .before .before .before .before .args in
+    let bounds-or-default = c .before .before .before .before .before .before .bounds-or-default in
     let part = c .before .before .part in
     meeting.landed (meeting.say (contract.typeShown (args .s .now) (contract.point (args .s .now) (args .c)) [])
     contract.parameterRunSaid (part .given .1) (bounds-or-default .ensures []))
@@ -32,10 +30,8 @@ same-length c = search needs
 
 returns : tie.Need-returns
 returns c =
-    let args-2 = c .before .before .before .before .before .before .before .before .before .args in
-    let bounds-or-default-2 = c .before .before .before .before .before .bounds-or-default in
-    let args = args-2 in
-    let bounds-or-default = bounds-or-default-2 in
+    let args = c .before .before .before .before .before .before .before .before .before .args in
+    let bounds-or-default = c .before .before .before .before .before .bounds-or-default in
     let r = c .before .r in
     λ n x h place past.
     meeting.meets-no reading.comma
@@ -47,12 +43,10 @@ same-length-2 c = search needs
 
 returns-2 : tie.Need-returns-2
 returns-2 c =
-    let before = c .before .before .before .before .before .before .before .before in
-    let part-2 = c .before .before .before .before .before .part in
-    let back8 = before in
+    let back8 = c .before .before .before .before .before .before .before .before in
+    let part = c .before .before .before .before .before .part in
     let args = back8 .before .before .before .before .before .args in
     let bounds-or-default = back8 .before .bounds-or-default in
-    let part = part-2 in
     let parameter-end = c .before .before .parameter-end in
     let read = contract.parameterRun (part .given .0 .0) (part .given .0 .1 .0) in
     λ n x h place past.
@@ -61,7 +55,8 @@ returns-2 c =
     contract.parameterRunSaid (part .given .1) (bounds-or-default .ensures n))
     (λ a k. parameter-end .ensures a x
     (record { kind = k .0; text = subst⁻¹ (contract.TextOf (args .s .now) (args .name)) (k .1) h }) place
-    (subst (λ (p : Point). contract.ParameterRunAt (args .s .now) p (contract.boundOf a) (contract.defaultOf a) read) past (k .2)))
+    (subst (λ (p : Point). contract.ParameterRunAt (args .s .now) p (contract.boundOf a) (contract.defaultOf a) read)
+    past (k .2)))
 
 pub simple-generic-spec : {M : Type 1} → statement M
 simple-generic-spec =

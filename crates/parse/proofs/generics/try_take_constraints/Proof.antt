@@ -107,7 +107,8 @@ returns-4 c =
     let read-tokens-until-punct = c .before .before .before .before .before .read-tokens-until-punct in
     let r = c .before .r in
     let l = meeting.peeked _ _ (peek .ensures) (t .given .1) in
-    let run = meeting.say (contract.runShown (args .s .now) reading.clauseStops role.where-run (take-token .result)) contract.runSaid
+    let run = meeting.say (contract.runShown (args .s .now) reading.clauseStops role.where-run (take-token .result))
+    contract.runSaid
     (r .given .1) (read-tokens-until-punct .ensures) in
     meeting.meets-from reading.clause _ _ pre _ _ l _ _ _ _ (take-token .ensures .0) (take-token .ensures .1) _ _
     reading.clauseAfter (chosen _ _ _ (sym (ident-eq .ensures) ∙ not-false _ (if1 .left)))
@@ -133,12 +134,19 @@ returns-5 c =
     let is = sym (ident-eq .ensures) ∙ not-false _ (if1 .left) in
     let there = ap (starts (reading.isWord reading.WHERE)) (l .here) ∙ is in
     let past = places.token-past _ _ _ _ pre l (take-token .ensures .0) .here in
-    let run = meeting.say (contract.runShown (args .s .now) reading.clauseStops role.where-run (take-token .result)) contract.runSaid
+    let run = meeting.say (contract.runShown (args .s .now) reading.clauseStops role.where-run (take-token .result))
+    contract.runSaid
     (to .given .1) (read-tokens-until-punct .ensures) in
     meeting.meets-from reading.clause _ _ pre _ _ l _ _ _ _ (take-token .ensures .0) (take-token .ensures .1) _ _
     reading.clauseAfter (chosen _ _ _ is)
     (meeting.meets-map _ constrained
-    (λ v h. (v, refl, there, subst (λ (p : Point). contract.RunAt (args .s .now) reading.clauseStops role.where-run p (run-of (take-token .result) (to .given .0 .0) (to .given .0 .1 .0) (to .given .0 .1 .1 .0)) v) past h))
+    (λ v h. (
+      v,
+      refl,
+      there,
+      subst (λ (p : Point). contract.RunAt (args .s .now) reading.clauseStops role.where-run p
+          (run-of (take-token .result) (to .given .0 .0) (to .given .0 .1 .0) (to .given .0 .1 .1 .0)) v) past h,
+    ))
     run)
 
 pub try-take-constraints-spec : {M : Type 1} → statement M

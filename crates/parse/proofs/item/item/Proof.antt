@@ -133,7 +133,8 @@ returns-3 c =
     (record {
       prefix = k .0;
       kind = w .0;
-      name = subst (λ (y : Point). contract.NameAt s (beyond contract.itemWord y) (h .given .0 .0 .name .token) (h .given .0 .0 .name .place) (x .name)) start (w .1);
+      name = subst (λ (y : Point). contract.NameAt s (beyond contract.itemWord y) (h .given .0 .0 .name .token)
+          (h .given .0 .0 .name .place) (x .name)) start (w .1);
       next = places.cursor-at (ap (beyond reading.dataType) start) generic;
     })))))
 

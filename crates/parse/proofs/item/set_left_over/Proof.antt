@@ -17,9 +17,8 @@ same-length c = search needs
 
 returns : tie.Need-returns
 returns c =
-    let args = c .before .before .before .before .before .before .before .before .before .args in
+    let a = c .before .before .before .before .before .before .before .before .before .args in
     let fill = c .before .before .before .before .before .before .fill in
-    let a = args in
     (c .before .before .fill2) .ensures ∙ ap (λ b. sets b (a .rows) (replicate (length b - a .rows) 255))
     (fill .ensures) ∙ ap
     (λ n.

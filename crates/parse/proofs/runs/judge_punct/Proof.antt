@@ -20,18 +20,15 @@ check-if-arrow-requires c κs = search needs
 
 returns-2 : tie.Need-returns-2
 returns-2 c =
-    let args-2 = c .before .before .before .before .args in
-    let args = args-2 in
+    let args = c .before .before .before .before .args in
     sym
     (judge.arrow (stopsOf (args .stops)) (args .depth) (args .minus) (args .b)
     (sym (c .before .check-if-arrow .ensures) ∙ c .if3 .taken))
 
 returns-3 : tie.Need-returns-3
 returns-3 c =
-    let args-2 = c .before .before .before .before .before .before .args in
-    let if2-2 = c .before .before .before .before .if2 in
-    let args = args-2 in
-    let if2 = if2-2 in
+    let args = c .before .before .before .before .before .before .args in
+    let if2 = c .before .before .before .before .if2 in
     let check-if-arrow = c .before .before .before .check-if-arrow in
     sym
     (judge.closing (stopsOf (args .stops)) (args .depth) (args .minus) (args .b) (if2 .taken)
@@ -40,10 +37,8 @@ returns-3 c =
 
 returns-4 : tie.Need-returns-4
 returns-4 c =
-    let args-2 = c .before .before .before .before .before .before .args in
-    let if2-2 = c .before .before .before .before .if2 in
-    let args = args-2 in
-    let if2 = if2-2 in
+    let args = c .before .before .before .before .before .before .args in
+    let if2 = c .before .before .before .before .if2 in
     let check-if-arrow = c .before .before .before .check-if-arrow in
     sym
     (judge.closing (stopsOf (args .stops)) (args .depth) (args .minus) (args .b) (if2 .taken)
@@ -55,8 +50,7 @@ sub-higher c = search needs
 
 returns-5 : tie.Need-returns-5
 returns-5 c =
-    let args-2 = c .before .before .before .before .before .args in
-    let args = args-2 in
+    let args = c .before .before .before .before .before .args in
     let if2 = c .before .before .before .if2 in
     sym
     (judge.closing (stopsOf (args .stops)) (args .depth) (args .minus) (args .b) (if2 .taken)
@@ -68,8 +62,7 @@ judge-comma-requires c κs = search needs
 
 returns-6 : tie.Need-returns-6
 returns-6 c =
-    let args-2 = c .before .before .before .before .args in
-    let args = args-2 in
+    let args = c .before .before .before .before .args in
     c .judge-comma .ensures ∙ sym
     (judge.comma (stopsOf (args .stops)) (args .depth) (args .minus) (args .b) (c .before .if6 .taken))
 

@@ -115,16 +115,14 @@ returns-5 : tie.Need-returns-5
 returns-5 c =
     let back8 = c .before .before .before .before .before .before .before .before in
     let back16 = back8 .before .before .before .before .before .before .before .before in
-    let args = back16 .args in
+    let a = back16 .args in
     let pre = back16 .pre in
     let peek = back8 .before .before .before .before .before .peek in
     let t2 = back8 .before .before .before .t2 in
     let past = back8 .before .past in
     let lone-ident = back8 .lone-ident in
-    let w-3 = c .before .before .before .before .before .before .w in
-    let w-2 = w-3 in
+    let w-2 = c .before .before .before .before .before .before .w in
     let g = meeting.peeked _ _ (peek .ensures) (t2 .given .1) in
-    let a = args in
     let w = subst (λ (d : Cursor). contract.loneShown (a .s .now) d (Found (w-2 .given .0 .0))) (past .ensures)
     (subst (contract.loneShown _ _) (w-2 .given .1) (lone-ident .ensures)) in
     let m = subst⁻¹ (λ b. contract.Moved (a .s .now) (a .c) (w-2 .given .0 .0 .next)

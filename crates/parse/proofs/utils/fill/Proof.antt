@@ -13,8 +13,7 @@ same-length c = search needs
 
 returns : tie.Need-returns
 returns c =
-    let args = c .before .before .before .before .before .before .args in
-    let a = args in
+    let a = c .before .before .before .before .before .before .args in
     c .before .before .fill-within .ensures ∙ fill-clip (a .roles .now) (a .from) (a .to) (a .role) (omega arith)
 
 fill-within-requires-2 : tie.Need-fill-within-requires-2

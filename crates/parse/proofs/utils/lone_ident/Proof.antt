@@ -89,20 +89,18 @@ returns-5 c =
 
 returns-6 : tie.Need-returns-6
 returns-6 c =
-    let args =
+    let a =
     c .before .before .before .before .before .before .before .before .before .before .before .before .args in
     let pre = c .before .before .before .before .before .before .before .before .before .before .before .before .pre in
     let peek = c .before .before .before .before .before .before .before .before .before .before .peek in
     let t = c .before .before .before .before .before .before .before .before .t in
     let if1 = c .before .before .before .before .before .if1 in
-    let past = c .before .before .before .before .past in
+    let p = c .before .before .before .before .past in
     let l = meeting.peeked _ _ (peek .ensures) (t .given .1) in
     let n = meeting.peeked _ _ (c .before .before .before .peek2 .ensures) (c .before .enum-told5 .given .1) in
-    let a = args in
-    let p = past in
     let within-group = subst⁻¹ (λ (d : Cursor). follows (at (a .s .now) (d .at) .outer) ≡ true) (p .ensures)
     (ap follows (sym (l .outer)) ∙ pre .1) in (
-      ap (reading.lone reading.isIdent) (meeting.leaf-then _ _ _ _ _ l (past .ensures) n) ∙ eq-eqb _ _ (if1 .left),
+      ap (reading.lone reading.isIdent) (meeting.leaf-then _ _ _ _ _ l (p .ensures) n) ∙ eq-eqb _ _ (if1 .left),
       record { bytes = ap reading.firstText (l .here); within = meeting.token-within _ _ _ (l .token) },
       if1 .left,
       refl,

@@ -14,17 +14,15 @@ look-requires c κs = search needs
 
 returns : tie.Need-returns
 returns c =
-    let args = c .before .before .before .before .before .args in
+    let a = c .before .before .before .before .before .args in
     let l = c .before .before .before .look .ensures in
-    let a = args in
     ap (λ (m : ℕ). eqb m (a .b)) (l .first) ∙ sym (and-last _ _ (eq-eqb _ _ (sym (l .kind) ∙ c .before .if1 .taken))) ∙
     starts-punct (a .b) (stream (a .s .now) (a .c))
 
 returns-2 : tie.Need-returns-2
 returns-2 c =
-    let args = c .before .before .before .before .args in
+    let a = c .before .before .before .before .args in
     let l = c .before .before .look .ensures in
-    let a = args in
     sym (and-fails _ _ (ne-eqb _ _ (λ e. c .if1 .left (l .kind ∙ e)))) ∙ starts-punct (a .b) (stream (a .s .now) (a .c))
 
 pub stands-punct-spec : {M : Type 1} → statement M

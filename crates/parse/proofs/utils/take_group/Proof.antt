@@ -29,13 +29,11 @@ same-length c = c .before .before .fill .kept .0
 
 returns : tie.Need-returns
 returns c =
-    let args = c .before .before .before .before .before .before .before .before .args in
+    let a = c .before .before .before .before .before .before .before .before .args in
     let pre = c .before .before .before .before .before .before .before .before .pre in
-    let past = c .before .before .before .before .before .past in
+    let p = c .before .before .before .before .before .past in
     let skip = c .before .before .before .before .skip in
-    let a = args in
     let d = skip .result in
-    let p = past in
     let within-group = meeting.follows-of (a .s .now) (a .c) (p .result) (a .t) (p .ensures) (pre .0) (pre .1) in
     let k = subst (λ (x : Cursor). Skipped (a .s .now) x d) (p .ensures)
     (skipped-open (a .s .now) (p .result) d within-group (skip .ensures)) in

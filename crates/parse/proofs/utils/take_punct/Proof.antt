@@ -30,7 +30,8 @@ returns c =
     let pre = c .before .before .before .before .before .before .before .before .pre in
     let peek = c .before .before .before .before .before .peek in
     let l = meeting.peeked _ _ (peek .ensures) ((c .before .before .before .t) .given .1) in
-    let other = meeting.punct-of _ _ _ _ (l .token) ∙ sym ((c .before .is-punct) .ensures) ∙ not-true _ ((c .if1) .taken) in (
+    let other = meeting.punct-of _ _ _ _ (l .token) ∙ sym ((c .before .is-punct) .ensures)
+    ∙ not-true _ ((c .if1) .taken) in (
       meeting.meets-same (reading.punctIf (args .punct) (args .role)) _ _ pre _ _ _ _ (l .here)
           (passed-over _ _ _ other) refl,
       (sym (ap (starts (reading.isPunct (args .punct))) (l .here) ∙ other), (λ e. refl)),

@@ -43,8 +43,10 @@ returns c =
     (take-token .ensures .0) (take-token .ensures .1) _ (chosen _ _ _ (eq-eqb _ _ (if1 .taken))) (
       (
         _,
-        record
-            { bytes = refl; within = meeting.token-within _ _ _ ((meeting.peeked _ _ (peek .ensures) (t .given .1)) .token) },
+        record {
+          bytes = refl;
+          within = meeting.token-within _ _ _ ((meeting.peeked _ _ (peek .ensures) (t .given .1)) .token);
+        },
         refl,
       ),
       places.token-in _ _ _ pre ((meeting.peeked _ _ (peek .ensures) (t .given .1)) .token),

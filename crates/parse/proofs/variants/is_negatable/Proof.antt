@@ -1,4 +1,5 @@
-use Rattle.parse.proofs.Bodies.{Negatable, negatable-start, digit-low, digit-high, too-large, digit-next, digits-end}
+use Rattle.parse.proofs.Bodies.{Negatable, negatable-start, digit-low, digit-high, too-large, digit-next}
+use Rattle.parse.proofs.Bodies.{digits-end}
 use Rattle.reading.specs.Token.{negatable}
 use lib.Seq.{slice}
 use Prim.Native.Nat.{_≤_, _-_}

@@ -80,8 +80,10 @@ returns-5 c =
     (chosen _ _ _ (eq-eqb _ _ (if1 .left)) ∙ chosen _ _ _ (sym (is-negatable .ensures) ∙ not-false _ (if2 .left))) (
       (
         _,
-        record
-            { bytes = refl; within = meeting.token-within _ _ _ ((meeting.peeked _ _ (peek .ensures) (t .given .1)) .token) },
+        record {
+          bytes = refl;
+          within = meeting.token-within _ _ _ ((meeting.peeked _ _ (peek .ensures) (t .given .1)) .token);
+        },
         sym (is-negatable .ensures) ∙ not-false _ (if2 .left),
         refl,
       ),

@@ -13,8 +13,7 @@ look-requires c κs = search needs
 
 returns : tie.Need-returns
 returns c =
-    let before = c .before .before .before .before .before in
-    let d = before in
+    let d = c .before .before .before .before .before in
     meets-same variant (d .args .s .now) (d .args .c) (d .pre) _ _ _ _
     (c .before .before .look .ensures .none (c .if1 .taken)) refl refl
 
@@ -26,10 +25,9 @@ same-length c = search needs
 
 returns-2 : tie.Need-returns-2
 returns-2 c =
-    let args = c .before .before .before .before .before .before .before .before .before .args in
+    let a = c .before .before .before .before .before .before .before .before .before .args in
     let look = c .before .before .before .before .before .before .look in
     let if1 = c .before .before .before .before .if1 in
-    let a = args in
     meets-as
     (as-variant (a .c .row) (stream (a .s .now) (a .c)) (λ e. if1 .left (look .ensures .kind ∙ ap firstKind e)))
     (c .before .before .variant-here .ensures)

@@ -27,9 +27,8 @@ text-is-requires c κs = search needs
 
 returns-2 : tie.Need-returns-2
 returns-2 c =
-    let args = c .before .before .before .before .before .before .args in
+    let a = c .before .before .before .before .before .before .args in
     let pre = c .before .before .before .before .before .before .pre in
-    let a = args in
     sym (accepted-parts (a .every) (a .s .now) (a .roles .now) (a .start) (a .end)
     (pre .0)
     (pre .1) ((c .before .before .before .if1) .left) ∙
@@ -40,10 +39,9 @@ letters-fit-requires c κs = search needs
 
 returns-3 : tie.Need-returns-3
 returns-3 c =
-    let args = c .before .before .before .before .before .before .before .args in
+    let a = c .before .before .before .before .before .before .before .args in
     let pre = c .before .before .before .before .before .before .before .pre in
     let if1 = c .before .before .before .before .if1 in
-    let a = args in
     (c .letters-fit) .ensures ∙ sym (accepted-parts (a .every) (a .s .now) (a .roles .now) (a .start) (a .end)
     (pre .0)
     (pre .1)

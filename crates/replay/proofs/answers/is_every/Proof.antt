@@ -52,10 +52,9 @@ letters-fit-requires c κs = search needs
 
 returns : tie.Need-returns
 returns c =
-    let args = c .before .before .before .before .before .before .before .before .args in
+    let a = c .before .before .before .before .before .before .before .before .args in
     let role-buffer = c .before .before .before .before .before .role-buffer in
     let read-roles = c .before .before .before .read-roles in
-    let a = args in
     let none = not-found (read-roles .last .1 .0) _
     (answer (a .list .now) (length (role-buffer .result)))
     ((c .enum-told) .given .1) (read-roles .ensures .0) in
@@ -64,17 +63,16 @@ returns c =
 
 returns-2 : tie.Need-returns-2
 returns-2 c =
-    let args = c .before .before .before .before .before .before .before .before .before .before .before .args in
+    let a = c .before .before .before .before .before .before .before .before .before .before .before .args in
     let role-buffer = c .before .before .before .before .before .before .before .before .role-buffer in
     let read-roles = c .before .before .before .before .before .before .read-roles in
     let n = c .before .before .before .n in
     let f = found (n .given .0 .0)
     (answer
-    (args .list .now)
+    (a .list .now)
     (length (role-buffer .result)))
     (n .given .1)
     (read-roles .ensures .0) in
-    let a = args in
     (c .letters-fit) .ensures ∙ sym (ap (everyFits (slice (a .start) (a .end) (a .s .now)))
     (ap (answer (a .list .now))
     (role-buffer .ensures) ∙ f .same))

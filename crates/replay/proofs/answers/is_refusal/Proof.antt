@@ -26,9 +26,8 @@ text-is-requires c κs = search needs
 
 returns : tie.Need-returns
 returns c =
-    let args = c .before .before .before .before .before .before .args in
+    let a = c .before .before .before .before .before .before .args in
     let d = c .before .before .before .put-refusal in
-    let a = args in
     let text = printed-shown (d .ensures .0) (d .ensures .1) in
     c .text-is .ensures ∙ ap (same (slice (a .start) (a .end) (a .s .now))) text
 

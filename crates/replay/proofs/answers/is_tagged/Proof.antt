@@ -40,23 +40,19 @@ enum-known-e c = search needs
 array-share-prefix-roles : tie.Need-array-share-prefix-roles
 array-share-prefix-roles c =
     let role-buffer = c .before .before .before .before .before .before .before .role-buffer in
-    let before = c .before .before .before .before .before .before .before in
-    let parse-tagged-attribute = c .before .before .before .before .parse-tagged-attribute in
+    let earlier = c .before .before .before .before .before .before .before in
+    let p = c .before .before .before .before .parse-tagged-attribute in
     let e = c .before .e in
-    let earlier = before in
     let args = earlier .before .before .before .args in
-    let p = parse-tagged-attribute in
     reports.rows-within PREFIX (args .list .now) (role-buffer .result) _ _ (p .ensures .0) _ (e .given .1)
 
 slice-aggregate-accepted-fits : tie.Need-slice-aggregate-accepted-fits
 slice-aggregate-accepted-fits c =
     let role-buffer = c .before .before .before .before .before .before .before .before .role-buffer in
-    let before = c .before .before .before .before .before .before .before .before in
-    let parse-tagged-attribute = c .before .before .before .before .before .parse-tagged-attribute in
+    let earlier = c .before .before .before .before .before .before .before .before in
+    let p = c .before .before .before .before .before .parse-tagged-attribute in
     let e = c .before .before .e in
-    let earlier = before in
     let args = earlier .before .before .before .args in
-    let p = parse-tagged-attribute in
     let within =
     reports.rows-within PREFIX (args .list .now) (role-buffer .result) _ _ (p .ensures .0) _ (e .given .1) in
     sym (length-take-le _ (p .last .1 .1 .0) within)
@@ -67,13 +63,11 @@ accepted-fits-requires c κs = search needs
 returns : tie.Need-returns
 returns c =
     let role-buffer = c .before .before .before .before .before .before .before .before .role-buffer in
-    let before = c .before .before .before .before .before .before .before .before in
-    let parse-tagged-attribute = c .before .before .before .before .before .parse-tagged-attribute in
+    let earlier = c .before .before .before .before .before .before .before .before in
+    let p = c .before .before .before .before .before .parse-tagged-attribute in
     let text-is = c .text-is in
     let enum-told = c .before .before .enum-told in
-    let earlier = before in
     let args = earlier .before .before .before .args in
-    let p = parse-tagged-attribute in
     let fits = taggedFits (slice (args .start) (args .end) (args .s .now)) in
     let none =
     reports.was-absent PREFIX (args .list .now) (role-buffer .result) _ _ (p .ensures .0) (enum-told .given .1) in
@@ -82,13 +76,11 @@ returns c =
 returns-2 : tie.Need-returns-2
 returns-2 c =
     let role-buffer = c .before .before .before .before .before .before .before .before .role-buffer in
-    let before = c .before .before .before .before .before .before .before .before in
-    let parse-tagged-attribute = c .before .before .before .before .before .parse-tagged-attribute in
+    let earlier = c .before .before .before .before .before .before .before .before in
+    let p = c .before .before .before .before .before .parse-tagged-attribute in
     let is-refusal = c .is-refusal in
     let r = c .before .before .r in
-    let earlier = before in
     let args = earlier .before .before .before .args in
-    let p = parse-tagged-attribute in
     let fits = taggedFits (slice (args .start) (args .end) (args .s .now)) in
     let told = reports.was-refused PREFIX (args .list .now) (role-buffer .result) _ _ (p .ensures .0) _ (r .given .1) in
     is-refusal .ensures ∙ sym (ap fits (ap (answer PREFIX (args .list .now)) (role-buffer .ensures) ∙ told))
@@ -96,13 +88,11 @@ returns-2 c =
 returns-3 : tie.Need-returns-3
 returns-3 c =
     let role-buffer = c .before .before .before .before .before .before .before .before .before .role-buffer in
-    let before = c .before .before .before .before .before .before .before .before .before in
-    let parse-tagged-attribute = c .before .before .before .before .before .before .parse-tagged-attribute in
+    let earlier = c .before .before .before .before .before .before .before .before .before in
+    let p = c .before .before .before .before .before .before .parse-tagged-attribute in
     let accepted-fits = c .accepted-fits in
     let e = c .before .before .before .e in
-    let earlier = before in
     let args = earlier .before .before .before .args in
-    let p = parse-tagged-attribute in
     let fits = taggedFits (slice (args .start) (args .end) (args .s .now)) in
     let roles = reports.roles-here PREFIX (args .list .now) (role-buffer .result) _ _ (p .ensures .0) _ (e .given .1) in
     accepted-fits .ensures ∙ sym (ap fits (ap (answer PREFIX (args .list .now)) (role-buffer .ensures) ∙ roles))

@@ -22,9 +22,8 @@ loop-holds c = refl
 
 returns : tie.Need-returns Inv-loop μ-loop
 returns c =
-    let args = c .before .before .before .before .before .args in
+    let a = c .before .before .before .before .before .args in
     let loop = c .before .before .loop in
-    let a = args in
     sym (loop .inv ∙ fits-short (a .every) (a .s .now) (a .roles .now) (a .end) (omega arith)
     (loop .at) (loop .i) (omega arith) (omega arith))
 
@@ -39,9 +38,8 @@ letter-fits-requires c κs = search needs
 
 returns-2 : tie.Need-returns-2 Inv-loop μ-loop
 returns-2 c =
-    let args = c .before .before .before .before .before .before .before .before .before .args in
+    let a = c .before .before .before .before .before .before .before .before .before .args in
     let loop = c .before .before .before .before .before .before .loop in
-    let a = args in
     sym (loop .inv ∙
     fits-fails (a .every) (a .s .now) (a .roles .now) (a .end) (omega arith)
     (loop .at)
@@ -59,9 +57,8 @@ loop-less c = omega arith
 
 loop-again : tie.Need-loop-again Inv-loop μ-loop
 loop-again c =
-    let args = c .before .before .before .before .before .before .before .before .before .args in
+    let a = c .before .before .before .before .before .before .before .before .before .args in
     let loop = c .before .before .before .before .before .before .loop in
-    let a = args in
     loop .inv ∙
     fits-next (a .every) (a .s .now) (a .roles .now) (a .end) (omega arith)
     (loop .at)
@@ -76,9 +73,8 @@ text-is-requires c κs = search needs
 
 returns-3 : tie.Need-returns-3 Inv-loop μ-loop
 returns-3 c =
-    let args = c .before .before .before .before .before .before .args in
+    let a = c .before .before .before .before .before .before .args in
     let loop = c .before .before .before .loop in
-    let a = args in
     (c .text-is) .ensures ∙ sym (loop .inv ∙
     fits-end (a .every) (a .s .now) (a .roles .now) (a .end) (omega arith) (loop .at)
     (loop .i) (omega arith))

@@ -78,8 +78,7 @@ read-size-requires c κs = search needs
 
 returns-4 : tie.Need-returns-4
 returns-4 c =
-    let before = c .before .before .before .before .before in
-    let d = before in
+    let d = c .before .before .before .before .before in
     let blank = eq-eqb (getD (bytes d) (space d) 0) 32 (c .before .before .before .if2 .left) in
     let more = c .before .before .if3 .left in
     let some = lt-ltb 0 (length (name d)) (omega (arith, count d, more, d .before .run-end .ensures)) in

@@ -91,8 +91,7 @@ add-t10 c = search needs
 
 returns-5 : tie.Need-returns-5
 returns-5 c =
-    let before = c .before .before .before .before .before in
-    let d = before in
+    let d = c .before .before .before .before .before in
     let lf = eq-eqb (getD (bytes d) (end d) 0) 10 (c .before .before .before .if2 .left) in
     let more = c .before .before .if3 .left in
     let some = le-leb 1 (length (digits d)) (omega (arith, count d, more, d .before .run-end .ensures)) in

@@ -26,9 +26,8 @@ shared-slice-read-b c = omega arith
 
 returns : tie.Need-returns Inv-loop μ-loop
 returns c =
-    let args = c .before .before .before .before .args in
+    let a = c .before .before .before .before .args in
     let pre = c .before .before .before .before .pre in
-    let a = args in
     let loop = c .before .before .before .loop in
     let fits = pre .1 in
     let out = and-fails _ _ (lt-leb (a .lo) (getD (a .s .now) (loop .i) 0) (c .if1 .taken)) in
@@ -37,10 +36,9 @@ returns c =
 
 returns-2 : tie.Need-returns-2 Inv-loop μ-loop
 returns-2 c =
-    let args = c .before .before .before .before .before .args in
+    let a = c .before .before .before .before .before .args in
     let pre = c .before .before .before .before .before .pre in
     let loop = c .before .before .before .before .loop in
-    let a = args in
     let fits = pre .1 in
     let b = getD (a .s .now) (loop .i) 0 in
     let out = and-last _ _ (le-leb (a .lo) b (c .before .if1 .left)) ∙ lt-leb b (a .hi) (c .if2 .taken) in
@@ -55,10 +53,9 @@ loop-less c = omega arith
 
 loop-again : tie.Need-loop-again Inv-loop μ-loop
 loop-again c =
-    let args = c .before .before .before .before .before .args in
+    let a = c .before .before .before .before .before .args in
     let pre = c .before .before .before .before .before .pre in
     let loop = c .before .before .before .before .loop in
-    let a = args in
     let b = getD (a .s .now) (loop .i) 0 in
     let fits = pre .1 in
     let passes = and-both _ _ (le-leb (a .lo) b (c .before .if1 .left)) (le-leb b (a .hi) (c .if2 .left)) in

@@ -5,7 +5,7 @@ use borrow.Rule.Slice.PartMut.{take-put, same-len-mid, mid-len}
 use Prim.Native.Nat.{_-_, _≤_}
 use lib.ListN.{length}
 use Rattle.replay.specs.Window.{size}
-use Rattle.replay.proofs.Windows.{slid-whole}
+use Rattle.replay.proofs.Windows.{slid-within}
 use borrow.Author.Needs.{needs}
 use Rattle.replay.proofs.window.ready.Statement.{statement}
 use Rattle.replay.proofs.window.ready.Tie as tie
@@ -41,25 +41,23 @@ same-length c = search needs
 
 returns-2 : tie.Need-returns-2
 returns-2 c =
-    let args = c .before .before .before .before .before .before .before .before .before .before .args in
+    let a = c .before .before .before .before .before .before .before .before .before .before .args in
     let pre = c .before .before .before .before .before .before .before .before .before .before .pre in
     let if1 = c .before .before .before .before .before .before .before .before .if1 in
-    let slide = c .before .before .before .before .before .before .slide in
-    let a = args in
-    let moved = slide in
-    let there = slid-whole (a .buf .now) (a .at) pre (moved .ensures .0) (moved .ensures .1) in
+    let moved = c .before .before .before .before .before .before .slide in
+    let there = slid-within (a .buf .now) (a .at) pre (moved .ensures .0) (moved .ensures .1) in
     let got = c .before .before .read-full in
     let b = moved .last .0 in
     let few : moved .result ≤ length b = omega (arith, moved .ensures .0, moved .kept .0, pre .room) in
     let rest = mid-len (moved .result) (length b) b (omega arith) in
-    let whole = same-len-mid (moved .result) (length b - moved .result) b (got .last .1 .0) (got .kept .1 .0) in
+    let as-long = same-len-mid (moved .result) (length b - moved .result) b (got .last .1 .0) (got .kept .1 .0) in
     rw (lt-leb (a .need) (size (a .at)) (if1 .left))
     (record {
       start = refl;
       kept = rw (← moved .ensures .0)
           (take-put (moved .result) (length b - moved .result) b (got .last .1 .0) few ∙ there);
       order = omega (arith, moved .ensures .0);
-      room = omega (arith, got .ensures .0, got .kept .1 .0, few, rest, whole);
+      room = omega (arith, got .ensures .0, got .kept .1 .0, few, rest, as-long);
     })
 
 pub ready-spec : {M : Type 1} → statement M

@@ -38,9 +38,8 @@ loop-less c = omega arith
 loop-again : tie.Need-loop-again Inv-loop μ-loop
 loop-again c =
     let args = c .before .before .before .before .before .before .before .before .before .args in
-    let loop = c .before .before .before .before .before .before .loop in
+    let l = c .before .before .before .before .before .before .loop in
     let put-line = c .before .before .put-line in
-    let l = loop in
     let t = args .roles .now in
     let more : l .i < length t = omega arith in
     let count : 0 + length (take (l .i) t) ≡ l .i = omega (arith, length-take-le (l .i) t (l .inv .0)) in

@@ -35,10 +35,9 @@ put-entries-requires c κs =
     let earlier = c .before .before .before in
     let e = earlier .before .before .before .before .before .e in
     let start = earlier .before .before .before .before .before in
-    let parse-tagged-attribute = start .before .before .before .before .parse-tagged-attribute in
+    let p = start .before .before .before .before .parse-tagged-attribute in
     let first = start .before .before .before .before in
     let args = first .before .before .before .before .before .before .args in
-    let p = parse-tagged-attribute in
     let s = args .list .now in
     let prefix = args .prefix .now in
     let k = reports.entries-here prefix s (args .roles .now) _ _ (p .ensures .0) _ (e .given .1) in
@@ -55,10 +54,9 @@ returns c =
     let put-bytes = c .before .before .put-bytes in
     let enum-told = c .before .before .before .before .before .enum-told in
     let earlier = c .before .before .before .before .before in
-    let parse-tagged-attribute = earlier .before .before .before .before .parse-tagged-attribute in
+    let p = earlier .before .before .before .before .parse-tagged-attribute in
     let start = earlier .before .before .before .before in
     let args = start .before .before .before .before .before .before .args in
-    let p = parse-tagged-attribute in
     reports.reported-none (args .prefix .now) (args .list .now) (args .roles .now) _ _ (p .ensures .0)
     (enum-told .given .1) (put-bytes .ensures)
 
@@ -73,10 +71,9 @@ returns-2 c =
     let put-refusal = c .before .before .put-refusal in
     let r = c .before .before .before .before .before .r in
     let earlier = c .before .before .before .before .before in
-    let parse-tagged-attribute = earlier .before .before .before .before .parse-tagged-attribute in
+    let p = earlier .before .before .before .before .parse-tagged-attribute in
     let start = earlier .before .before .before .before in
     let args = start .before .before .before .before .before .before .args in
-    let p = parse-tagged-attribute in
     reports.reported-refused (args .prefix .now) (args .list .now) (args .roles .now) _ _ (p .ensures .0)
     _ (r .given .1) (put-refusal .ensures .0) (put-refusal .ensures .1)
 
@@ -93,10 +90,9 @@ returns-3 c =
     let earlier = c .before .before .before .before .before .before in
     let e = earlier .before .before .before .before .before .e in
     let start = earlier .before .before .before .before .before in
-    let parse-tagged-attribute = start .before .before .before .before .parse-tagged-attribute in
+    let p = start .before .before .before .before .parse-tagged-attribute in
     let first = start .before .before .before .before in
     let args = first .before .before .before .before .before .before .args in
-    let p = parse-tagged-attribute in
     reports.reported-read (args .prefix .now) (args .list .now) (args .roles .now) _ _ (p .ensures .0)
     _ (e .given .1) (put-bytes2 .ensures) (put-entries .ensures)
 

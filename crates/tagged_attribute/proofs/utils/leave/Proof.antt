@@ -21,8 +21,7 @@ returns : tie.Need-returns
 returns c =
     let fill2 = c .before .before .fill2 in
     let fill = c .before .before .before .before .before .before .fill in
-    let args = c .before .before .before .before .before .before .before .before .before .args in
-    let a = args in
+    let a = c .before .before .before .before .before .before .before .before .before .args in
     let left = others (a .rows - a .end) in
     fill2 .ensures
     ∙ ap (λ b. sets b (a .rows) (replicate (length b - a .rows) no-role)) (fill .ensures)

@@ -269,8 +269,8 @@ walk-returns-6 t c =
     let p = back8 .line-shape in
     let w = c .before .before .before .walk in
     walks.refused-inside (a .s .now) (a .levels) (a .from) (l .at) (l .row) (l .inv) (p .result) (p .ensures)
-    (c .before .before .before .before .before .before .before .before .before .before .loop-test .taken)
-    (c .before .before .before .before .before .before .before .before .before .if1 .left)
+    (back8 .before .before .loop-test .taken)
+    (back8 .before .if1 .left)
     (c .before .before .before .before .before .before .shape2 .given .0 .0)
     (c .before .before .before .before .before .before .shape2 .given .1)
     (c .before .before .before .before .if2 .left) (w .result) (w .ensures) (c .before .inside .given .0 .0)
@@ -305,10 +305,10 @@ walk-returns-7 t c =
     let w = c .before .before .before .before .before .walk in
     let i = c .before .before .before .inside2 .given in
     walks.mismatched (a .s .now) (a .levels) (a .from) (l .at) (l .row) (l .inv) (p .result) (p .ensures)
-    (c .before .before .before .before .before .before .before .before .before .before .before .before .loop-test .taken)
-    (c .before .before .before .before .before .before .before .before .before .before .before .if1 .left)
-    (c .before .before .before .before .before .before .before .before .shape2 .given .0 .0)
-    (c .before .before .before .before .before .before .before .before .shape2 .given .1)
+    (back8 .before .before .before .before .loop-test .taken)
+    (back8 .before .before .before .if1 .left)
+    (back8 .shape2 .given .0 .0)
+    (back8 .shape2 .given .1)
     (c .before .before .before .before .before .before .if2 .left) (w .result) (w .ensures) (i .0 .0) (i .0 .1 .0)
     (i .0 .1 .1 .0) (i .1) (λ q. c .if3 .taken (c .before .closer .ensures ∙ q))
 
@@ -328,7 +328,14 @@ walk-add-row t c =
     let p = back8 .before .before .line-shape in
     let w = c .before .before .before .before .before .walk in
     let i = c .before .before .before .inside2 .given in
-    omega (arith, walks.closed-past (a .s .now) (a .levels) (a .from) (l .at) (l .row) (l .inv) (p .result) (p .ensures) (c .before .before .before .before .before .before .before .before .before .before .before .before .loop-test .taken) (c .before .before .before .before .before .before .before .before .before .before .before .if1 .left) (c .before .before .before .before .before .before .before .before .shape2 .given .0 .0) (c .before .before .before .before .before .before .before .before .shape2 .given .1) (c .before .before .before .before .before .before .if2 .left) (w .result) (w .ensures) (i .0 .0) (i .0 .1 .0) (i .0 .1 .1 .0) (i .1))
+    omega (
+      arith,
+      walks.closed-past (a .s .now) (a .levels) (a .from) (l .at) (l .row) (l .inv) (p .result)
+          (p .ensures) (back8 .before .before .before .before .loop-test .taken)
+          (back8 .before .before .before .if1 .left) (back8 .shape2 .given .0 .0) (back8 .shape2 .given .1)
+          (c .before .before .before .before .before .before .if2 .left) (w .result) (w .ensures) (i .0 .0) (i .0 .1 .0)
+          (i .0 .1 .1 .0) (i .1),
+    )
 
 -- src/check.rt:48:5
 walk-loop-less-2 : (t : ℕ) → walk-lts.Need-loop-less-2
@@ -341,8 +348,14 @@ walk-loop-less-2 t c =
     let p = back8 .before .before .line-shape in
     let w = c .before .before .before .before .before .walk in
     let i = c .before .before .before .inside2 .given in
-    let o = walks.opened-past (a .s .now) (a .levels) (a .from) (l .at) (l .row) (l .inv) (p .result) (p .ensures) (c .before .before .before .before .before .before .before .before .before .before .before .before .loop-test .taken) (c .before .before .before .before .before .before .before .before .before .before .before .if1 .left) (c .before .before .before .before .before .before .before .before .shape2 .given .0 .0) (c .before .before .before .before .before .before .before .before .shape2 .given .1) in
-    let q = walks.closed-past (a .s .now) (a .levels) (a .from) (l .at) (l .row) (l .inv) (p .result) (p .ensures) (c .before .before .before .before .before .before .before .before .before .before .before .before .loop-test .taken) (c .before .before .before .before .before .before .before .before .before .before .before .if1 .left) (c .before .before .before .before .before .before .before .before .shape2 .given .0 .0) (c .before .before .before .before .before .before .before .before .shape2 .given .1) (c .before .before .before .before .before .before .if2 .left) (w .result) (w .ensures) (i .0 .0) (i .0 .1 .0) (i .0 .1 .1 .0) (i .1) in
+    let o = walks.opened-past (a .s .now) (a .levels) (a .from) (l .at) (l .row) (l .inv) (p .result) (p .ensures)
+    (back8 .before .before .before .before .loop-test .taken) (back8 .before .before .before .if1 .left)
+    (back8 .shape2 .given .0 .0) (back8 .shape2 .given .1) in
+    let q = walks.closed-past (a .s .now) (a .levels) (a .from) (l .at) (l .row) (l .inv) (p .result) (p .ensures)
+    (back8 .before .before .before .before .loop-test .taken) (back8 .before .before .before .if1 .left)
+    (back8 .shape2 .given .0 .0) (back8 .shape2 .given .1)
+    (c .before .before .before .before .before .before .if2 .left) (w .result) (w .ensures) (i .0 .0) (i .0 .1 .0)
+    (i .0 .1 .1 .0) (i .1) in
     omega (arith, o, q)
 
 -- src/check.rt:48:5
@@ -357,10 +370,10 @@ walk-loop-again-2 t c =
     let w = c .before .before .before .before .before .walk in
     let i = c .before .before .before .inside2 .given in
     walks.matched (a .s .now) (a .levels) (a .from) (l .at) (l .row) (l .inv) (p .result) (p .ensures)
-    (c .before .before .before .before .before .before .before .before .before .before .before .before .loop-test .taken)
-    (c .before .before .before .before .before .before .before .before .before .before .before .if1 .left)
-    (c .before .before .before .before .before .before .before .before .shape2 .given .0 .0)
-    (c .before .before .before .before .before .before .before .before .shape2 .given .1)
+    (back8 .before .before .before .before .loop-test .taken)
+    (back8 .before .before .before .if1 .left)
+    (back8 .shape2 .given .0 .0)
+    (back8 .shape2 .given .1)
     (c .before .before .before .before .before .before .if2 .left) (w .result) (w .ensures) (i .0 .0) (i .0 .1 .0)
     (i .0 .1 .1 .0) (i .1) (sym (c .before .closer .ensures) ∙ c .if3 .left)
 

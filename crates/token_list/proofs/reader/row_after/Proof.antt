@@ -17,8 +17,7 @@ line-end-requires c κs = search needs
 
 returns-2 : tie.Need-returns-2
 returns-2 c =
-    let args-2 = c .before .before .before .before .args in
-    let args = args-2 in
+    let args = c .before .before .before .before .args in
     let found = c .before .line-end in
     on-last (args .list .now) (record { at = args .at; row = args .row }) (found .result) (search needs) (c .if2 .taken)
     (found .ensures)
@@ -28,8 +27,7 @@ add-next c = search needs
 
 returns-3 : tie.Need-returns-3
 returns-3 c =
-    let args-2 = c .before .before .before .before .args in
-    let args = args-2 in
+    let args = c .before .before .before .before .args in
     let found = c .before .line-end in
     on-line (args .list .now) (record { at = args .at; row = args .row }) (found .result) (search needs)
     (found .ensures)

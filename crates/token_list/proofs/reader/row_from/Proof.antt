@@ -13,15 +13,13 @@ line-end-requires c κs = search needs
 
 returns-2 : tie.Need-returns-2
 returns-2 c =
-    let args-2 = c .before .before .before .before .args in
-    let args = args-2 in
+    let args = c .before .before .before .before .args in
     let found = c .before .line-end in
     shows-last (args .list .now) (args .at) (found .result) (search needs) (c .if2 .taken) (found .ensures)
 
 returns-3 : tie.Need-returns-3
 returns-3 c =
-    let args-2 = c .before .before .before .before .args in
-    let args = args-2 in
+    let args = c .before .before .before .before .args in
     let found = c .before .line-end in
     shows-line (args .list .now) (args .at) (found .result) (search needs) (found .ensures)
 

@@ -20,8 +20,7 @@ is-name-start-requires c κs = search needs
 
 returns-2 : tie.Need-returns-2
 returns-2 c =
-    let args = c .before .before .before .before .before .args in
-    let a = args in
+    let a = c .before .before .before .before .before .args in
     sym
     (ap plainName (slice-next (a .s .now) (a .start) (a .end) (omega arith) (omega arith)) ∙ and-fails _ _
     (sym (c .before .is-name-start .ensures) ∙ not-true _ (c .if2 .taken)))
@@ -34,8 +33,7 @@ all-fit-requires c κs = search needs
 
 returns-3 : tie.Need-returns-3
 returns-3 c =
-    let args = c .before .before .before .before .before .before .args in
-    let a = args in
+    let a = c .before .before .before .before .before .before .args in
     c .all-fit .ensures ∙ sym
     (ap plainName (slice-next (a .s .now) (a .start) (a .end) (omega arith) (omega arith)) ∙ and-last _ _
     (sym (c .before .before .is-name-start .ensures) ∙ not-false _ (c .before .if2 .left)))

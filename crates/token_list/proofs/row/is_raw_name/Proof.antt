@@ -25,8 +25,7 @@ shared-slice-read-if3 c = search needs
 
 returns-3 : tie.Need-returns-3
 returns-3 c =
-    let args = c .before .before .before .before .before .args in
-    let a = args in
+    let a = c .before .before .before .before .before .args in
     sym (raw-parts (a .s .now) (a .start) (a .end) (omega arith) (omega arith) ∙ simp (ne-eqb _ _ (c .if3 .taken)))
 
 shared-slice-read-if4 : tie.Need-shared-slice-read-if4
@@ -34,8 +33,7 @@ shared-slice-read-if4 c = search needs
 
 returns-4 : tie.Need-returns-4
 returns-4 c =
-    let args = c .before .before .before .before .before .before .before .args in
-    let a = args in
+    let a = c .before .before .before .before .before .before .before .args in
     sym
     (raw-parts (a .s .now) (a .start) (a .end) (omega arith) (omega arith) ∙ simp
     (eq-eqb _ _ (c .before .before .if3 .left), ne-eqb _ _ (c .if4 .taken)))
@@ -48,9 +46,8 @@ is-plain-name-requires c κs = search needs
 
 returns-5 : tie.Need-returns-5
 returns-5 c =
-    let args = c .before .before .before .before .before .before .before .before .before .args in
+    let a = c .before .before .before .before .before .before .before .before .before .args in
     let if3 = c .before .before .before .before .if3 in
-    let a = args in
     sym
     (raw-parts (a .s .now) (a .start) (a .end) (omega arith) (omega arith) ∙ and-last _ _
     (and-both _ _ (eq-eqb _ _ (if3 .left)) (eq-eqb _ _ (c .before .before .if4 .left))) ∙ and-fails _ _
@@ -61,9 +58,8 @@ is-never-raw-requires c κs = search needs
 
 returns-6 : tie.Need-returns-6
 returns-6 c =
-    let args = c .before .before .before .before .before .before .before .before .before .before .args in
+    let a = c .before .before .before .before .before .before .before .before .before .before .args in
     let if3 = c .before .before .before .before .before .if3 in
-    let a = args in
     ap not (c .is-never-raw .ensures) ∙ sym
     (raw-parts (a .s .now) (a .start) (a .end) (omega arith) (omega arith) ∙ and-last _ _
     (and-both _ _ (eq-eqb _ _ (if3 .left)) (eq-eqb _ _ (c .before .before .before .if4 .left))) ∙ and-last _ _

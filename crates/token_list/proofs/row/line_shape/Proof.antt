@@ -62,8 +62,8 @@ enum-told-3 c = search needs
 enum-told-4 : tie.Need-enum-told-4
 enum-told-4 c = search needs
 
-whole-shape-requires : tie.Need-whole-shape-requires
-whole-shape-requires c κs =
+long-shape-requires : tie.Need-long-shape-requires
+long-shape-requires c κs =
     let one-byte = c .before .before .before .before .one-byte in
     sym (one-byte .ensures) ∙ c .before .before .before .if1 .left
 
@@ -98,7 +98,7 @@ line-shape-spec =
     enum-told-2
     enum-told-3
     enum-told-4
-    whole-shape-requires
+    long-shape-requires
     returns-2
     returns-3
     returns-4

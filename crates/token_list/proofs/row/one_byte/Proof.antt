@@ -32,8 +32,7 @@ shared-slice-read-if3 c = search needs
 
 returns-3 : tie.Need-returns-3
 returns-3 c =
-    let args = c .before .before .before .before .args in
-    let a = args in
+    let a = c .before .before .before .before .args in
     sym
     (and-last _ _ (lt-ltb (a .at + 3) (length (a .s .now)) (omega arith)) ∙ and-fails _ _ (ne-eqb _ _ (c .if3 .taken)))
 
@@ -42,8 +41,7 @@ shared-slice-read-result c = search needs
 
 returns-4 : tie.Need-returns-4
 returns-4 c =
-    let args = c .before .before .before .before .before .args in
-    let a = args in
+    let a = c .before .before .before .before .before .args in
     sym
     (and-last _ _ (lt-ltb (a .at + 3) (length (a .s .now)) (omega arith)) ∙ and-last _ _
     (eq-eqb _ _ (c .before .if3 .left)))

@@ -44,8 +44,7 @@ token-line-requires c κs = search needs
 
 returns-4 : tie.Need-returns-4
 returns-4 c =
-    let before = c .before .before .before .before .before in
-    let d = before in
+    let d = c .before .before .before .before .before in
     let a = d .before .before .before .before .before .before .args in
     let n = sym (c .before .before .is-name-start .ensures) ∙ c .before .if5 .taken in
     let k = c .before .before .before .if4 .taken in
@@ -60,8 +59,7 @@ token-line-requires-2 c κs = search needs
 
 returns-5 : tie.Need-returns-5
 returns-5 c =
-    let before = c .before .before .before .before .before .before in
-    let d = before in
+    let d = c .before .before .before .before .before .before in
     let a = d .before .before .before .before .before .before .args in
     let n = sym (c .before .before .starts-literal .ensures) ∙ c .before .if7 .taken in
     let k = c .before .before .before .if6 .taken in

@@ -9,7 +9,7 @@ use Rattle.token_list.proofs.row.token_line.Statement.{statement}
 use Rattle.token_list.proofs.row.token_line.Tie as tie
 
 untold : {s : List ℕ} {names : Bool} {start next : ℕ} → TokenLine s names start (record { shape = Wrong; next = next })
-untold = record { told = λ h. absurd (h refl); whole = λ h. absurd (h refl) }
+untold = record { told = λ h. absurd (h refl); ends = λ h. absurd (h refl) }
 
 text-end-requires : tie.Need-text-end-requires
 text-end-requires c κs = search needs

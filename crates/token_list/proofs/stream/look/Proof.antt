@@ -25,7 +25,7 @@ add-start c = search needs
 shared-slice-read-first : tie.Need-shared-slice-read-first
 shared-slice-read-first c =
     let d = c .before .before .before .before in
-    let f = first-row (d .args .s .now) (d .args .c .at) (d .pre .whole) (c .before .before .before .if1 .left) in
+    let f = first-row (d .args .s .now) (d .args .c .at) (d .pre .rightRows) (c .before .before .before .if1 .left) in
     omega (arith, three-bytes _ _ f)
 
 returns-3 : tie.Need-returns-3

@@ -25,13 +25,12 @@ shared-slice-read-kind : tie.Need-shared-slice-read-kind Inv-loop μ-loop
 shared-slice-read-kind c = omega (arith, c .before .if1 .left)
 
 row-end-requires : tie.Need-row-end-requires Inv-loop μ-loop
-row-end-requires c κs = (c .before .before .before .loop .inv .whole, omega (arith, c .before .if1 .left))
+row-end-requires c κs = (c .before .before .before .loop .inv .rightRows, omega (arith, c .before .if1 .left))
 
 deeper-requires : tie.Need-deeper-requires Inv-loop μ-loop
 deeper-requires c κs =
     let good = c .before .before .before .before .before .before .good in
-    let loop = c .before .before .before .before .loop in
-    let l = loop in
+    let l = c .before .before .before .before .loop in
     (c .before .before .before .loop-test .taken, omega (arith, l .inv .deep, l .inv .within, good))
 
 add-i : tie.Need-add-i Inv-loop μ-loop
@@ -52,11 +51,9 @@ loop-less c =
 
 loop-again : tie.Need-loop-again Inv-loop μ-loop
 loop-again c =
-    let args = c .before .before .before .before .before .before .before .args in
-    let loop = c .before .before .before .before .before .loop in
+    let a = c .before .before .before .before .before .before .before .args in
+    let l = c .before .before .before .before .before .loop in
     let loop-test = c .before .before .before .before .loop-test in
-    let l = loop in
-    let a = args in
     subst (λ (d : ℕ). Inside (a .s .now) (a .c) (c .before .row-end .result + 1) (l .row + 1) d)
     (sym (c .deeper .ensures))
     (inside-step (a .s .now) (a .c) (l .i) (l .row) (l .depth) (c .before .row-end .result) (loop-test .taken) (l .inv)

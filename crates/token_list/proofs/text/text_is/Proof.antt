@@ -14,8 +14,7 @@ text-within-requires c κs = search needs
 
 returns : tie.Need-returns
 returns c =
-    let args = c .before .before .before .before .args in
-    let a = args in
+    let a = c .before .before .before .before .args in
     let e : take (length (a .s .now)) (a .s .now) ≡ take (a .end) (a .s .now) =
     take-all (length (a .s .now)) (a .s .now) (omega arith) ∙ sym (take-all (a .end) (a .s .now) (omega arith)) in
     c .text-within .ensures ∙ ap (λ (x : List ℕ). same (drop (a .start) x) (a .name .now)) e

@@ -18,8 +18,7 @@ returns c =
 
 returns-2 : tie.Need-returns-2
 returns-2 c =
-    let args = c .before .before .before .before .args in
-    let a = args in
+    let a = c .before .before .before .before .args in
     sym
     (same-length (slice (a .start) (a .end) (a .s .now)) (a .name .now)
     (λ e. c .if2 .taken (sym (length-slice (a .start) (a .end) (a .s .now) (omega arith)) ∙ e)))
@@ -29,8 +28,7 @@ goes-on-requires c κs = search needs
 
 returns-3 : tie.Need-returns-3
 returns-3 c =
-    let args = c .before .before .before .before .before .args in
-    let a = args in
+    let a = c .before .before .before .before .before .args in
     let e : a .start + length (a .name .now) ≡ a .end = omega arith in
     c .goes-on .ensures ∙ ap (λ (n : ℕ). same (slice (a .start) n (a .s .now)) (a .name .now)) e
 

@@ -26,8 +26,7 @@ same-length c = search needs
 
 returns : tie.Need-returns
 returns c rs text rows =
-    let before = c .before .before .before .before .before in
-    let put = before in
+    let put = c .before .before .before .before .before in
     let args = put .before .before .before .before .before .args in
     extended (args .from) (args .to) (args .s .now) (c .counted .ensures) (put .put-bytes .ensures) rs text rows
 

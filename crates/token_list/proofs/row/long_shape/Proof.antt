@@ -9,8 +9,8 @@ use Prim.Native.Nat.{ℕ}
 use mathlib.Core.List.{List}
 use mathlib.Core.Path.{_≡_, refl, sym, _∙_, ap}
 use borrow.Author.Needs.{needs}
-use Rattle.token_list.proofs.row.whole_shape.Statement.{statement}
-use Rattle.token_list.proofs.row.whole_shape.Tie as tie
+use Rattle.token_list.proofs.row.long_shape.Statement.{statement}
+use Rattle.token_list.proofs.row.long_shape.Tie as tie
 
 no-row : (s : List ℕ) (at : ℕ) (r : Line) → shape (r .shape) ≡ wrong → formed (lines (drop at s)) ≡ wrong →
     Shaped s at r
@@ -32,9 +32,8 @@ sub-if2 c = search needs
 
 returns-2 : tie.Need-returns-2
 returns-2 c =
-    let args = c .before .before .before .before .args in
+    let a = c .before .before .before .before .args in
     let l = c .before .before .line-end in
-    let a = args in
     no-row _ _ _ refl
     (ap formed (l .ensures .found (omega arith)) ∙ form-short (a .s .now) (a .at) (l .result) (omega arith)
     (omega arith) (omega arith))
@@ -50,10 +49,8 @@ shared-slice-read-if3 c = search needs
 
 returns-3 : tie.Need-returns-3
 returns-3 c =
-    let args = c .before .before .before .before .before .before .args in
-    let line-end = c .before .before .before .before .line-end in
-    let l = line-end in
-    let a = args in
+    let a = c .before .before .before .before .before .before .args in
+    let l = c .before .before .before .before .line-end in
     no-row _ _ _ refl
     (ap formed (l .ensures .found (omega arith)) ∙ form-space (a .s .now) (a .at) (l .result) (omega arith)
     (omega arith) (c .if3 .taken))
@@ -63,10 +60,8 @@ sub-if4 c = search needs
 
 returns-4 : tie.Need-returns-4
 returns-4 c =
-    let args = c .before .before .before .before .before .before .before .args in
-    let line-end = c .before .before .before .before .before .line-end in
-    let l = line-end in
-    let a = args in
+    let a = c .before .before .before .before .before .before .before .args in
+    let l = c .before .before .before .before .before .line-end in
     no-row _ _ _ refl
     (ap formed (l .ensures .found (omega arith)) ∙ form-long (a .s .now) (a .at) (l .result) (omega arith)
     (omega arith) (c .before .if3 .left) (omega arith))
@@ -77,8 +72,7 @@ shared-slice-read-kind c = search needs
 text-shape-requires : tie.Need-text-shape-requires
 text-shape-requires c κs =
     let before = c .before .before .before .before .before .before .before .before in
-    let line-end = c .before .before .before .before .before .before .line-end in
-    let l = line-end in
+    let l = c .before .before .before .before .before .before .line-end in
     let d = before in (
       omega arith,
       not-one-byte (d .args .s .now) (d .args .at) (l .result) (d .pre) (c .before .before .if3 .left) (omega arith)
@@ -87,10 +81,8 @@ text-shape-requires c κs =
 
 returns-5 : tie.Need-returns-5
 returns-5 c =
-    let args = c .before .before .before .before .before .before .before .before .before .args in
-    let line-end = c .before .before .before .before .before .before .before .line-end in
-    let l = line-end in
-    let a = args in
+    let a = c .before .before .before .before .before .before .before .before .before .args in
+    let l = c .before .before .before .before .before .before .before .line-end in
     let f = l .ensures .found (omega arith) in
     record {
       right = c .text-shape .ensures ∙ sym (ap formed f ∙
@@ -100,8 +92,8 @@ returns-5 c =
       rest = λ h. (slice (a .at) (l .result) (a .s .now), f);
     }
 
-pub whole-shape-spec : {M : Type 1} → statement M
-whole-shape-spec =
+pub long-shape-spec : {M : Type 1} → statement M
+long-shape-spec =
     tie.close
     (tie.spec
     line-end-requires
