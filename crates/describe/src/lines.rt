@@ -139,7 +139,8 @@ pub fn put_item(s: &[u8], d: ItemAt, out: &mut [u8]) -> usize
     let names = put_bytes(out, 0, b"part name number\n");
     let kind = d.kind;
     let name = d.name;
-    let head = put_kind(s, kind, name, out, names);
+    let token = name.token;
+    let head = put_kind(s, kind, token, out, names);
     let count = d.count;
     put_position(out, head, count)
 }

@@ -242,7 +242,8 @@ fn put_listing(s: &[u8], d: ItemAt, roles: &mut [u8], out: &mut [u8]) -> usize
         Put (now (out .entry)) (now (out .exit)) 0 r (listing x)) ⌝ }
 {
     let item = put_item(s, d, out);
-    let c = d.generics;
+    let name = d.name;
+    let c = name.next;
     let parameters = generics_lines(s, c, roles, out, item);
     body_lines(s, d, roles, out, parameters)
 }

@@ -26,8 +26,9 @@ use Rattle.parse.specs.Contract.{on, no, Meets, stream, point, TokenIn, InsideA
 use Rattle.parse.specs.Contract.{isLifetime, parameterKind, boundOf, defaultOf, parameterShown, parameterSaid}
 use Rattle.parse.specs.declared.runs.Run.{Run}
 use Rattle.parse.specs.declared.generics.ParameterKind.{ParameterKind}
-use Rattle.parse.specs.declared.generics.ParameterRun.{ParameterRun}
-use Rattle.parse.specs.declared.generics.ParameterRun.the-variants as runs
+use Rattle.parse.specs.declared.generics.RunPart.{RunPart}
+use Rattle.parse.specs.declared.generics.RunPart.the-variants as runParts
+use Rattle.parse.specs.declared.runs.Run.{Run}
 use Rattle.parse.specs.declared.generics.ParameterAt.{ParameterAt}
 use Rattle.parse.specs.declared.generics.ParameterStep.{ParameterStep}
 use Rattle.parse.specs.declared.generics.ParameterStep.the-variants as steps
@@ -121,20 +122,20 @@ module _ {s : List ℕ} {n : ℕ} (passes : check s ≡ passed n) where
         bytes = c .bytes;
       }
 
-  constraints-in : (x : Point) (bound default : Trees) (r : ParameterRun) {d : Cursor} → InList s d
-      → ParameterRunAt s x bound default r → RunIn s (constraintsOf r d) bound
-  constraints-in x bound default runs.Absent i h = subst (RunIn s _) (sym (h .1)) (empty-in i)
-  constraints-in x bound default (runs.Bound r) i h = run-in (h .0 .1)
-  constraints-in x bound default (runs.Default r) i h = subst (RunIn s _) (sym (h .1)) (empty-in i)
+  constraints-in : (x : Point) (bound default : Trees) (m : RunPart) (r : Run) {d : Cursor} → InList s d
+      → ParameterRunAt s x bound default m r → RunIn s (constraintsOf m r d) bound
+  constraints-in x bound default runParts.Absent r i h = subst (RunIn s _) (sym (h .1)) (empty-in i)
+  constraints-in x bound default runParts.Bound r i h = run-in (h .0 .1)
+  constraints-in x bound default runParts.Default r i h = subst (RunIn s _) (sym (h .1)) (empty-in i)
 
   pub parameter-in : (x : Point) (p : ParameterAt) (a : Parameter) → InList s (p .next)
       → ParameterOf s (p .kind) (p .name) a × TokenIn s (x .row) (p .name)
-      × ParameterRunAt s (pastToken x) (boundOf a) (defaultOf a) (p .run)
+      × ParameterRunAt s (pastToken x) (boundOf a) (defaultOf a) (p .part) (p .run)
       → ParameterIn s p a
   parameter-in x p a i h =
       record {
         name = record { told = h .0; start = h .1 .text };
-        run = constraints-in (pastToken x) (boundOf a) (defaultOf a) (p .run) i (h .2);
+        run = constraints-in (pastToken x) (boundOf a) (defaultOf a) (p .part) (p .run) i (h .2);
       }
 
 -- ## One parameter after the other
@@ -183,7 +184,7 @@ module _ {f : Parameter → Parameter} {extra : List Parameter} {angle : ℕ} {s
       abbrev Told : Parameter → Type 0
       Told a =
           ParameterOf s (p .kind) (p .name) a × TokenIn s (parameterNameAt (point s c) .row) (p .name)
-          × ParameterRunAt s (pastToken (parameterNameAt (point s c))) (boundOf a) (defaultOf a) (p .run)
+          × ParameterRunAt s (pastToken (parameterNameAt (point s c))) (boundOf a) (defaultOf a) (p .part) (p .run)
 
       told : (v : Maybe Parameter) → parameterShown s (parameterNameAt (point s c)) (steps.One p) v
           → (a : Parameter) × (v ≡ one a) × Told a

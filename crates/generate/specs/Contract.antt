@@ -23,10 +23,11 @@ use Rattle.reading.specs.Declaration.{Parameter}
 use Rattle.parse.specs.Contract.{ParameterOf, boundOf}
 use Rattle.parse.specs.declared.generics.ParameterKind.{ParameterKind}
 use Rattle.parse.specs.declared.generics.ParameterKind.the-variants as kinds
-use Rattle.parse.specs.declared.generics.ParameterRun.{ParameterRun}
-use Rattle.parse.specs.declared.generics.ParameterRun.the-variants as runs
+use Rattle.parse.specs.declared.generics.RunPart.{RunPart}
+use Rattle.parse.specs.declared.generics.RunPart.the-variants as runParts
+use Rattle.parse.specs.declared.runs.Run.{Run}
 use Rattle.parse.specs.declared.generics.ParameterAt.{ParameterAt}
-use Rattle.generate.specs.declared.generics.ConstraintsAt.{ConstraintsAt}
+use Rattle.generate.specs.declared.parameter.ConstraintsAt.{ConstraintsAt}
 use Rattle.generate.specs.declared.stream_builder.StreamBuilder.{StreamBuilder}
 use Rattle.generate.specs.declared.names.Gathered.{Gathered}
 
@@ -86,10 +87,10 @@ pub record GatheredAs (arg ls₀ ls ts₀ ts : List ℕ) (at r : Gathered) : Typ
 -- ## Parameters that were read
 
 -- where the constraints of a parameter stand that ends at `next`
-abbrev pub constraintsOf : ParameterRun → Cursor → ConstraintsAt
-constraintsOf runs.Absent next = record { from = next; to = next }
-constraintsOf (runs.Bound r) next = record { from = r .from; to = r .to }
-constraintsOf (runs.Default r) next = record { from = next; to = next }
+abbrev pub constraintsOf : RunPart → Run → Cursor → ConstraintsAt
+constraintsOf runParts.Absent r next = record { from = next; to = next }
+constraintsOf runParts.Bound r next = record { from = r .from; to = r .to }
+constraintsOf runParts.Default r next = record { from = next; to = next }
 
 abbrev pub isConst : ParameterKind → Bool
 isConst kinds.Lifetime = false
@@ -110,7 +111,7 @@ pub record NameIn (s : List ℕ) (kind : ParameterKind) (name : Token) (a : Para
 -- and its constraints
 pub record ParameterIn (s : List ℕ) (p : ParameterAt) (a : Parameter) : Type 0 where
   pub name : NameIn s (p .kind) (p .name) a
-  pub run : RunIn s (constraintsOf (p .run) (p .next)) (boundOf a)
+  pub run : RunIn s (constraintsOf (p .part) (p .run) (p .next)) (boundOf a)
 
 -- a name, with the `'` of a lifetime
 abbrev pub nameRows : Parameter → List Row

@@ -2,14 +2,11 @@
 // alone, written as a list into a lent output.
 use crate::names::add_names;
 use crate::names::right_names;
+use crate::parameter::add_parameter;
 use crate::stream_builder::StreamBuilder;
 use output::written::Written;
 use output::written::put_answer;
-use parse::generics::ParameterAt;
-use parse::generics::ParameterKind;
-use parse::generics::ParameterRun;
 use parse::generics::ParameterStep;
-use parse::generics::is_lifetime;
 use parse::generics::parameter;
 use parse::item::ItemStep;
 use parse::item::item;
@@ -22,10 +19,9 @@ use token_list::check::Refusal;
 use token_list::check::check;
 use token_list::layout::FIRST_ROW;
 use token_list::stream::Peeked;
-use token_list::stream::Token;
 use token_list::stream::peek;
 ghost use mathlib.Core.Path.{_≡_};
-ghost use mathlib.Core.List.{List, [], _∷_, _++_, map};
+ghost use mathlib.Core.List.{List, _++_, map};
 ghost use Prim.Native.Nat.{ℕ};
 ghost use lib.ListN.{length};
 ghost use Rattle.token_list.specs.Layout.{FIRST-ROW};
@@ -39,172 +35,11 @@ ghost use Rattle.reading.specs.Reading.{every, parameter, generics, item};
 ghost use Rattle.parse.specs.Contract.{InsideAt};
 ghost use Rattle.writing.specs.Rows.{listOf};
 ghost use Rattle.writing.specs.Names.{namesOf};
-ghost use Rattle.writing.specs.Generics.{constraints, parameterRows, parted, angledRows, genericsRows, addedType};
+ghost use Rattle.writing.specs.Generics.{parted, angledRows, genericsRows, addedType};
 ghost use Rattle.writing.specs.Answer.{implGenerics, typeGenerics, withAdditional, itemAnswer, answer, MOST, mostAdded};
-ghost use Rattle.generate.specs.Contract.{Appended, Built, Part, RunWritten, constrained, constraintsOf, isConst};
-ghost use Rattle.generate.specs.Contract.{ParameterIn, NameIn, nameRows, constRows, shaped, parametersBy};
+ghost use Rattle.generate.specs.Contract.{Appended, Built};
+ghost use Rattle.generate.specs.Contract.{shaped, parametersBy};
 ghost use Rattle.generate.specs.Contract.{rightTexts, writer, Answered, Reported};
-
-// Where constraints stand in the list that was read.
-pub struct ConstraintsAt {
-    pub from: Cursor,
-    pub to: Cursor,
-}
-
-// `:` and the run of the list s from a cursor up to another.
-fn put_run(b: StreamBuilder, out: &mut [u8], s: &[u8], from: Cursor, to: Cursor) -> StreamBuilder
-    requires { ⌜ Part (now s) from to ⌝ }
-    ensures { λ r. ⌜ RunWritten (now (s .entry)) from to (now (out .entry)) (now (out .exit)) b r constraints ⌝ }
-{
-    let colon = b.punct(out, b':');
-    colon.extend(out, s, from, to)
-}
-
-// The same where the run is not empty, or always.
-fn put_constraints(
-    b: StreamBuilder,
-    out: &mut [u8],
-    s: &[u8],
-    from: Cursor,
-    to: Cursor,
-    always: bool,
-) -> StreamBuilder
-    requires { ⌜ Part (now s) from to ⌝ }
-    ensures { λ r. ⌜ RunWritten (now (s .entry)) from to (now (out .entry)) (now (out .exit)) b r
-        (constrained always) ⌝ }
-{
-    if always {
-        return put_run(b, out, s, from, to);
-    }
-    if to.row <= from.row {
-        return b;
-    }
-    put_run(b, out, s, from, to)
-}
-
-// virtue's Generic::constraints; a default is none of them, and where there are none an empty part
-// stands for them.
-fn constraints(run: ParameterRun, next: Cursor) -> ConstraintsAt
-    ensures { λ r. ⌜ r ≡ constraintsOf run next ⌝ }
-{
-    match run {
-        ParameterRun::Absent => ConstraintsAt {
-            from: next,
-            to: next,
-        },
-        ParameterRun::Default(_) => ConstraintsAt {
-            from: next,
-            to: next,
-        },
-        ParameterRun::Bound(r) => {
-            let from = r.from;
-            let to = r.to;
-            ConstraintsAt { from, to }
-        }
-    }
-}
-
-fn is_const(kind: ParameterKind) -> bool
-    ensures { λ r. ⌜ r ≡ isConst kind ⌝ }
-{
-    match kind {
-        ParameterKind::Lifetime => false,
-        ParameterKind::Const => true,
-        ParameterKind::Type => false,
-    }
-}
-
-// A parameter's name, with the `'` of a lifetime.
-fn append_name(
-    b: StreamBuilder,
-    out: &mut [u8],
-    s: &[u8],
-    kind: ParameterKind,
-    name: Token,
-) -> StreamBuilder
-    requires { ⌜ ((a : Parameter) × NameIn (now s) kind name a) ⌝ }
-    ensures { λ r. ⌜ ((a : Parameter) → NameIn (now (s .entry)) kind name a →
-        Appended (now (out .entry)) (now (out .exit)) b r (nameRows a)) ⌝ }
-{
-    if is_lifetime(kind) {
-        return b.lifetime(out, s, name);
-    }
-    b.ident(out, s, name)
-}
-
-// The word of a const.
-fn append_const(b: StreamBuilder, out: &mut [u8], constant: bool) -> StreamBuilder
-    ensures { λ r. ⌜ Appended (now (out .entry)) (now (out .exit)) b r (constRows constant) ⌝ }
-{
-    if constant {
-        return b.ident_str(out, b"const");
-    }
-    b
-}
-
-// virtue's Generic::append_to_result_with_constraints
-fn append_to_result_with_constraints(
-    b: StreamBuilder,
-    out: &mut [u8],
-    s: &[u8],
-    p: ParameterAt,
-) -> StreamBuilder
-    requires { ⌜ ((a : Parameter) × ParameterIn (now s) p a) ⌝ }
-    ensures { λ r. ⌜ ((a : Parameter) → ParameterIn (now (s .entry)) p a →
-        Appended (now (out .entry)) (now (out .exit)) b r (parameterRows a)) ⌝ }
-{
-    let kind = p.kind;
-    let name = p.name;
-    let run = p.run;
-    let next = p.next;
-    let constant = is_const(kind);
-    let word = append_const(b, out, constant);
-    let named = append_name(word, out, s, kind, name);
-    let c = constraints(run, next);
-    let from = c.from;
-    let to = c.to;
-    put_constraints(named, out, s, from, to, constant)
-}
-
-// A parameter, or its name alone.
-fn append_parameter(
-    b: StreamBuilder,
-    out: &mut [u8],
-    s: &[u8],
-    p: ParameterAt,
-    names: bool,
-) -> StreamBuilder
-    requires { ⌜ ((a : Parameter) × ParameterIn (now s) p a) ⌝ }
-    ensures { λ r. ⌜ ((a : Parameter) → ParameterIn (now (s .entry)) p a →
-        Appended (now (out .entry)) (now (out .exit)) b r (parameterRows (shaped names a))) ⌝ }
-{
-    if names {
-        let kind = p.kind;
-        let name = p.name;
-        return append_name(b, out, s, kind, name);
-    }
-    append_to_result_with_constraints(b, out, s, p)
-}
-
-// The same behind a `,`, the first parameter apart.
-fn add_parameter(
-    b: StreamBuilder,
-    out: &mut [u8],
-    s: &[u8],
-    p: ParameterAt,
-    names: bool,
-    first: bool,
-) -> StreamBuilder
-    requires { ⌜ ((a : Parameter) × ParameterIn (now s) p a) ⌝ }
-    ensures { λ r. ⌜ ((a : Parameter) → ParameterIn (now (s .entry)) p a →
-        Appended (now (out .entry)) (now (out .exit)) b r (parted first (shaped names a ∷ []))) ⌝ }
-{
-    if first {
-        return append_parameter(b, out, s, p, names);
-    }
-    let parting = b.punct(out, b',');
-    append_parameter(parting, out, s, p, names)
-}
 
 // The parameters that are read from `from` on, then the added types; `angle` is the row of the `<`.
 fn add_parameters(
@@ -365,7 +200,8 @@ fn read_generics(
                     place: END,
                 });
             }
-            let c = d.generics;
+            let name = d.name;
+            let c = name.next;
             fit_generics(s, c, roles, names, lifetimes, types, out)
         }
     }

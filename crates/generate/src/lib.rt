@@ -2,4 +2,5 @@
 pub mod generics;
 pub mod lent;
 pub mod names;
+pub mod parameter;
 pub mod stream_builder;

@@ -31,7 +31,6 @@ use Rattle.parse.specs.declared.generics.CountStep.the-variants as count
 use Rattle.parse.specs.declared.fields.TypeAt.{TypeAt}
 use Rattle.parse.specs.declared.fields.TypeStep.{TypeStep}
 use Rattle.parse.specs.declared.fields.TypeStep.the-variants as typeSteps
-use Rattle.parse.specs.declared.fields.UnnamedFieldAt.{UnnamedFieldAt}
 use Rattle.parse.specs.declared.fields.FieldStep.{FieldStep}
 use Rattle.parse.specs.declared.fields.FieldStep.the-variants as fieldSteps
 use Rattle.parse.specs.declared.fields.NamedStep.{NamedStep}
@@ -100,13 +99,13 @@ NamedAt s x p n t v =
     })) × typeAtShown s x t f
 
 -- a field without its name, from the cursor c on, with its type at y
-pub record UnnamedFieldOf (s : List ℕ) (c : Cursor) (y : Point) (r : UnnamedFieldAt) (f : declaration.UnnamedField)
-    : Type 0 where
-  pub prefix : PrefixOf s c (r .visibility) (record { attributes = f .attributes; visibility = f .visibility })
-  pub type : RunAt s reading.fieldStops role.type y (r .run) (f .type)
+pub record UnnamedFieldOf (s : List ℕ) (c : Cursor) (y : Point) (visibility : Cursor) (typed : TypeAt)
+    (f : declaration.UnnamedField) : Type 0 where
+  pub prefix : PrefixOf s c visibility (record { attributes = f .attributes; visibility = f .visibility })
+  pub type : RunAt s reading.fieldStops role.type y (typed .run) (f .type)
 
 abbrev pub fieldSaid : FieldStep → Said
-fieldSaid (fieldSteps.One f) = on (f .field .next)
+fieldSaid (fieldSteps.One f) = on (f .typed .next)
 fieldSaid (fieldSteps.Done v d) = on d
 fieldSaid (fieldSteps.Refused r) = refusal r
 
@@ -114,7 +113,8 @@ fieldSaid (fieldSteps.Refused r) = refusal r
 abbrev pub fieldShown : List ℕ → Cursor → FieldStep → reading.Maybe declaration.Field → Type 0
 fieldShown s c (fieldSteps.One f) v =
     (a : declaration.Field) × (v ≡ reading.one a) × TextOf s (f .name) (a .name) ×
-    TokenIn s (startAt (point s c) .row) (f .name) × UnnamedFieldOf s c (typeAt (point s c)) (f .field) (a .field)
+    TokenIn s (startAt (point s c) .row) (f .name) ×
+    UnnamedFieldOf s c (typeAt (point s c)) (f .visibility) (f .typed) (a .field)
 fieldShown s c (fieldSteps.Done v d) a = (a ≡ reading.done) × ((p : Prefix) × PrefixOf s c v p)
 fieldShown s c (fieldSteps.Refused r) v = ⊥
 
@@ -131,13 +131,14 @@ namedShown s c (namedSteps.Done d) v = v ≡ reading.done
 namedShown s c (namedSteps.Refused r) v = ⊥
 
 abbrev pub unnamedSaid : UnnamedFieldStep → Said
-unnamedSaid (unnamedSteps.One f) = on (f .next)
+unnamedSaid (unnamedSteps.One f) = on (f .typed .next)
 unnamedSaid (unnamedSteps.Done d) = on d
 unnamedSaid (unnamedSteps.Refused r) = refusal r
 
 abbrev pub unnamedShown : List ℕ → Cursor → UnnamedFieldStep → reading.Maybe declaration.UnnamedField → Type 0
 unnamedShown s c (unnamedSteps.One f) v =
-    (a : declaration.UnnamedField) × (v ≡ reading.one a) × UnnamedFieldOf s c (startAt (point s c)) f a
+    (a : declaration.UnnamedField) × (v ≡ reading.one a) ×
+    UnnamedFieldOf s c (startAt (point s c)) (f .visibility) (f .typed) a
 unnamedShown s c (unnamedSteps.Done d) v = v ≡ reading.done
 unnamedShown s c (unnamedSteps.Refused r) v = ⊥
 
@@ -263,10 +264,10 @@ partsAfter p h = do
 -- what is told of a declaration: its kind, name and counts, and where its other parts are read
 pub record ItemOf (s : List ℕ) (i : ItemAt) (d : declaration.Declaration) : Type 0 where
   pub kind : d .kind ≡ kindOf (i .kind)
-  pub name : TextOf s (i .name) (d .name)
+  pub name : TextOf s (i .name .token) (d .name)
   pub parameters : i .parameters ≡ length (declaration.parametersOf (d .generics))
   pub count : i .count ≡ declaration.bodyCount (d .body)
-  pub generics : InsideAt reading.generics s (i .generics) (d .generics)
+  pub generics : InsideAt reading.generics s (i .name .next) (d .generics)
   pub body : InsideAt (reading.bodyOf (kindOf (i .kind))) s (i .body) (d .body)
 
 abbrev pub itemSaid : ItemStep → Said
@@ -276,8 +277,8 @@ itemSaid (itemSteps.Refused r) = refusal r
 -- where its parts stand, from the cursor c where it begins
 pub record ItemPlaces (s : List ℕ) (c : Cursor) (i : ItemAt) (d : declaration.Declaration) : Type 0 where
   pub prefix : PrefixOf s c (i .visibility) (record { attributes = d .attributes; visibility = d .visibility })
-  pub name : NameAt s (itemNameAt (point s c)) (i .name) (i .place) (d .name)
-  pub generics : CursorAt s (genericsAt (point s c)) (i .generics)
+  pub name : NameAt s (itemNameAt (point s c)) (i .name .token) (i .name .place) (d .name)
+  pub generics : CursorAt s (genericsAt (point s c)) (i .name .next)
   pub clause : ClauseOf s (clauseAt (point s c)) (d .clause) (i .clause)
   pub body : CursorAt s (bodyAt (point s c)) (i .body)
 

@@ -6,10 +6,10 @@ pub use Rattle.parse.specs.Parts.{stepSaid, wordSaid, wordShown, placedN
 pub use Rattle.parse.specs.Parts.{stopsOf, endingOf, verdictOf, RunTokenRead, runEndOf, runSaid, runShown}
 pub use Rattle.parse.specs.Parts.{attributeOf, AttributeRead, PubRead, PubAt, visibilityShown, itemWord, kindOf}
 pub use Rattle.parse.specs.Parts.{kindSaid, kindShown, headSaid, headShown, parameterKind, isLifetime}
-pub use Rattle.parse.specs.Parts.{parameterText, boundOf, defaultOf, OptionalRunAt, emptyRun, parameterRun}
-pub use Rattle.parse.specs.Parts.{ParameterRunAt, parameterSaid, parameterShown, optionalRunSaid}
-pub use Rattle.parse.specs.Parts.{optionalRunShown, parameterRunSaid, boundShown, typeShown, parameterMade}
-pub use Rattle.parse.specs.Parts.{namedParameter, afterQuote, afterConst, afterName, countSaid, countShown}
+pub use Rattle.parse.specs.Parts.{parameterText, boundOf, defaultOf, OptionalRunAt}
+pub use Rattle.parse.specs.Parts.{ParameterRunAt, parameterSaid, parameterShown}
+pub use Rattle.parse.specs.Parts.{optionalRunShown, parameterRunSaid, typeShown, parameterMade}
+pub use Rattle.parse.specs.Parts.{namedParameter, afterName, countSaid, countShown}
 pub use Rattle.parse.specs.Parts.{genericsShown, ClauseOf, clauseSaid, clauseShown, WordAt, NameAt, RunAt}
 pub use Rattle.parse.specs.Parts.{ParameterOf}
 pub use Rattle.parse.specs.Bodies.{prefix, fieldType, typeSaid, typeAtShown, NamedAt, fieldSaid, fieldShown}

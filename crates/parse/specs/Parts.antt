@@ -53,14 +53,10 @@ use Rattle.parse.specs.declared.data_type.HeadStep.{HeadStep}
 use Rattle.parse.specs.declared.data_type.HeadStep.the-variants as headSteps
 use Rattle.parse.specs.declared.generics.ParameterKind.{ParameterKind}
 use Rattle.parse.specs.declared.generics.ParameterKind.the-variants as parameterKinds
-use Rattle.parse.specs.declared.generics.ParameterRun.{ParameterRun}
-use Rattle.parse.specs.declared.generics.ParameterRun.the-variants as parameterRuns
 use Rattle.parse.specs.declared.generics.RunPart.{RunPart}
 use Rattle.parse.specs.declared.generics.RunPart.the-variants as runParts
 use Rattle.parse.specs.declared.generics.ParameterStep.{ParameterStep}
 use Rattle.parse.specs.declared.generics.ParameterStep.the-variants as parameters
-use Rattle.parse.specs.declared.generics.OptionalRunStep.{OptionalRunStep}
-use Rattle.parse.specs.declared.generics.OptionalRunStep.the-variants as optionalRuns
 use Rattle.parse.specs.declared.generics.ParameterRunStep.{ParameterRunStep}
 use Rattle.parse.specs.declared.generics.ParameterRunStep.the-variants as parameterRunSteps
 use Rattle.parse.specs.declared.generics.CountStep.{CountStep}
@@ -269,22 +265,12 @@ OptionalRunAt s separator x r tokens =
     (starts (reading.isPunct separator) (x .stream) ≡ true) ×
     RunAt s reading.parameterStops role.bound (pastToken x) r tokens
 
--- a run without tokens
-abbrev pub emptyRun : Cursor → Run
-emptyRun c = record { from = c; to = c; ending = endings.End; unclosed = false }
-
--- a parameter's run, by the part that it is
-abbrev pub parameterRun : RunPart → Run → ParameterRun
-parameterRun runParts.Absent r = parameterRuns.Absent
-parameterRun runParts.Bound r = parameterRuns.Bound r
-parameterRun runParts.Default r = parameterRuns.Default r
-
--- of a parameter with these bounds, or const type, and default, whose name ends at x: its run
-abbrev pub ParameterRunAt : List ℕ → Point → Trees → Trees → ParameterRun → Type 0
-ParameterRunAt s x bound default parameterRuns.Absent =
+-- of a parameter with these bounds, or const type, and default, whose name ends at x: its run, by what it is
+abbrev pub ParameterRunAt : List ℕ → Point → Trees → Trees → RunPart → Run → Type 0
+ParameterRunAt s x bound default runParts.Absent r =
     (starts (reading.isPunct COLON) (x .stream) ≡ false) × (bound ≡ end) × (default ≡ end)
-ParameterRunAt s x bound default (parameterRuns.Bound r) = OptionalRunAt s COLON x r bound × (default ≡ end)
-ParameterRunAt s x bound default (parameterRuns.Default r) =
+ParameterRunAt s x bound default runParts.Bound r = OptionalRunAt s COLON x r bound × (default ≡ end)
+ParameterRunAt s x bound default runParts.Default r =
     (starts (reading.isPunct COLON) (x .stream) ≡ false) × (bound ≡ end) × OptionalRunAt s EQUALS x r default
 
 -- what is told of a parameter: its kind and its name
@@ -301,37 +287,26 @@ parameterSaid (parameters.Refused r) = refusal r
 abbrev pub parameterShown : List ℕ → Point → ParameterStep → reading.Maybe declaration.Parameter → Type 0
 parameterShown s x (parameters.One p) v =
     (a : declaration.Parameter) × (v ≡ reading.one a) × ParameterOf s (p .kind) (p .name) a ×
-    TokenIn s (x .row) (p .name) × ParameterRunAt s (pastToken x) (boundOf a) (defaultOf a) (p .run)
+    TokenIn s (x .row) (p .name) × ParameterRunAt s (pastToken x) (boundOf a) (defaultOf a) (p .part) (p .run)
 parameterShown s x (parameters.Done d) v = v ≡ reading.done
 parameterShown s x (parameters.Refused r) v = ⊥
 
--- a separator and its run, or nothing, by the answer at c
-abbrev pub optionalRunSaid : Cursor → OptionalRunStep → Said
-optionalRunSaid c optionalRuns.Absent = on c
-optionalRunSaid c (optionalRuns.At r) = on (r .to)
-optionalRunSaid c (optionalRuns.Refused r) = refusal r
-
-abbrev pub optionalRunShown : List ℕ → ℕ → Point → OptionalRunStep → Trees → Type 0
-optionalRunShown s separator x optionalRuns.Absent v =
-    (starts (reading.isPunct separator) (x .stream) ≡ false) × (v ≡ end)
-optionalRunShown s separator x (optionalRuns.At r) v = OptionalRunAt s separator x r v
-optionalRunShown s separator x (optionalRuns.Refused r) v = ⊥
-
--- the bound or const type of a parameter whose name ends at x
 abbrev pub parameterRunSaid : ParameterRunStep → Said
 parameterRunSaid (parameterRunSteps.At m r) = on (r .to)
 parameterRunSaid (parameterRunSteps.Refused r) = refusal r
 
-abbrev pub boundShown : List ℕ → Point → ParameterRunStep → Trees → Type 0
-boundShown s x (parameterRunSteps.At m r) v = ParameterRunAt s x v end (parameterRun m r)
-boundShown s x (parameterRunSteps.Refused r) v = ⊥
+-- a separator at x and the run after it, which is told as this part; or neither
+abbrev pub optionalRunShown : List ℕ → ℕ → RunPart → Point → ParameterRunStep → Trees → Type 0
+optionalRunShown s separator part x (parameterRunSteps.At m r) v =
+    (starts (reading.isPunct separator) (x .stream) ≡ false → (m ≡ runParts.Absent) × (v ≡ end)) ×
+    (starts (reading.isPunct separator) (x .stream) ≡ true → (m ≡ part) × OptionalRunAt s separator x r v)
+optionalRunShown s separator part x (parameterRunSteps.Refused r) v = ⊥
 
 -- a type of this name, which ends at x
-
 abbrev pub typeShown : List ℕ → Point → List ℕ → ParameterRunStep → declaration.Parameter → Type 0
 typeShown s x n (parameterRunSteps.At m r) a =
     (parameterKinds.Type ≡ parameterKind a) × (parameterText a ≡ n) ×
-    ParameterRunAt s x (boundOf a) (defaultOf a) (parameterRun m r)
+    ParameterRunAt s x (boundOf a) (defaultOf a) m r
 typeShown s x n (parameterRunSteps.Refused r) a = ⊥
 
 -- a parameter of this kind without a default
@@ -340,18 +315,12 @@ parameterMade parameterKinds.Lifetime n b = declaration.lifetime n b
 parameterMade parameterKinds.Const n b = declaration.constant n b
 parameterMade parameterKinds.Type n b = declaration.type n b end
 
--- a lifetime or a const, after its `'` or `const`
+-- a lifetime, after its `'`, or a const, after its `const`
 abbrev pub namedParameter : ℕ → ℕ → ParameterKind → Reader (reading.Maybe declaration.Parameter)
 namedParameter n p k =
     reading.parameterName n p
     >>= (λ x. (reading.optional-run COLON >>= λ b. pure (parameterMade k x b)))
     >>= reading.comma
-
-abbrev pub afterQuote : ℕ → Reader (reading.Maybe declaration.Parameter)
-afterQuote quote = reading.lifetimeAfter quote >>= reading.comma
-
-abbrev pub afterConst : Reader (reading.Maybe declaration.Parameter)
-afterConst = reading.constantAfter >>= reading.comma
 
 abbrev pub afterName : List ℕ → Reader (reading.Maybe declaration.Parameter)
 afterName n = reading.typeAfter n >>= reading.comma

@@ -28,7 +28,7 @@ ghost use Rattle.token_list.specs.Stream.{at, follows};
 ghost use Rattle.token_list.specs.Contract.{InList, GroupAt, Skipped};
 ghost use Rattle.reading.specs.Role.{delimiter};
 ghost use Rattle.reading.specs.Place.{pastToken};
-ghost use Rattle.reading.specs.Reading.{every, fieldAfter, namedField, tupleType, tupleField};
+ghost use Rattle.reading.specs.Reading.{every, fieldAfter, namedField, tupleField};
 ghost use Rattle.parse.specs.Contract.{Meets, stream, point, Prefix, fieldType, typeAtShown, typeSaid, NamedAt};
 ghost use Rattle.parse.specs.Contract.{fieldShown, fieldSaid, namedShown, namedSaid, unnamedShown, unnamedSaid};
 ghost use Rattle.parse.specs.Contract.{nextShown, nextSaid, countShown, countSaid, Inside};
@@ -48,13 +48,13 @@ pub enum TypeStep {
 // where it begins itself.
 pub struct UnnamedFieldAt {
     pub visibility: Cursor,
-    pub run: Run,
-    pub next: Cursor,
+    pub typed: TypeAt,
 }
 
 pub struct FieldAt {
     pub name: Token,
-    pub field: UnnamedFieldAt,
+    pub visibility: Cursor,
+    pub typed: TypeAt,
 }
 
 // A named field; the end, after attributes and, from the first cursor on, a visibility that belong to
@@ -144,8 +144,8 @@ pub fn named_field(s: &[u8], c: Cursor, roles: &mut [u8]) -> NamedStep
         FieldStep::Done(_, end) => NamedStep::Done(end),
         FieldStep::One(f) => {
             let name = f.name;
-            let field = f.field;
-            let next = field.next;
+            let typed = f.typed;
+            let next = typed.next;
             NamedStep::One(name, next)
         }
     }
@@ -179,16 +179,11 @@ pub fn named_field_at(s: &[u8], c: Cursor, roles: &mut [u8]) -> FieldStep
                     let after = take_token(s, d, t, roles, role::FIELD_NAME);
                     match field_after(s, after, roles) {
                         TypeStep::Refused(r) => FieldStep::Refused(r),
-                        TypeStep::At(typed) => {
-                            let run = typed.run;
-                            let next = typed.next;
-                            let field = UnnamedFieldAt {
-                                visibility,
-                                run,
-                                next,
-                            };
-                            FieldStep::One(FieldAt { name: t, field })
-                        }
+                        TypeStep::At(typed) => FieldStep::One(FieldAt {
+                            name: t,
+                            visibility,
+                            typed,
+                        }),
                     }
                 }
             }
@@ -206,7 +201,8 @@ pub fn tuple_field(s: &[u8], c: Cursor, roles: &mut [u8]) -> NextStep
         UnnamedFieldStep::Refused(r) => NextStep::Refused(r),
         UnnamedFieldStep::Done(d) => NextStep::Done(d),
         UnnamedFieldStep::One(f) => {
-            let next = f.next;
+            let typed = f.typed;
+            let next = typed.next;
             NextStep::One(next)
         }
     }
@@ -223,30 +219,13 @@ pub fn tuple_field_at(s: &[u8], c: Cursor, roles: &mut [u8]) -> UnnamedFieldStep
     if l.kind == 0 {
         return UnnamedFieldStep::Done(c);
     }
-    tuple_type(s, c, roles)
-}
-
-fn tuple_type(s: &[u8], c: Cursor, roles: &mut [u8]) -> UnnamedFieldStep
-    requires { ⌜ InList (now s) c ⌝ }
-    ensures { λ r. ⌜ Meets (now (s .entry)) c (now (roles .entry)) (now (roles .exit))
-        (unnamedShown (now (s .entry)) c r) (unnamedSaid r)
-        (tupleType (c .row) (stream (now (s .entry)) c)) ⌝ }
-{
     match attributes::try_take(s, c, roles) {
         Step::Refused(r) => UnnamedFieldStep::Refused(r),
         Step::At(visibility) => {
             let d = visibility::try_take(s, visibility, roles);
             match field_type(s, d, roles) {
                 TypeStep::Refused(r) => UnnamedFieldStep::Refused(r),
-                TypeStep::At(typed) => {
-                    let run = typed.run;
-                    let next = typed.next;
-                    UnnamedFieldStep::One(UnnamedFieldAt {
-                        visibility,
-                        run,
-                        next,
-                    })
-                }
+                TypeStep::At(typed) => UnnamedFieldStep::One(UnnamedFieldAt { visibility, typed }),
             }
         }
     }

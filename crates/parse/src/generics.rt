@@ -20,7 +20,6 @@ use token_list::stream::peek;
 ghost use mathlib.Core.Path.{_≡_};
 ghost use mathlib.Core.List.{List};
 ghost use Prim.Native.Nat.{ℕ};
-ghost use Rattle.token_list.specs.Byte.{COLON};
 ghost use Rattle.token_list.specs.Contract.{InList};
 ghost use Rattle.reading.specs.Declaration.{Parameter};
 ghost use Rattle.reading.specs.Took.{Point};
@@ -28,9 +27,9 @@ ghost use Rattle.reading.specs.Reading.{parameterName, optional-run, typeAfter,
 ghost use Rattle.reading.specs.Reading.{clause};
 ghost use Rattle.reading.specs.Place.{pastToken, parameterNameAt};
 ghost use Rattle.parse.specs.Contract.{isLifetime, Meets, stream, point, TokenIn, TextOf, nameShown, nameSaid};
-ghost use Rattle.parse.specs.Contract.{optionalRunShown, optionalRunSaid, boundShown, parameterRunSaid, boundOf};
-ghost use Rattle.parse.specs.Contract.{defaultOf, emptyRun, parameterRun, ParameterRunAt, ParameterOf, typeShown};
-ghost use Rattle.parse.specs.Contract.{parameterShown, parameterSaid, namedParameter, afterQuote, afterConst};
+ghost use Rattle.parse.specs.Contract.{optionalRunShown, parameterRunSaid, boundOf, defaultOf, ParameterRunAt};
+ghost use Rattle.parse.specs.Contract.{ParameterOf, typeShown};
+ghost use Rattle.parse.specs.Contract.{parameterShown, parameterSaid, namedParameter};
 ghost use Rattle.parse.specs.Contract.{afterName, countShown, countSaid, genericsShown, clauseShown, clauseSaid};
 
 pub enum ParameterKind {
@@ -50,25 +49,21 @@ pub fn is_lifetime(kind: ParameterKind) -> bool
     }
 }
 
-// A parameter's run: none, that of a bound or a const's type after `:`, or that of a default after `=`.
-pub enum ParameterRun {
-    Absent,
-    Bound(Run),
-    Default(Run),
-}
-
-// Which of them stands after a parameter's name.
+// What a parameter's run is: absent, a bound or a const's type after `:`, or a default after `=`.
 pub enum RunPart {
     Absent,
     Bound,
     Default,
 }
 
-// Where a parameter's name and run stand, and the cursor after the parameter.
+// Where a parameter's name and run stand, and the cursor after the parameter. A run that is absent has no
+// tokens. The part stands beside the run: an enum that holds the run is copied from step to step with its
+// padding (docs/PERFORMANCE.md), and its proofs take longer.
 pub struct ParameterAt {
     pub kind: ParameterKind,
     pub name: Token,
-    pub run: ParameterRun,
+    pub part: RunPart,
+    pub run: Run,
     pub next: Cursor,
 }
 
@@ -79,15 +74,7 @@ pub enum ParameterStep {
     Refused(Refusal),
 }
 
-// No separator, or the run after it.
-pub enum OptionalRunStep {
-    Absent,
-    At(Run),
-    Refused(Refusal),
-}
-
-// A parameter's run, which may be absent, and which part it is. They stay apart until the parameter's record is
-// made: an enum that holds a run was copied from step to step, and its padding too (docs/PERFORMANCE.md).
+// A parameter's run, and what it is.
 pub enum ParameterRunStep {
     At(RunPart, Run),
     Refused(Refusal),
@@ -131,18 +118,24 @@ fn parameter_name(s: &[u8], c: Cursor, roles: &mut [u8], number: u8, or: usize) 
     }
 }
 
-// `punct` and a bound's, a default's or a const type's run, where it stands.
-fn optional_run(s: &[u8], c: Cursor, roles: &mut [u8], punct: u8) -> OptionalRunStep
+// `punct` and the run after it, where it stands: `part` says what that run is.
+fn optional_run(s: &[u8], c: Cursor, roles: &mut [u8], punct: u8, part: RunPart) -> ParameterRunStep
     requires { ⌜ InList (now s) c ⌝ }
     ensures { λ r. ⌜ Meets (now (s .entry)) c (now (roles .entry)) (now (roles .exit))
-        (optionalRunShown (now (s .entry)) punct (point (now (s .entry)) c) r) (optionalRunSaid c r)
+        (optionalRunShown (now (s .entry)) punct part (point (now (s .entry)) c) r) (parameterRunSaid r)
         (optional-run punct (c .row) (stream (now (s .entry)) c)) ⌝ }
 {
     let p = consume_punct_if(s, c, roles, punct, role::SEPARATOR);
-    if !p.taken {
-        return OptionalRunStep::Absent;
-    }
     let next = p.next;
+    if !p.taken {
+        let run = Run {
+            from: next,
+            to: next,
+            ending: Ending::End,
+            unclosed: false,
+        };
+        return ParameterRunStep::At(RunPart::Absent, run);
+    }
     match read_tokens_until_punct(
         s,
         next,
@@ -154,50 +147,16 @@ fn optional_run(s: &[u8], c: Cursor, roles: &mut [u8], punct: u8) -> OptionalRun
         },
         role::BOUND,
     ) {
-        RunStep::Refused(r) => OptionalRunStep::Refused(r),
-        RunStep::At(to, ending, unclosed) => OptionalRunStep::At(Run {
-            from: next,
-            to,
-            ending,
-            unclosed,
-        }),
-    }
-}
-
-// A run without tokens at c.
-fn empty_run(c: Cursor) -> Run
-    ensures { λ r. ⌜ r ≡ emptyRun c ⌝ }
-{
-    Run {
-        from: c,
-        to: c,
-        ending: Ending::End,
-        unclosed: false,
-    }
-}
-
-// The bound or const type that may follow a parameter's name.
-fn bounds(s: &[u8], c: Cursor, roles: &mut [u8]) -> ParameterRunStep
-    requires { ⌜ InList (now s) c ⌝ }
-    ensures { λ r. ⌜ Meets (now (s .entry)) c (now (roles .entry)) (now (roles .exit))
-        (boundShown (now (s .entry)) (point (now (s .entry)) c) r) (parameterRunSaid r)
-        (optional-run COLON (c .row) (stream (now (s .entry)) c)) ⌝ }
-{
-    match optional_run(s, c, roles, b':') {
-        OptionalRunStep::Refused(r) => ParameterRunStep::Refused(r),
-        OptionalRunStep::Absent => ParameterRunStep::At(RunPart::Absent, empty_run(c)),
-        OptionalRunStep::At(r) => ParameterRunStep::At(RunPart::Bound, r),
-    }
-}
-
-// A parameter's run, by the part that it is.
-fn parameter_run(part: RunPart, run: Run) -> ParameterRun
-    ensures { λ r. ⌜ r ≡ parameterRun part run ⌝ }
-{
-    match part {
-        RunPart::Absent => ParameterRun::Absent,
-        RunPart::Bound => ParameterRun::Bound(run),
-        RunPart::Default => ParameterRun::Default(run),
+        RunStep::Refused(r) => ParameterRunStep::Refused(r),
+        RunStep::At(to, ending, unclosed) => {
+            let run = Run {
+                from: next,
+                to,
+                ending,
+                unclosed,
+            };
+            ParameterRunStep::At(part, run)
+        }
     }
 }
 
@@ -213,24 +172,25 @@ fn parameter_end(
     requires { ⌜ InList (now s) (run .to) ⌝ }
     ensures { λ r. ⌜ ((a : Parameter) (x : Point) → ParameterOf (now (s .entry)) kind name a →
         TokenIn (now (s .entry)) (x .row) name →
-        ParameterRunAt (now (s .entry)) (pastToken x) (boundOf a) (defaultOf a) (parameterRun part run) →
+        ParameterRunAt (now (s .entry)) (pastToken x) (boundOf a) (defaultOf a) part run →
         Meets (now (s .entry)) (run .to) (now (roles .entry)) (now (roles .exit))
         (parameterShown (now (s .entry)) x r) (parameterSaid r)
         (comma a (run .to .row) (stream (now (s .entry)) (run .to)))) ⌝ }
 {
-    let told = parameter_run(part, run);
     let c = run.to;
     let p = consume_punct_if(s, c, roles, b',', role::SEPARATOR);
     let next = p.next;
     ParameterStep::One(ParameterAt {
         kind,
         name,
-        run: told,
+        part,
+        run,
         next,
     })
 }
 
-// A parameter's name, `:` and a run that may follow, and the `,` after it.
+// A parameter's name, `:` and a run that may follow, and the `,` after it: virtue's Lifetime::take after the `'`,
+// and its ConstGeneric::take after `const`.
 fn named_parameter(
     s: &[u8],
     c: Cursor,
@@ -246,31 +206,11 @@ fn named_parameter(
 {
     match parameter_name(s, c, roles, number, or) {
         NameStep::Refused(r) => ParameterStep::Refused(r),
-        NameStep::At(name, d) => match bounds(s, d, roles) {
+        NameStep::At(name, d) => match optional_run(s, d, roles, b':', RunPart::Bound) {
             ParameterRunStep::Refused(r) => ParameterStep::Refused(r),
             ParameterRunStep::At(part, run) => parameter_end(s, roles, kind, name, part, run),
         },
     }
-}
-
-// virtue's Lifetime::take, after the `'` in the row `quote`.
-fn lifetime(s: &[u8], c: Cursor, roles: &mut [u8], quote: usize) -> ParameterStep
-    requires { ⌜ InList (now s) c ⌝ }
-    ensures { λ r. ⌜ Meets (now (s .entry)) c (now (roles .entry)) (now (roles .exit))
-        (parameterShown (now (s .entry)) (point (now (s .entry)) c) r) (parameterSaid r)
-        (afterQuote quote (c .row) (stream (now (s .entry)) c)) ⌝ }
-{
-    named_parameter(s, c, roles, 24, quote, ParameterKind::Lifetime)
-}
-
-// virtue's ConstGeneric::take, after `const`.
-fn const_generic(s: &[u8], c: Cursor, roles: &mut [u8]) -> ParameterStep
-    requires { ⌜ InList (now s) c ⌝ }
-    ensures { λ r. ⌜ Meets (now (s .entry)) c (now (roles .entry)) (now (roles .exit))
-        (parameterShown (now (s .entry)) (point (now (s .entry)) c) r) (parameterSaid r)
-        (afterConst (c .row) (stream (now (s .entry)) c)) ⌝ }
-{
-    named_parameter(s, c, roles, 27, END, ParameterKind::Const)
 }
 
 // `:` and bounds, or `=` and a default.
@@ -281,13 +221,9 @@ fn bounds_or_default(s: &[u8], c: Cursor, roles: &mut [u8]) -> ParameterRunStep
         (typeAfter n (c .row) (stream (now (s .entry)) c))) ⌝ }
 {
     if stands_punct(s, c, b':') {
-        return bounds(s, c, roles);
+        return optional_run(s, c, roles, b':', RunPart::Bound);
     }
-    match optional_run(s, c, roles, b'=') {
-        OptionalRunStep::Refused(r) => ParameterRunStep::Refused(r),
-        OptionalRunStep::Absent => ParameterRunStep::At(RunPart::Absent, empty_run(c)),
-        OptionalRunStep::At(r) => ParameterRunStep::At(RunPart::Default, r),
-    }
+    optional_run(s, c, roles, b'=', RunPart::Default)
 }
 
 // virtue's SimpleGeneric::take, after its name.
@@ -326,7 +262,7 @@ pub fn parameter(s: &[u8], c: Cursor, roles: &mut [u8], angle: usize) -> Paramet
         Peeked::Leaf(t) => {
             if is_punct(t, b'\'') {
                 let next = take_token(s, c, t, roles, role::PARAMETER_NAME);
-                return lifetime(s, next, roles, row);
+                return named_parameter(s, next, roles, 24, row, ParameterKind::Lifetime);
             }
             if is_punct(t, b'>') {
                 let next = take_token(s, c, t, roles, role::ANGLE);
@@ -340,7 +276,7 @@ pub fn parameter(s: &[u8], c: Cursor, roles: &mut [u8], angle: usize) -> Paramet
             }
             let next = take_token(s, c, t, roles, role::PARAMETER_NAME);
             if ident_eq(s, t, b"const") {
-                return const_generic(s, next, roles);
+                return named_parameter(s, next, roles, 27, END, ParameterKind::Const);
             }
             simple_generic(s, next, roles, t)
         }

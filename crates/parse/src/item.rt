@@ -13,6 +13,7 @@ use crate::role;
 use crate::utils::PlacedName;
 use crate::utils::Step;
 use crate::utils::fill;
+use crate::utils::fill_rest;
 use crate::visibility;
 use token_list::check::Checked;
 use token_list::check::Cursor;
@@ -20,7 +21,6 @@ use token_list::check::END;
 use token_list::check::Refusal;
 use token_list::check::check;
 use token_list::layout::FIRST_ROW;
-use token_list::stream::Token;
 ghost use mathlib.Core.Path.{_≡_};
 ghost use Prim.Native.Nat.{_-_, _≤_};
 ghost use lib.ListN.{length, replicate};
@@ -34,16 +34,14 @@ ghost use Rattle.parse.specs.Contract.{Meets, stream, Prefix, HeadOf, bo
 ghost use Rattle.parse.specs.Contract.{partsShown, itemShown, itemSaid, parsedOf, Answered, accepted};
 
 // What was read: where the visibility is read (the attributes are where the item begins), the kind, the
-// name's token and the row where it begins, how many parameters and fields or variants there are, the
-// cursors at which its generics and its body are read, its where clause, and where it ended.
+// name, past which the generics are read, how many parameters and fields or variants there are, its where
+// clause, the cursor at which its body is read, and where it ended.
 pub struct ItemAt {
     pub visibility: Cursor,
     pub kind: DataType,
-    pub name: Token,
-    pub place: usize,
+    pub name: PlacedName,
     pub parameters: usize,
     pub count: usize,
-    pub generics: Cursor,
     pub clause: ClauseAt,
     pub body: Cursor,
     pub next: Cursor,
@@ -87,8 +85,6 @@ fn parts(
         (partsAfter p h (name .next .row) (stream (now (s .entry)) (name .next)))) ⌝ }
 {
     let c = name.next;
-    let token = name.token;
-    let place = name.place;
     match generics::try_take(s, c, roles) {
         CountStep::Refused(r) => ItemStep::Refused(r),
         CountStep::At(d, parameters) => match generics::try_take_constraints(s, d, roles) {
@@ -98,11 +94,9 @@ fn parts(
                 CountStep::At(end, count) => ItemStep::At(ItemAt {
                     visibility,
                     kind,
-                    name: token,
-                    place,
+                    name,
                     parameters,
                     count,
-                    generics: c,
                     clause,
                     body: e,
                     next: end,
@@ -155,16 +149,6 @@ fn refuse(roles: &mut [u8], r: Refusal) -> Parse
     Parse::Refused(r)
 }
 
-// After an item that ended before the row `end`: 0 for the rows left over, then no role.
-fn set_left_over(roles: &mut [u8], end: usize, rows: usize)
-    ensures { λ _. ⌜ now (roles .exit) ≡ sets (sets (now (roles .entry)) end (replicate (rows - end) role.left-over))
-        rows (replicate (length (now (roles .entry)) - rows) role.none) ⌝ }
-{
-    fill(roles, end, rows, role::LEFT_OVER);
-    let len = roles.len();
-    fill(roles, rows, len, role::NONE);
-}
-
 // Reads a list that passed the check with so many rows, with a role byte for each.
 fn read(s: &[u8], roles: &mut [u8], rows: usize) -> Parse
     requires { ⌜ list.check (now s) ≡ list.passed rows ⌝ }
@@ -180,7 +164,7 @@ fn read(s: &[u8], roles: &mut [u8], rows: usize) -> Parse
         ItemStep::At(i) => {
             let next = i.next;
             let end = next.row;
-            set_left_over(roles, end, rows);
+            fill_rest(roles, end, rows, role::LEFT_OVER);
             parsed(i)
         }
     }

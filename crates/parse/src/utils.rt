@@ -1,4 +1,5 @@
 // Words and punctuation (virtue's parse/utils.rs), and the marking of roles.
+use crate::role::NONE;
 use token_list::check::Cursor;
 use token_list::check::END;
 use token_list::check::Refusal;
@@ -17,6 +18,7 @@ ghost use lib.Seq.{sets};
 ghost use Rattle.token_list.specs.Layout.{PUNCT};
 ghost use Rattle.token_list.specs.Stream.{at, head, follows};
 ghost use Rattle.token_list.specs.Contract.{InList, TokenAt, GroupAt, rowOf};
+ghost use Rattle.reading.specs.Role.{none};
 ghost use Rattle.reading.specs.Took.{placeOf};
 ghost use Rattle.reading.specs.Token.{starts};
 ghost use Rattle.reading.specs.Reading.{isPunct, isWord, copied, word, punctIf};
@@ -96,6 +98,16 @@ pub fn fill(roles: &mut [u8], from: usize, to: usize, role: u8)
         return;
     }
     fill_within(roles, from, to, role);
+}
+
+// Behind the last role, in the row before `end`: `role` for the list's other rows, then no role.
+pub fn fill_rest(roles: &mut [u8], end: usize, rows: usize, role: u8)
+    ensures { λ _. ⌜ now (roles .exit) ≡ sets (sets (now (roles .entry)) end (replicate (rows - end) role)) rows
+        (replicate (length (now (roles .entry)) - rows) none) ⌝ }
+{
+    fill(roles, end, rows, role);
+    let len = roles.len();
+    fill(roles, rows, len, NONE);
 }
 
 // Past a token's own row.

@@ -104,42 +104,22 @@ fn any_scope(s: &[u8], c: Cursor, roles: &mut [u8]) -> Cursor
 }
 
 // Takes a visibility where one stands (virtue's Visibility::try_take): for those who ask only where it
-// ends. The cursor is made anew from its two numbers: copied whole, it was loaded before the stores of
-// its halves were done, and empty types took one and a half times as long (docs/PERFORMANCE.md).
+// ends. A look tells most tokens apart from a visibility; the cursor is then made anew from its two
+// numbers: copied, it was loaded before the stores of its halves were done, and empty types took one and a
+// half times as long (docs/PERFORMANCE.md).
 pub fn try_take(s: &[u8], c: Cursor, roles: &mut [u8]) -> Cursor
     requires { ⌜ InList (now s) c ⌝ }
     ensures { λ r. ⌜ Meets (now (s .entry)) c (now (roles .entry)) (now (roles .exit)) any (on r)
         (visibility (c .row) (stream (now (s .entry)) c)) ⌝ }
 {
-    let d = past_visibility(s, c, roles);
-    let at = d.at;
-    let row = d.row;
-    Cursor { at, row }
-}
-
-// The same; a look tells most tokens apart from a visibility.
-fn past_visibility(s: &[u8], c: Cursor, roles: &mut [u8]) -> Cursor
-    requires { ⌜ InList (now s) c ⌝ }
-    ensures { λ r. ⌜ Meets (now (s .entry)) c (now (roles .entry)) (now (roles .exit)) any (on r)
-        (visibility (c .row) (stream (now (s .entry)) c)) ⌝ }
-{
-    // Two calls keep `take` out of line, and the short way short.
     let l = look(s, c);
-    if l.kind == b'o' {
-        return take(s, c, roles);
+    if l.kind != b'o' {
+        if l.first != b'p' {
+            let at = c.at;
+            let row = c.row;
+            return Cursor { at, row };
+        }
     }
-    if l.first == b'p' {
-        return take(s, c, roles);
-    }
-    c
-}
-
-// The same by the tokens themselves, where a look has found a group or a text that starts with `p`.
-fn take(s: &[u8], c: Cursor, roles: &mut [u8]) -> Cursor
-    requires { ⌜ InList (now s) c ⌝ }
-    ensures { λ r. ⌜ Meets (now (s .entry)) c (now (roles .entry)) (now (roles .exit)) any (on r)
-        (visibility (c .row) (stream (now (s .entry)) c)) ⌝ }
-{
     let v = try_take_at(s, c, roles);
     v.next
 }

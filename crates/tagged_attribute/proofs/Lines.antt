@@ -20,7 +20,7 @@ use Rattle.tagged_attribute.specs.Listing.{entryLine, entryLines}
 use Rattle.tagged_attribute.specs.Reported.{Readable, LineAt, NoLine, LineRead}
 use Rattle.tagged_attribute.specs.declared.entry.TagAt.{TagAt}
 use Rattle.tagged_attribute.specs.declared.entry.PropertyAt.{PropertyAt}
-use Rattle.tagged_attribute.specs.declared.listing.LineTurn.{LineTurn}
+use Rattle.tagged_attribute.specs.declared.listing.LineStep.{LineStep}
 use Rattle.tagged_attribute.proofs.Turns.{adding-none, adding-both}
 
 -- ## One line
@@ -94,7 +94,7 @@ no-line-refused x n p e =
       kept = refl;
     }
 
-pub line-told : (s : List ℕ) (c : Cursor) (x y : List ℕ) (at : ℕ) {p q : LineTurn} → LineRead s c x y at p → p ≡ q →
+pub line-told : (s : List ℕ) (c : Cursor) (x y : List ℕ) (at : ℕ) {p q : LineStep} → LineRead s c x y at p → p ≡ q →
     LineRead s c x y at q
 line-told s c x y at h e = subst (LineRead s c x y at) e h
 

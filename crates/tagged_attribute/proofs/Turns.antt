@@ -12,12 +12,12 @@ use Rattle.tagged_reading.specs.Role.{others}
 use Rattle.tagged_reading.specs.Entry.{Entry, tag, property}
 use Rattle.tagged_reading.specs.Reading.{Answer, none, read, refused, adding}
 use Rattle.tagged_attribute.specs.Contract.{Onward, Added, TagRead, PropertyRead, EntryRead, partRoles, tagRoles}
-use Rattle.tagged_attribute.specs.Contract.{propertyRoles, entriesAt, Turned, TurnRead, EntriesRead, EnteredAs}
+use Rattle.tagged_attribute.specs.Contract.{propertyRoles, entriesAt, Taken, TakeRead, EntriesRead, EnteredAs}
 use Rattle.tagged_attribute.specs.declared.entry.TagAt.{TagAt}
 use Rattle.tagged_attribute.specs.declared.entry.PropertyAt.{PropertyAt}
 use Rattle.tagged_attribute.specs.declared.entry.EntryStep.{EntryStep}
 use Rattle.tagged_attribute.specs.declared.utils.Entered.{Entered}
-use Rattle.tagged_attribute.specs.declared.utils.EntryTurn.{EntryTurn}
+use Rattle.tagged_attribute.specs.declared.utils.TakeStep.{TakeStep}
 use Rattle.tagged_attribute.proofs.Cursors.{onward-then}
 
 -- by the answer that was given
@@ -25,9 +25,9 @@ pub entry-told : (s : List ℕ) (c : Cursor) (a : Answer) {p q : EntryStep} → 
     EntryRead s c a q
 entry-told s c a h e = subst (EntryRead s c a) e h
 
-pub turn-told : (s : List ℕ) (c : Cursor) (b0 b1 : List ℕ) {p q : EntryTurn} → TurnRead s c b0 b1 p → p ≡ q →
-    TurnRead s c b0 b1 q
-turn-told s c b0 b1 h e = subst (TurnRead s c b0 b1) e h
+pub take-told : (s : List ℕ) (c : Cursor) (b0 b1 : List ℕ) {p q : TakeStep} → TakeRead s c b0 b1 p → p ≡ q →
+    TakeRead s c b0 b1 q
+take-told s c b0 b1 h e = subst (TakeRead s c b0 b1) e h
 
 pub entered-told : (s : List ℕ) (c : Cursor) (b0 b1 : List ℕ) {p q : Entered} → EnteredAs s c b0 b1 p → p ≡ q →
     EnteredAs s c b0 b1 q
@@ -43,12 +43,12 @@ module _ {s : List ℕ} where
 
   module _ {c : Cursor} {b0 b1 : List ℕ} where
     pub turned-tag : {t : TagAt} → TagRead s c (entriesAt s c) t
-        → b1 ≡ sets b0 (c .row) (partRoles tagRoles (c .row) (t .next .row)) → Turned s c (t .next) 1 b0 b1
+        → b1 ≡ sets b0 (c .row) (partRoles tagRoles (c .row) (t .next .row)) → Taken s c (t .next) 1 b0 b1
     turned-tag h e =
         record { es = tag (h .text) ∷ []; rs = _; count = refl; one = omega arith; added = h .added; roles = e }
 
     pub turned-property : {p : PropertyAt} → PropertyRead s c (entriesAt s c) p
-        → b1 ≡ sets b0 (c .row) (partRoles propertyRoles (c .row) (p .next .row)) → Turned s c (p .next) 1 b0 b1
+        → b1 ≡ sets b0 (c .row) (partRoles propertyRoles (c .row) (p .next .row)) → Taken s c (p .next) 1 b0 b1
     turned-property h e =
         record {
           es = property (h .name) (h .text) ∷ [];
@@ -60,7 +60,7 @@ module _ {s : List ℕ} where
         }
 
     pub turned-lost : {d : Cursor} → Added s c d [] (partRoles [] (c .row) (d .row)) (entriesAt s c)
-        → b1 ≡ sets b0 (c .row) (others (d .row - c .row)) → Turned s c d 0 b0 b1
+        → b1 ≡ sets b0 (c .row) (others (d .row - c .row)) → Taken s c d 0 b0 b1
     turned-lost {d} h e =
         let z : d .row - c .row ≡ d .row - (c .row + 0) = omega arith in
         record {
@@ -105,7 +105,7 @@ gone-start s c b i =
     }
 
 module _ {s : List ℕ} {from c : Cursor} {b0 b1 : List ℕ} {count : ℕ} (k : Gone s from b0 c b1 count) where
-  pub gone-more : {d : Cursor} {b2 : List ℕ} {n : ℕ} → Turned s c d n b1 b2 → Gone s from b0 d b2 (count + n)
+  pub gone-more : {d : Cursor} {b2 : List ℕ} {n : ℕ} → Taken s c d n b1 b2 → Gone s from b0 d b2 (count + n)
   gone-more {d} t =
       let l = length-append (k .rs) (t .rs) in
       let o = onward-then (k .onward) (t .added .onward) in

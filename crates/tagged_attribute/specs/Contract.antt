@@ -26,8 +26,8 @@ use Rattle.tagged_attribute.specs.declared.entry.PropertyAt.{PropertyAt}
 use Rattle.tagged_attribute.specs.declared.entry.EntryStep.{EntryStep}
 use Rattle.tagged_attribute.specs.declared.entry.EntryStep.the-variants as entrySteps
 use Rattle.tagged_attribute.specs.declared.utils.EntriesAt.{EntriesAt}
-use Rattle.tagged_attribute.specs.declared.utils.EntryTurn.{EntryTurn}
-use Rattle.tagged_attribute.specs.declared.utils.EntryTurn.the-variants as turns
+use Rattle.tagged_attribute.specs.declared.utils.TakeStep.{TakeStep}
+use Rattle.tagged_attribute.specs.declared.utils.TakeStep.the-variants as takeSteps
 use Rattle.tagged_attribute.specs.declared.utils.Entered.{Entered}
 use Rattle.tagged_attribute.specs.declared.utils.Entered.the-variants as entereds
 use Rattle.tagged_attribute.specs.declared.utils.Found.{Found}
@@ -92,7 +92,7 @@ EntryRead s c was (entrySteps.Refused r) = was ≡ refused (r .number) (r .place
 abbrev pub entriesAt : List ℕ → Cursor → Answer
 entriesAt s c = entries (c .row) (stream s c)
 
-pub record Turned (s : List ℕ) (c d : Cursor) (n : ℕ) (b0 b1 : List ℕ) : Type 0 where
+pub record Taken (s : List ℕ) (c d : Cursor) (n : ℕ) (b0 b1 : List ℕ) : Type 0 where
   pub es : List Entry
   pub rs : List ℕ
   pub count : n ≡ length es
@@ -100,10 +100,10 @@ pub record Turned (s : List ℕ) (c d : Cursor) (n : ℕ) (b0 b1 : List ℕ) : T
   pub added : Added s c d es rs (entriesAt s c)
   pub roles : b1 ≡ sets b0 (c .row) rs
 
-abbrev pub TurnRead : List ℕ → Cursor → List ℕ → List ℕ → EntryTurn → Type 0
-TurnRead s c b0 b1 (turns.On d n) = Turned s c d n b0 b1
-TurnRead s c b0 b1 turns.Done = (entriesAt s c ≡ read [] []) × (b1 ≡ b0)
-TurnRead s c b0 b1 (turns.Refused r) = (entriesAt s c ≡ refused (r .number) (r .place)) × (b1 ≡ b0)
+abbrev pub TakeRead : List ℕ → Cursor → List ℕ → List ℕ → TakeStep → Type 0
+TakeRead s c b0 b1 (takeSteps.On d n) = Taken s c d n b0 b1
+TakeRead s c b0 b1 takeSteps.Done = (entriesAt s c ≡ read [] []) × (b1 ≡ b0)
+TakeRead s c b0 b1 (takeSteps.Refused r) = (entriesAt s c ≡ refused (r .number) (r .place)) × (b1 ≡ b0)
 
 -- all entries from c on: they end at d, and there are n of them
 pub record EntriesRead (s : List ℕ) (c d : Cursor) (n : ℕ) (b0 b1 : List ℕ) : Type 0 where

@@ -13,8 +13,8 @@ use Rattle.tagged_reading.specs.Reading.{read, refused}
 use Rattle.tagged_reading.specs.Answer as answers
 use Rattle.tagged_attribute.specs.Contract.{Added, entriesAt}
 use Rattle.tagged_attribute.specs.Listing.{entryLines, answerText, MOST}
-use Rattle.tagged_attribute.specs.declared.listing.LineTurn.{LineTurn}
-use Rattle.tagged_attribute.specs.declared.listing.LineTurn.the-variants as lineTurns
+use Rattle.tagged_attribute.specs.declared.listing.LineStep.{LineStep}
+use Rattle.tagged_attribute.specs.declared.listing.LineStep.the-variants as lineTurns
 
 -- a token whose text stands in the list
 pub record Readable (s : List ℕ) (t : Token) : Type 0 where
@@ -33,7 +33,7 @@ pub record NoLine (s : List ℕ) (c : Cursor) (x y : List ℕ) : Type 0 where
   pub none : (es : List Entry) (rs : List ℕ) → entriesAt s c ≡ read es rs → es ≡ []
   pub kept : y ≡ x
 
-abbrev pub LineRead : List ℕ → Cursor → List ℕ → List ℕ → ℕ → LineTurn → Type 0
+abbrev pub LineRead : List ℕ → Cursor → List ℕ → List ℕ → ℕ → LineStep → Type 0
 LineRead s c x y at (lineTurns.On d r) = LineAt s c d x y at r
 LineRead s c x y at lineTurns.Done = NoLine s c x y
 

@@ -18,9 +18,8 @@ ghost use Rattle.tagged_attribute.specs.Contract.{tokenText, entriesAt};
 ghost use Rattle.tagged_attribute.specs.Listing.{entryLine, entryLines};
 ghost use Rattle.tagged_attribute.specs.Reported.{Readable, LineRead, Reported};
 
-// What one turn of the loop did: a line, or nothing, was written up to a place, and the next entry is at a cursor; or
-// there are no more.
-pub enum LineTurn {
+// A line, or nothing, was written up to a place, and the next entry is at a cursor; or there are no more.
+pub enum LineStep {
     On(Cursor, usize),
     Done,
 }
@@ -54,26 +53,26 @@ fn put_property(s: &[u8], k: Token, l: Token, out: &mut [u8], at: usize) -> usiz
 }
 
 // The line of the entry at c.
-fn put_entry(s: &[u8], c: Cursor, out: &mut [u8], at: usize) -> LineTurn
+fn put_entry(s: &[u8], c: Cursor, out: &mut [u8], at: usize) -> LineStep
     requires { ⌜ InList (now s) c ⌝ }
     ensures { λ r. ⌜ LineRead (now (s .entry)) c (now (out .entry)) (now (out .exit)) at r ⌝ }
 {
     match entry(s, c) {
-        EntryStep::Done => LineTurn::Done,
-        EntryStep::Refused(_) => LineTurn::Done,
-        EntryStep::Lost(d) => LineTurn::On(d, at),
+        EntryStep::Done => LineStep::Done,
+        EntryStep::Refused(_) => LineStep::Done,
+        EntryStep::Lost(d) => LineStep::On(d, at),
         EntryStep::Tag(t) => {
             let name = t.tag;
             let next = t.next;
             let end = put_tag(s, name, out, at);
-            LineTurn::On(next, end)
+            LineStep::On(next, end)
         }
         EntryStep::Property(p) => {
             let key = p.key;
             let literal = p.literal;
             let next = p.next;
             let end = put_property(s, key, literal, out, at);
-            LineTurn::On(next, end)
+            LineStep::On(next, end)
         }
     }
 }
@@ -88,11 +87,11 @@ fn put_entries(s: &[u8], from: Cursor, out: &mut [u8], start: usize) -> usize
     let mut at = start;
     loop {
         match put_entry(s, c, out, at) {
-            LineTurn::On(next, end) => {
+            LineStep::On(next, end) => {
                 c = next;
                 at = end;
             }
-            LineTurn::Done => {
+            LineStep::Done => {
                 return at;
             }
         }

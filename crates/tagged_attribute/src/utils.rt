@@ -5,6 +5,7 @@ use crate::role;
 use parse::role::NONE;
 use parse::utils::Step;
 use parse::utils::fill;
+use parse::utils::fill_rest;
 use parse::utils::ident_eq;
 use parse::utils::past;
 use parse::utils::set_role;
@@ -31,7 +32,7 @@ ghost use Rattle.parse.specs.Contract.{stream};
 ghost use Rattle.tagged_reading.specs.Role.{others};
 ghost use Rattle.tagged_reading.specs.Reading.{adding, before, FIRST-ENTRY, attribute, tagged};
 ghost use Rattle.tagged_reading.specs.Promise.{TaggedAssignment};
-ghost use Rattle.tagged_attribute.specs.Contract.{partRoles, tagRoles, propertyRoles, TurnRead, EnteredAs};
+ghost use Rattle.tagged_attribute.specs.Contract.{partRoles, tagRoles, propertyRoles, TakeRead, EnteredAs};
 ghost use Rattle.tagged_attribute.specs.Contract.{AloneAs, FoundAs, Passed, listed, entriesAt, Fits, Given};
 ghost use Rattle.tagged_attribute.specs.Contract.{Answered, reads};
 
@@ -56,8 +57,8 @@ pub enum Found {
     Refused(Refusal),
 }
 
-// What one turn of the loop did: so many entries were added, up to a cursor; the end; or a refusal.
-pub enum EntryTurn {
+// So many entries were taken, up to a cursor; the end; or a refusal.
+pub enum TakeStep {
     On(Cursor, usize),
     Done,
     Refused(Refusal),
@@ -94,30 +95,30 @@ fn set_property(roles: &mut [u8], row: usize, end: usize)
 }
 
 // One entry with its roles.
-fn turn(s: &[u8], c: Cursor, roles: &mut [u8]) -> EntryTurn
+fn take_entry(s: &[u8], c: Cursor, roles: &mut [u8]) -> TakeStep
     requires { ⌜ InList (now s) c ⌝ }
-    ensures { λ r. ⌜ TurnRead (now (s .entry)) c (now (roles .entry)) (now (roles .exit)) r ⌝ }
+    ensures { λ r. ⌜ TakeRead (now (s .entry)) c (now (roles .entry)) (now (roles .exit)) r ⌝ }
 {
     let row = c.row;
     match entry(s, c) {
-        EntryStep::Done => EntryTurn::Done,
-        EntryStep::Refused(r) => EntryTurn::Refused(r),
+        EntryStep::Done => TakeStep::Done,
+        EntryStep::Refused(r) => TakeStep::Refused(r),
         EntryStep::Lost(d) => {
             let end = d.row;
             fill(roles, row, end, role::OTHER);
-            EntryTurn::On(d, 0)
+            TakeStep::On(d, 0)
         }
         EntryStep::Tag(t) => {
             let next = t.next;
             let end = next.row;
             set_tag(roles, row, end);
-            EntryTurn::On(next, 1)
+            TakeStep::On(next, 1)
         }
         EntryStep::Property(p) => {
             let next = p.next;
             let end = next.row;
             set_property(roles, row, end);
-            EntryTurn::On(next, 1)
+            TakeStep::On(next, 1)
         }
     }
 }
@@ -130,15 +131,15 @@ fn entries(s: &[u8], from: Cursor, roles: &mut [u8]) -> Entered
     let mut c = from;
     let mut count = 0;
     loop {
-        match turn(s, c, roles) {
-            EntryTurn::On(next, added) => {
+        match take_entry(s, c, roles) {
+            TakeStep::On(next, added) => {
                 c = next;
                 count += added;
             }
-            EntryTurn::Done => {
+            TakeStep::Done => {
                 return Entered::At(c, count);
             }
-            EntryTurn::Refused(r) => {
+            TakeStep::Refused(r) => {
                 return Entered::Refused(r);
             }
         }
@@ -231,16 +232,6 @@ fn refuse(roles: &mut [u8], r: Refusal) -> Tagged
     Tagged::Refused(r)
 }
 
-// After entries that ended before the row `end`: the other rows, then no role.
-fn leave(roles: &mut [u8], end: usize, rows: usize)
-    ensures { λ _. ⌜ now (roles .exit) ≡ sets (sets (now (roles .entry)) end (others (rows - end)))
-        rows (replicate (length (now (roles .entry)) - rows) no-role) ⌝ }
-{
-    fill(roles, end, rows, role::OTHER);
-    let len = roles.len();
-    fill(roles, rows, len, NONE);
-}
-
 // The entries from `first` on, and the roles of all rows.
 fn read_entries(s: &[u8], first: Cursor, roles: &mut [u8], rows: usize) -> Tagged
     requires { ⌜ InList (now s) first ⌝ }
@@ -256,7 +247,7 @@ fn read_entries(s: &[u8], first: Cursor, roles: &mut [u8], rows: usize) -> Tagge
         Entered::Refused(r) => refuse(roles, r),
         Entered::At(d, count) => {
             let end = d.row;
-            leave(roles, end, rows);
+            fill_rest(roles, end, rows, role::OTHER);
             Tagged::Read(EntriesAt { first, count, rows })
         }
     }

@@ -109,7 +109,7 @@ pub fn is_one_of(b: u8, set: &[u8]) -> bool
 }
 
 // Whether the bytes of s from `at` on begin with `name`.
-fn goes_on(s: &[u8], at: usize, name: &[u8]) -> bool
+fn begins_with(s: &[u8], at: usize, name: &[u8]) -> bool
     requires { ⌜ at + length (now name) ≤ length (now s) ⌝ }
     ensures { λ r. ⌜ r ≡ same (slice at (at + length (now (name .entry))) (now (s .entry))) (now (name .entry)) ⌝ }
 {
@@ -135,7 +135,7 @@ fn text_within(s: &[u8], start: usize, end: usize, name: &[u8]) -> bool
     if end - start != name.len() {
         return false;
     }
-    goes_on(s, start, name)
+    begins_with(s, start, name)
 }
 
 // Whether the text from start to end, or to the list's end, is `name`.

@@ -29,11 +29,11 @@ returns : tie.Need-returns
 returns c =
     let back8 = c .before .before .before .before .before .before .before .before in
     let back16 = back8 .before .before .before .before .before .before .before .before in
-    let args = back16 .args in
-    let put-bytes = back8 .before .before .before .put-bytes in
+    let args = back16 .before .args in
+    let put-bytes = back8 .before .before .before .before .put-bytes in
     let put-kind = c .before .before .before .before .before .before .put-kind in
     let put-position = c .before .before .put-position in
-    let name = slice (args .d .name .start) (args .d .name .end) (args .s .now) in
+    let name = slice (args .d .name .token .start) (args .d .name .token .end) (args .s .now) in
     let kind = kindText (contract.kindOf (args .d .kind)) in
     λ x k.
     let named = put-line kind name (decimal (args .d .count)) (put-kind .ensures) (put-position .ensures) in

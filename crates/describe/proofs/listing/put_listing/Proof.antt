@@ -8,14 +8,14 @@ put-item-requires c κs = search needs
 
 generics-lines-requires : tie.Need-generics-lines-requires
 generics-lines-requires c κs =
-    let pre = c .before .before .before .before .before .before .before .before .before .before .pre in
+    let pre = c .before .before .before .before .before .before .before .before .before .before .before .pre in
     pre .1 .generics .inList
 
 body-lines-requires : tie.Need-body-lines-requires
 body-lines-requires c κs =
     let after-generics = c .before .before .before .before .before .before in
     let pre =
-    after-generics .before .before .before .before .before .before .before .before .before .before .before .pre in
+    after-generics .before .before .before .before .before .before .before .before .before .before .before .before .pre in
     pre .1 .body .inList
 
 same-length : tie.Need-same-length
@@ -29,7 +29,7 @@ returns c =
     let after-generics = c .before .before .before .before .before .before .before .before .before .before .before in
     let body-lines = c .before .before .before .before .body-lines in
     let generics-lines = after-generics .generics-lines in
-    let put-item = after-generics .before .before .before .before .before .before .put-item in
+    let put-item = after-generics .before .before .before .before .before .before .before .put-item in
     λ x k.
     put-listing x (put-item .ensures x k) (generics-lines .ensures (x .generics) (k .generics))
     (body-lines .ensures (x .body) (k .body))

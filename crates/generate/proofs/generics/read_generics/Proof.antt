@@ -46,9 +46,9 @@ fit-generics-requires : tie.Need-fit-generics-requires
 fit-generics-requires c κs =
     let back8 = c .before .before .before .before .before .before .before .before in
     let back16 = back8 .before .before .before .before .before .before .before .before in
-    let start = back16 .before in
-    let item = back8 .before .before .item in
-    let d = c .before .before .before .before .before .before .d in
+    let start = back16 .before .before in
+    let item = back8 .before .before .before .item in
+    let d = c .before .before .before .before .before .before .before .d in
     let told = meeting.say (itemShown (start .args .s .now) first) itemSaid (d .given .1) (item .ensures) in
     (start .pre, meets-tells told .4 .0 .generics .inList)
 
@@ -74,11 +74,11 @@ returns-3 : tie.Need-returns-3
 returns-3 c =
     let back8 = c .before .before .before .before .before .before .before .before in
     let back16 = back8 .before .before .before .before .before .before .before .before in
-    let args = back16 .before .before .before .before .before .before .args in
-    let item = back8 .before .before .before .before .before .before .before .item in
-    let d = back8 .before .before .before .d in
-    let right-texts = back8 .before .right-texts in
-    let if1 = back8 .if1 in
+    let args = back16 .before .before .before .before .before .before .before .args in
+    let item = back16 .item in
+    let d = back8 .before .before .before .before .d in
+    let right-texts = back8 .before .before .right-texts in
+    let if1 = back8 .before .if1 in
     let fit-generics = c .before .before .before .before .fit-generics in
     let told = meets-tells (meeting.say (itemShown (args .s .now) first) itemSaid (d .given .1) (item .ensures)) in
     let w = writer (args .names) (args .lifetimes .now) (args .types .now) in

@@ -43,9 +43,9 @@ same-length-3 c = search needs
 
 returns-3 : tie.Need-returns-3
 returns-3 c =
-    let args = c .before .before .before .before .before .before .before .before .before .before .args in
-    let f = c .before .before .f in
-    let tuple-field-at = c .before .before .before .before .before .before .tuple-field-at in
+    let args = c .before .before .before .before .before .before .before .before .before .before .before .args in
+    let f = c .before .before .before .f in
+    let tuple-field-at = c .before .before .before .before .before .before .before .tuple-field-at in
     meeting.meets-show (λ v h. (h .0, h .1))
     (meeting.say (contract.unnamedShown (args .s .now) (args .c)) contract.unnamedSaid (f .given .1)
     (tuple-field-at .ensures))

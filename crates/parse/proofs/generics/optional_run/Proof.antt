@@ -6,7 +6,7 @@ use Rattle.parse.proofs.Places as places
 use Rattle.reading.specs.Took.{Reader, Point}
 use Rattle.reading.specs.Role as role
 use Rattle.token_list.specs.Stream.{Trees}
-use mathlib.Core.Bool.{Bool}
+use mathlib.Core.Bool.{Bool, false≢true}
 use Rattle.token_list.specs.declared.check.Cursor.{Cursor}
 use Rattle.parse.specs.declared.runs.Ending.{Ending}
 use Rattle.parse.specs.declared.runs.Run.{Run}
@@ -29,18 +29,16 @@ same-length c = search needs
 
 returns : tie.Need-returns
 returns c =
-    let args = c .before .before .before .before .before .before .before .before .args in
-    let consume-punct-if = c .before .before .before .before .consume-punct-if in
-    let if1 = c .if1 in
-    let none = not-true _ (if1 .taken) in
-    let stays = consume-punct-if .ensures .1 .1 none in
-    meeting.meets-say (ap contract.on stays)
-    (meeting.meets-then runOr (consume-punct-if .ensures .0)
+    let args = c .before .before .before .before .before .before .before .before .before .args in
+    let consume-punct-if = c .before .before .before .before .before .consume-punct-if in
+    let none = not-true _ (c .if1 .taken) in
+    let absent = sym (consume-punct-if .ensures .1 .0) ∙ none in
+    meeting.meets-then runOr (consume-punct-if .ensures .0)
     (λ t e. meeting.meets-as
     (ap (λ x. runOr x (consume-punct-if .result .next .row)
     (contract.stream (args .s .now) (consume-punct-if .result .next))) (sym e ∙ none))
     (meeting.meets-stay _ _ _ _ _ (meeting.landed (consume-punct-if .ensures .0))
-    (sym (consume-punct-if .ensures .1 .0) ∙ none, refl))))
+    (λ k. (refl, refl), λ k. absurd (false≢true (sym absent ∙ k)))))
 
 read-tokens-until-punct-requires : tie.Need-read-tokens-until-punct-requires
 read-tokens-until-punct-requires c κs =
@@ -62,7 +60,7 @@ returns-2 c =
     let back16 = back8 .before .before .before .before .before .before .before .before in
     let args = back16 .args in
     let consume-punct-if = back8 .before .before .before .before .consume-punct-if in
-    let if1 = back8 .if1 in
+    let if1 = c .before .before .before .before .before .before .before .if1 in
     let read-tokens-until-punct = c .before .before .before .before .before .read-tokens-until-punct in
     let r = c .before .r in
     let run = meeting.say (contract.runShown (args .s .now) reading.parameterStops role.bound
@@ -87,10 +85,11 @@ returns-3 c =
     let back16 = back8 .before .before .before .before .before .before .before .before in
     let args = back16 .args in
     let consume-punct-if = back8 .before .before .before .before .consume-punct-if in
-    let if1 = back8 .if1 in
+    let if1 = c .before .before .before .before .before .before .before .if1 in
     let read-tokens-until-punct = c .before .before .before .before .before .read-tokens-until-punct in
     let to = c .before .to in
     let there = sym (consume-punct-if .ensures .1 .0) ∙ not-false _ (if1 .left) in
+    let read = run-of (consume-punct-if .result .next) (to .given .0 .0) (to .given .0 .1 .0) (to .given .0 .1 .1 .0) in
     let run = meeting.say (contract.runShown (args .s .now) reading.parameterStops role.bound
     (consume-punct-if .result .next)) contract.runSaid (to .given .1)
     (read-tokens-until-punct .ensures) in
@@ -101,12 +100,9 @@ returns-3 c =
     (ap (λ x. runOr x (consume-punct-if .result .next .row)
     (contract.stream (args .s .now) (consume-punct-if .result .next))) (sym e ∙ not-false _ (if1 .left)))
     (meeting.meets-show
-    (λ v h. (
-      there,
-      subst (λ (x : Point). contract.RunAt (args .s .now) reading.parameterStops role.bound x
-          (run-of (consume-punct-if .result .next) (to .given .0 .0) (to .given .0 .1 .0) (to .given .0 .1 .1 .0)) v)
-          past h,
-    )) run))
+    (λ v h.
+    let here = subst (λ (x : Point). contract.RunAt (args .s .now) reading.parameterStops role.bound x read v) past h in
+    (λ k. absurd (false≢true (sym k ∙ there)), λ k. (refl, (there, here)))) run))
 
 pub optional-run-spec : {M : Type 1} → statement M
 optional-run-spec =

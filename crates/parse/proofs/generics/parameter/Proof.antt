@@ -3,6 +3,8 @@ use Rattle.parse.specs.Contract as contract
 use Rattle.reading.specs.Reading as reading
 use Rattle.parse.proofs.Places as places
 use Rattle.parse.specs.declared.generics.ParameterStep.{ParameterStep}
+use Rattle.parse.specs.declared.generics.ParameterKind.the-variants as kinds
+use Rattle.token_list.specs.Check.{END}
 use Rattle.reading.specs.Declaration.{Parameter}
 use Rattle.reading.specs.Took.{Point}
 use lib.Seq.{slice}
@@ -42,8 +44,8 @@ take-token-requires c κs =
     let t = c .before .before .before .before .t in
     (pre, meeting.peeked _ _ (peek .ensures) (t .given .1) .token)
 
-lifetime-requires : tie.Need-lifetime-requires
-lifetime-requires c κs =
+named-parameter-requires : tie.Need-named-parameter-requires
+named-parameter-requires c κs =
     let back8 = c .before .before .before .before .before .before .before .before in
     let pre = back8 .before .before .before .before .before .pre in
     let peek = back8 .before .before .peek in
@@ -65,11 +67,11 @@ returns c =
     let is-punct = back8 .before .is-punct in
     let if1 = back8 .if1 in
     let take-token = c .before .before .before .before .before .before .take-token in
-    let lifetime = c .before .before .lifetime in
+    let lifetime = c .before .before .named-parameter in
     let l = meeting.peeked _ _ (peek .ensures) (t .given .1) in
     let quote = meeting.punct-of _ _ _ _ (l .token) ∙ sym (is-punct .ensures) ∙ if1 .taken in
     meeting.meets-from (reading.parameter (args .angle)) _ _ pre _ _ l _ _ _ _ (take-token .ensures .0)
-    (take-token .ensures .1) _ _ (contract.afterQuote (args .c .row)) (chosen _ _ _ quote)
+    (take-token .ensures .1) _ _ (contract.namedParameter 24 (args .c .row) kinds.Lifetime) (chosen _ _ _ quote)
     (meeting.meets-show (named-at (args .s .now) (lifetime .result)
     (places.after-quote _ _ _ _ pre l (take-token .ensures .0) quote)) (lifetime .ensures))
 
@@ -142,8 +144,8 @@ ident-eq-requires c κs =
     let t = back8 .before .before .before .before .t in
     meeting.token-within _ _ _ (meeting.peeked _ _ (peek .ensures) (t .given .1) .token)
 
-const-generic-requires : tie.Need-const-generic-requires
-const-generic-requires c κs =
+named-parameter-requires-2 : tie.Need-named-parameter-requires-2
+named-parameter-requires-2 c κs =
     let back8 = c .before .before .before .before .before .before .before .before in
     let back16 = back8 .before .before .before .before .before .before .before .before in
     let pre = back16 .before .before .before .before .pre in
@@ -170,16 +172,16 @@ returns-4 c =
     let take-token3 = back8 .before .take-token3 in
     let ident-eq = c .before .before .before .before .before .ident-eq in
     let if4 = c .before .before .before .before .if4 in
-    let const-generic = c .before .before .const-generic in
+    let constant = c .before .before .named-parameter2 in
     let l = meeting.peeked _ _ (peek .ensures) (t .given .1) in
     let no-quote = meeting.punct-of _ _ _ _ (l .token) ∙ sym (is-punct .ensures) ∙ if1 .left in
     let no-angle = meeting.punct-of _ _ _ _ (l .token) ∙ sym (is-punct2 .ensures) ∙ if2 .left in
     let const = sym (ident-eq .ensures) ∙ if4 .taken in
     meeting.meets-from (reading.parameter (args .angle)) _ _ pre _ _ l _ _ _ _ (take-token3 .ensures .0)
-    (take-token3 .ensures .1) _ _ contract.afterConst
+    (take-token3 .ensures .1) _ _ (contract.namedParameter 27 END kinds.Const)
     (passed-over _ _ _ no-quote ∙ passed-over _ _ _ no-angle ∙ chosen _ _ _ const)
-    (meeting.meets-show (named-at (args .s .now) (const-generic .result)
-    (places.after-const _ _ _ _ pre l (take-token3 .ensures .0) no-quote const)) (const-generic .ensures))
+    (meeting.meets-show (named-at (args .s .now) (constant .result)
+    (places.after-const _ _ _ _ pre l (take-token3 .ensures .0) no-quote const)) (constant .ensures))
 
 simple-generic-requires : tie.Need-simple-generic-requires
 simple-generic-requires c κs =
@@ -254,7 +256,7 @@ parameter-spec =
     enum-known-t
     is-punct-requires
     take-token-requires
-    lifetime-requires
+    named-parameter-requires
     same-length
     returns
     is-punct-requires-2
@@ -265,7 +267,7 @@ parameter-spec =
     take-token-requires-3
     slice-aggregate-ident-eq
     ident-eq-requires
-    const-generic-requires
+    named-parameter-requires-2
     same-length-3
     returns-4
     simple-generic-requires

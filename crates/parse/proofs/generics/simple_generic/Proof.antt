@@ -48,14 +48,15 @@ returns-2 c =
     let args = back8 .before .before .before .before .before .args in
     let bounds-or-default = back8 .before .bounds-or-default in
     let parameter-end = c .before .before .parameter-end in
-    let read = contract.parameterRun (part .given .0 .0) (part .given .0 .1 .0) in
+    let m = part .given .0 .0 in
+    let run = part .given .0 .1 .0 in
     λ n x h place past.
     meeting.meets-then reading.comma
     (meeting.say (contract.typeShown (args .s .now) (contract.point (args .s .now) (args .c)) n)
     contract.parameterRunSaid (part .given .1) (bounds-or-default .ensures n))
     (λ a k. parameter-end .ensures a x
     (record { kind = k .0; text = subst⁻¹ (contract.TextOf (args .s .now) (args .name)) (k .1) h }) place
-    (subst (λ (p : Point). contract.ParameterRunAt (args .s .now) p (contract.boundOf a) (contract.defaultOf a) read)
+    (subst (λ (p : Point). contract.ParameterRunAt (args .s .now) p (contract.boundOf a) (contract.defaultOf a) m run)
     past (k .2)))
 
 pub simple-generic-spec : {M : Type 1} → statement M

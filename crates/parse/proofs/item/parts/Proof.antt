@@ -54,7 +54,7 @@ body-requires : tie.Need-body-requires
 body-requires c κs =
     let back8 = c .before .before .before .before .before .before .before .before in
     let back16 = back8 .before .before .before .before .before .before .before .before in
-    let args = back16 .before .before .before .args in
+    let args = back16 .before .before .args in
     let d = back8 .before .d in
     let try-take-constraints = c .before .before .before .before .before .before .try-take-constraints in
     let clause = c .before .before .clause in
@@ -85,7 +85,7 @@ returns-2 : tie.Need-returns-2
 returns-2 c =
     let back8 = c .before .before .before .before .before .before .before .before in
     let back16 = back8 .before .before .before .before .before .before .before .before in
-    let args = back16 .before .before .args in
+    let args = back16 .before .args in
     let try-take = back8 .before .before .before .before .try-take in
     let d = back8 .d in
     let try-take-constraints = c .before .before .before .before .before .try-take-constraints in
@@ -102,8 +102,7 @@ returns-3 : tie.Need-returns-3
 returns-3 c =
     let back8 = c .before .before .before .before .before .before .before .before in
     let back16 = back8 .before .before .before .before .before .before .before .before in
-    let back24 = back16 .before .before .before .before .before .before .before .before in
-    let args = back24 .before .args in
+    let args = back16 .before .before .before .before .before .before .before .before .args in
     let try-take = back16 .before .before .before .try-take in
     let d = back8 .before .before .before .before .before .before .before .d in
     let try-take-constraints = back8 .before .before .before .before .try-take-constraints in
@@ -124,9 +123,8 @@ returns-4 : tie.Need-returns-4
 returns-4 c =
     let back8 = c .before .before .before .before .before .before .before .before in
     let back16 = back8 .before .before .before .before .before .before .before .before in
-    let back24 = back16 .before .before .before .before .before .before .before .before in
-    let args = back24 .before .args in
-    let pre = back24 .before .pre in
+    let args = back16 .before .before .before .before .before .before .before .before .args in
+    let pre = back16 .before .before .before .before .before .before .before .before .pre in
     let try-take = back16 .before .before .before .try-take in
     let d = back8 .before .before .before .before .before .before .before .d in
     let try-take-constraints = back8 .before .before .before .before .try-take-constraints in

@@ -21,8 +21,8 @@ refuse-requires c κs = search needs
 enum-known-i : tie.Need-enum-known-i
 enum-known-i c = search needs
 
-set-left-over-requires : tie.Need-set-left-over-requires
-set-left-over-requires c κs = search needs
+fill-rest-requires : tie.Need-fill-rest-requires
+fill-rest-requires c κs = search needs
 
 parsed-requires : tie.Need-parsed-requires
 parsed-requires c κs = search needs
@@ -54,7 +54,7 @@ returns-2 c =
     let i = c .before .before .before .before .before .before .before .i in
     items.read-accepted (args .s .now) (args .rows) (pre .0) (args .roles .now) (pre .1) (i .given .0 .0)
     (meeting.say (contract.itemShown (args .s .now) contract.first) contract.itemSaid (i .given .1) (item .ensures))
-    ((c .before .before .before .set-left-over) .ensures) ((c .parsed) .ensures)
+    ((c .before .before .before .fill-rest) .ensures) ((c .parsed) .ensures)
 
 pub read-spec : {M : Type 1} → statement M
 read-spec =
@@ -64,7 +64,7 @@ read-spec =
     enum-known-r
     refuse-requires
     enum-known-i
-    set-left-over-requires
+    fill-rest-requires
     parsed-requires
     same-length
     returns

@@ -18,8 +18,8 @@ loop-holds c =
     let pre = c .before .before .pre in
     turns.gone-start _ _ _ pre
 
-turn-requires : tie.Need-turn-requires Inv-loop μ-loop
-turn-requires c κs =
+take-entry-requires : tie.Need-take-entry-requires Inv-loop μ-loop
+take-entry-requires c κs =
     let loop = c .before .loop in
     loop .inv .onward .inList
 
@@ -30,26 +30,26 @@ enum-known-next c =
 add-count : tie.Need-add-count Inv-loop μ-loop
 add-count c =
     let next = c .before .next in
-    let turn = c .before .before .before .before .before .turn in
+    let take-entry = c .before .before .before .before .before .take-entry in
     let loop = c .before .before .before .before .before .before .before .loop in
-    let t = turns.turn-told _ _ _ _ (turn .ensures) (next .given .1) in
+    let t = turns.take-told _ _ _ _ (take-entry .ensures) (next .given .1) in
     let few = (turns.gone-more (loop .inv) t) .few in
     omega (arith, few, t .added .onward .inList .within)
 
 loop-less : tie.Need-loop-less Inv-loop μ-loop
 loop-less c =
     let next = c .before .next in
-    let turn = c .before .before .before .before .before .turn in
-    let t = turns.turn-told _ _ _ _ (turn .ensures) (next .given .1) in
+    let take-entry = c .before .before .before .before .before .take-entry in
+    let t = turns.take-told _ _ _ _ (take-entry .ensures) (next .given .1) in
     let o = t .added .onward in
     omega (arith, o .forth, t .added .some, o .inList .within)
 
 loop-again : tie.Need-loop-again Inv-loop μ-loop
 loop-again c =
     let next = c .before .next in
-    let turn = c .before .before .before .before .before .turn in
+    let take-entry = c .before .before .before .before .before .take-entry in
     let loop = c .before .before .before .before .before .before .before .loop in
-    turns.gone-more (loop .inv) (turns.turn-told _ _ _ _ (turn .ensures) (next .given .1))
+    turns.gone-more (loop .inv) (turns.take-told _ _ _ _ (take-entry .ensures) (next .given .1))
 
 enum-told : tie.Need-enum-told Inv-loop μ-loop
 enum-told c =
@@ -57,16 +57,16 @@ enum-told c =
 
 same-length : tie.Need-same-length Inv-loop μ-loop
 same-length c =
-    let turn = c .before .before .before .before .turn in
+    let take-entry = c .before .before .before .before .take-entry in
     let loop = c .before .before .before .before .before .before .loop in
-    turn .kept .1 .1 .0 ∙ turns.gone-length (loop .inv)
+    take-entry .kept .1 .1 .0 ∙ turns.gone-length (loop .inv)
 
 returns : tie.Need-returns Inv-loop μ-loop
 returns c =
     let enum-told = c .enum-told in
-    let turn = c .before .before .before .before .turn in
+    let take-entry = c .before .before .before .before .take-entry in
     let loop = c .before .before .before .before .before .before .loop in
-    let t = turns.turn-told _ _ _ _ (turn .ensures) (enum-told .given .1) in
+    let t = turns.take-told _ _ _ _ (take-entry .ensures) (enum-told .given .1) in
     turns.gone-done (loop .inv) (t .0) (t .1)
 
 enum-known-r : tie.Need-enum-known-r Inv-loop μ-loop
@@ -75,16 +75,16 @@ enum-known-r c =
 
 same-length-2 : tie.Need-same-length-2 Inv-loop μ-loop
 same-length-2 c =
-    let turn = c .before .before .before .before .before .turn in
+    let take-entry = c .before .before .before .before .before .take-entry in
     let loop = c .before .before .before .before .before .before .before .loop in
-    turn .kept .1 .1 .0 ∙ turns.gone-length (loop .inv)
+    take-entry .kept .1 .1 .0 ∙ turns.gone-length (loop .inv)
 
 returns-2 : tie.Need-returns-2 Inv-loop μ-loop
 returns-2 c =
     let r = c .before .r in
-    let turn = c .before .before .before .before .before .turn in
+    let take-entry = c .before .before .before .before .before .take-entry in
     let loop = c .before .before .before .before .before .before .before .loop in
-    let t = turns.turn-told _ _ _ _ (turn .ensures) (r .given .1) in
+    let t = turns.take-told _ _ _ _ (take-entry .ensures) (r .given .1) in
     turns.gone-refused (loop .inv) (t .0)
 
 pub entries-spec : {M : Type 1} → statement M
@@ -94,7 +94,7 @@ entries-spec =
     Inv-loop
     μ-loop
     loop-holds
-    turn-requires
+    take-entry-requires
     enum-known-next
     add-count
     loop-less

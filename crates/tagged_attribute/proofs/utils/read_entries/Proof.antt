@@ -19,8 +19,8 @@ refuse-requires c κs = search needs
 enum-known-d : tie.Need-enum-known-d
 enum-known-d c = search needs
 
-leave-requires : tie.Need-leave-requires
-leave-requires c κs = search needs
+fill-rest-requires : tie.Need-fill-rest-requires
+fill-rest-requires c κs = search needs
 
 same-length : tie.Need-same-length
 same-length c = search needs
@@ -44,7 +44,7 @@ same-length-2 c = search needs
 
 returns-2 : tie.Need-returns-2
 returns-2 c =
-    let leave = c .before .before .leave in
+    let fill-rest = c .before .before .fill-rest in
     let d = c .before .before .before .before .before .d in
     let entries = c .before .before .before .before .before .before .before .before .before .entries in
     let earlier = c .before .before .before .before .before .before .before .before .before in
@@ -53,7 +53,7 @@ returns-2 c =
     let pre = earlier .before .before .before .before .before .before .before .before .pre in
     let e = turns.entered-told _ _ _ _ (entries .ensures) (d .given .1) in
     λ behind fits. answers.entries-given (args .s .now) _ (pre .1 .0) behind (args .rows) fits (args .roles .now) _
-    (pre .1 .1) (fill .ensures) (pre .0) _ _ _ _ e (leave .ensures)
+    (pre .1 .1) (fill .ensures) (pre .0) _ _ _ _ e (fill-rest .ensures)
 
 pub read-entries-spec : {M : Type 1} → statement M
 read-entries-spec =
@@ -64,7 +64,7 @@ read-entries-spec =
     enum-known-r
     refuse-requires
     enum-known-d
-    leave-requires
+    fill-rest-requires
     same-length
     returns
     same-length-2

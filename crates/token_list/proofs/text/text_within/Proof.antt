@@ -23,14 +23,14 @@ returns-2 c =
     (same-length (slice (a .start) (a .end) (a .s .now)) (a .name .now)
     (λ e. c .if2 .taken (sym (length-slice (a .start) (a .end) (a .s .now) (omega arith)) ∙ e)))
 
-goes-on-requires : tie.Need-goes-on-requires
-goes-on-requires c κs = search needs
+begins-with-requires : tie.Need-begins-with-requires
+begins-with-requires c κs = search needs
 
 returns-3 : tie.Need-returns-3
 returns-3 c =
     let a = c .before .before .before .before .before .args in
     let e : a .start + length (a .name .now) ≡ a .end = omega arith in
-    c .goes-on .ensures ∙ ap (λ (n : ℕ). same (slice (a .start) n (a .s .now)) (a .name .now)) e
+    c .begins-with .ensures ∙ ap (λ (n : ℕ). same (slice (a .start) n (a .s .now)) (a .name .now)) e
 
 pub text-within-spec : {M : Type 1} → statement M
-text-within-spec = tie.close (tie.spec returns returns-2 goes-on-requires returns-3)
+text-within-spec = tie.close (tie.spec returns returns-2 begins-with-requires returns-3)

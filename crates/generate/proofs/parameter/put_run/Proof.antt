@@ -1,8 +1,8 @@
 use Rattle.generate.proofs.Builds.{then}
 use Rattle.writing.specs.Rows.{runRows}
 use borrow.Author.Needs.{needs}
-use Rattle.generate.proofs.generics.put_run.Statement.{statement}
-use Rattle.generate.proofs.generics.put_run.Tie as tie
+use Rattle.generate.proofs.parameter.put_run.Statement.{statement}
+use Rattle.generate.proofs.parameter.put_run.Tie as tie
 
 punct-requires : tie.Need-punct-requires
 punct-requires c κs = search needs

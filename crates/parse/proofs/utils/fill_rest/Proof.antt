@@ -1,12 +1,11 @@
-use Rattle.reading.specs.Role.{none as no-role}
-use Rattle.tagged_reading.specs.Role.{others}
+use Rattle.reading.specs.Role.{none}
 use Prim.Native.Nat.{_-_}
 use lib.ListN.{length, replicate}
 use lib.Seq.{sets, length-sets}
 use mathlib.Core.Path.{_∙_, ap}
 use borrow.Author.Needs.{needs}
-use Rattle.tagged_attribute.proofs.utils.leave.Statement.{statement}
-use Rattle.tagged_attribute.proofs.utils.leave.Tie as tie
+use Rattle.parse.proofs.utils.fill_rest.Statement.{statement}
+use Rattle.parse.proofs.utils.fill_rest.Tie as tie
 
 fill-requires : tie.Need-fill-requires
 fill-requires c κs = search needs
@@ -22,11 +21,11 @@ returns c =
     let fill2 = c .before .before .fill2 in
     let fill = c .before .before .before .before .before .before .fill in
     let a = c .before .before .before .before .before .before .before .before .before .args in
-    let left = others (a .rows - a .end) in
+    let left = replicate (a .rows - a .end) (a .role) in
     fill2 .ensures
-    ∙ ap (λ b. sets b (a .rows) (replicate (length b - a .rows) no-role)) (fill .ensures)
-    ∙ ap (λ n. sets (sets (a .roles .now) (a .end) left) (a .rows) (replicate (n - a .rows) no-role))
+    ∙ ap (λ b. sets b (a .rows) (replicate (length b - a .rows) none)) (fill .ensures)
+    ∙ ap (λ n. sets (sets (a .roles .now) (a .end) left) (a .rows) (replicate (n - a .rows) none))
     (length-sets (a .roles .now) (a .end) left)
 
-pub leave-spec : {M : Type 1} → statement M
-leave-spec = tie.close (tie.spec fill-requires fill-requires-2 same-length returns)
+pub fill-rest-spec : {M : Type 1} → statement M
+fill-rest-spec = tie.close (tie.spec fill-requires fill-requires-2 same-length returns)

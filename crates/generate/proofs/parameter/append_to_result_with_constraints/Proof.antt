@@ -1,11 +1,11 @@
 use mathlib.Core.Path.{sym, subst}
 use Rattle.parse.specs.Contract.{boundOf}
 use Rattle.generate.specs.Contract.{RunIn}
-use Rattle.generate.specs.declared.generics.ConstraintsAt.{ConstraintsAt}
+use Rattle.generate.specs.declared.parameter.ConstraintsAt.{ConstraintsAt}
 use Rattle.generate.proofs.Parameters.{by-parts}
 use borrow.Author.Needs.{needs}
-use Rattle.generate.proofs.generics.append_to_result_with_constraints.Statement.{statement}
-use Rattle.generate.proofs.generics.append_to_result_with_constraints.Tie as tie
+use Rattle.generate.proofs.parameter.append_to_result_with_constraints.Statement.{statement}
+use Rattle.generate.proofs.parameter.append_to_result_with_constraints.Tie as tie
 
 is-const-requires : tie.Need-is-const-requires
 is-const-requires c κs = search needs
@@ -23,7 +23,7 @@ put-constraints-requires : tie.Need-put-constraints-requires
 put-constraints-requires c κs =
     let back8 = c .before .before .before .before .before .before .before .before in
     let back16 = back8 .before .before .before .before .before .before .before .before in
-    let start = back16 .before in
+    let start = back16 .before .before in
     let s = start .args .s .now in
     let same = c .before .before .before .constraints .ensures in
     let pre = start .pre in
@@ -36,7 +36,7 @@ returns : tie.Need-returns
 returns c =
     let back8 = c .before .before .before .before .before .before .before .before in
     let back16 = back8 .before .before .before .before .before .before .before .before in
-    let args = back16 .before .before .before .before .args in
+    let args = back16 .before .before .before .before .before .args in
     let is-const = back8 .before .before .before .before .before .before .before .is-const in
     let append-const = back8 .before .before .before .before .before .append-const in
     let append-name = back8 .before .append-name in

@@ -6,8 +6,8 @@ use borrow.Author.Tests.{le-leb}
 use Prim.Native.Nat.{ℕ, _+_, _-_}
 use mathlib.Core.Path.{_≡_, sym, _∙_, ap}
 use native.Mathlib.Omega.{arith}
-use Rattle.token_list.proofs.text.goes_on.Statement.{statement}
-use Rattle.token_list.proofs.text.goes_on.Tie as tie
+use Rattle.token_list.proofs.text.begins_with.Statement.{statement}
+use Rattle.token_list.proofs.text.begins_with.Tie as tie
 
 abbrev Inv-loop : tie.InvT-loop
 Inv-loop s at name i₀ i =
@@ -63,8 +63,8 @@ returns-2 c =
     (a .at + c .before .loop .i) (c .before .loop .i) (omega arith) ∙ le-leb (a .at + length (a .name .now))
     (a .at + c .before .loop .i) (omega arith))
 
-pub goes-on-spec : {M : Type 1} → statement M
-goes-on-spec =
+pub begins-with-spec : {M : Type 1} → statement M
+begins-with-spec =
     tie.close
     (tie.spec
     Inv-loop

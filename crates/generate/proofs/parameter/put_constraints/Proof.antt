@@ -1,8 +1,8 @@
 use native.Mathlib.Omega.{arith}
 use Rattle.generate.proofs.Constrained.{always, some, none}
 use borrow.Author.Needs.{needs}
-use Rattle.generate.proofs.generics.put_constraints.Statement.{statement}
-use Rattle.generate.proofs.generics.put_constraints.Tie as tie
+use Rattle.generate.proofs.parameter.put_constraints.Statement.{statement}
+use Rattle.generate.proofs.parameter.put_constraints.Tie as tie
 
 put-run-requires : tie.Need-put-run-requires
 put-run-requires c κs = search needs

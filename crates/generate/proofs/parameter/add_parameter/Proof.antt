@@ -2,8 +2,8 @@ use Rattle.generate.specs.Contract.{shaped}
 use Rattle.generate.proofs.Builds.{then}
 use Rattle.generate.proofs.Added.{as-first, as-next}
 use borrow.Author.Needs.{needs}
-use Rattle.generate.proofs.generics.add_parameter.Statement.{statement}
-use Rattle.generate.proofs.generics.add_parameter.Tie as tie
+use Rattle.generate.proofs.parameter.add_parameter.Statement.{statement}
+use Rattle.generate.proofs.parameter.add_parameter.Tie as tie
 
 append-parameter-requires : tie.Need-append-parameter-requires
 append-parameter-requires c κs = search needs

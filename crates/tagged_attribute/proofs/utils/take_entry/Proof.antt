@@ -3,8 +3,8 @@ use Rattle.tagged_attribute.specs.Contract as contract
 use native.Mathlib.Omega.{arith}
 use mathlib.Core.Path.{refl}
 use borrow.Author.Needs.{needs}
-use Rattle.tagged_attribute.proofs.utils.turn.Statement.{statement}
-use Rattle.tagged_attribute.proofs.utils.turn.Tie as tie
+use Rattle.tagged_attribute.proofs.utils.take_entry.Statement.{statement}
+use Rattle.tagged_attribute.proofs.utils.take_entry.Tie as tie
 
 entry-requires : tie.Need-entry-requires
 entry-requires c κs = search needs
@@ -85,8 +85,8 @@ returns-5 c =
     let entry = c .before .before .before .before .before .before .before .before .entry in
     turns.turned-property (turns.entry-told _ _ _ (entry .ensures) (p .given .1)) (set-property .ensures)
 
-pub turn-spec : {M : Type 1} → statement M
-turn-spec =
+pub take-entry-spec : {M : Type 1} → statement M
+take-entry-spec =
     tie.close
     (tie.spec
     entry-requires

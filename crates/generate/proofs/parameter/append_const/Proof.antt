@@ -1,8 +1,8 @@
 use native.Mathlib.Omega.{arith}
 use Rattle.generate.proofs.Parameters.{unchanged}
 use borrow.Author.Needs.{needs}
-use Rattle.generate.proofs.generics.append_const.Statement.{statement}
-use Rattle.generate.proofs.generics.append_const.Tie as tie
+use Rattle.generate.proofs.parameter.append_const.Statement.{statement}
+use Rattle.generate.proofs.parameter.append_const.Tie as tie
 
 slice-aggregate-ident-str : tie.Need-slice-aggregate-ident-str
 slice-aggregate-ident-str c = search needs

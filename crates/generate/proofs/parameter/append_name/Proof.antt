@@ -1,8 +1,8 @@
 use mathlib.Core.Path.{sym, _∙_}
 use Rattle.generate.proofs.Parameters.{lifetime-name, ident-name}
 use borrow.Author.Needs.{needs}
-use Rattle.generate.proofs.generics.append_name.Statement.{statement}
-use Rattle.generate.proofs.generics.append_name.Tie as tie
+use Rattle.generate.proofs.parameter.append_name.Statement.{statement}
+use Rattle.generate.proofs.parameter.append_name.Tie as tie
 
 is-lifetime-requires : tie.Need-is-lifetime-requires
 is-lifetime-requires c κs = search needs

@@ -1,7 +1,7 @@
 use Rattle.generate.proofs.Parameters.{as-name, as-it-stands}
 use borrow.Author.Needs.{needs}
-use Rattle.generate.proofs.generics.append_parameter.Statement.{statement}
-use Rattle.generate.proofs.generics.append_parameter.Tie as tie
+use Rattle.generate.proofs.parameter.append_parameter.Statement.{statement}
+use Rattle.generate.proofs.parameter.append_parameter.Tie as tie
 
 append-name-requires : tie.Need-append-name-requires
 append-name-requires c κs = search needs
