@@ -13,9 +13,9 @@ generics-lines-requires c κs =
 
 body-lines-requires : tie.Need-body-lines-requires
 body-lines-requires c κs =
-    let after-generics = c .before .before .before .before .before .before in
+    let after = c .before .before .before .before .before .before in
     let pre =
-    after-generics .before .before .before .before .before .before .before .before .before .before .before .before .pre in
+    after .before .before .before .before .before .before .before .before .before .before .before .before .pre in
     pre .1 .body .inList
 
 same-length : tie.Need-same-length
@@ -26,10 +26,10 @@ same-length-2 c = search needs
 
 returns : tie.Need-returns
 returns c =
-    let after-generics = c .before .before .before .before .before .before .before .before .before .before .before in
+    let after = c .before .before .before .before .before .before .before .before .before .before .before in
     let body-lines = c .before .before .before .before .body-lines in
-    let generics-lines = after-generics .generics-lines in
-    let put-item = after-generics .before .before .before .before .before .before .before .put-item in
+    let generics-lines = after .generics-lines in
+    let put-item = after .before .before .before .before .before .before .before .put-item in
     λ x k.
     put-listing x (put-item .ensures x k) (generics-lines .ensures (x .generics) (k .generics))
     (body-lines .ensures (x .body) (k .body))

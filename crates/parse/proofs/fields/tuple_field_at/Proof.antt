@@ -22,9 +22,9 @@ type-then a v =
     reading.run reading.fieldStops role.type >>= λ t. reading.comma (made (record { attributes = a; visibility = v }) t)
 
 -- a field, where a look has found something
-field-here : (row : ℕ) (ts : Trees) {k : ℕ} → k ≡ firstKind ts → (k ≡ 0 → ⊥) →
+here : (row : ℕ) (ts : Trees) {k : ℕ} → k ≡ firstKind ts → (k ≡ 0 → ⊥) →
     reading.tupleField row ts ≡ after row (contract.prefix row ts) (λ p. type-then (p .attributes) (p .visibility))
-field-here row ts {k} e n = as-type row ts (λ h. n (e ∙ ap firstKind h)) ∙ bodies.prefix-then row ts type-then
+here row ts {k} e n = as-type row ts (λ h. n (e ∙ ap firstKind h)) ∙ bodies.prefix-then row ts type-then
 
 look-requires : tie.Need-look-requires
 look-requires c κs = search needs
@@ -76,12 +76,13 @@ same-length c = search needs
 
 returns-2 : tie.Need-returns-2
 returns-2 c =
-    let args = c .before .before .before .before .before .before .before .before .before .before .before .before .args in
+    let back8 = c .before .before .before .before .before .before .before .before in
+    let args = back8 .before .before .before .before .args in
     let try-take = c .before .before .before .before .before .try-take in
     let if1 = c .before .before .before .before .before .before .before .if1 in
-    let look = c .before .before .before .before .before .before .before .before .before .look in
+    let look = back8 .before .look in
     let r = c .before .r in
-    let field = field-here (args .c .row) (contract.stream (args .s .now) (args .c)) (look .ensures .kind) (if1 .left) in
+    let field = here (args .c .row) (contract.stream (args .s .now) (args .c)) (look .ensures .kind) (if1 .left) in
     let attributes = meeting.say (λ x. contract.any) contract.stepSaid (r .given .1) (try-take .ensures) in
     meeting.meets-as field
     (meeting.meets-no _ (bodies.prefix-refused attributes))
@@ -98,7 +99,7 @@ returns-3 c =
     let try-take = back16 .try-take in
     let if1 = back16 .before .before .if1 in
     let look = back16 .before .before .before .before .look in
-    let field = field-here (args .c .row) (contract.stream (args .s .now) (args .c)) (look .ensures .kind) (if1 .left) in
+    let field = here (args .c .row) (contract.stream (args .s .now) (args .c)) (look .ensures .kind) (if1 .left) in
     let visibility = back8 .before .before .before .before .visibility in
     let try-take2 = back8 .before .try-take2 in
     let field-type = c .before .before .before .before .before .field-type in
@@ -127,7 +128,7 @@ returns-4 c =
     let try-take = back16 .try-take in
     let if1 = back16 .before .before .if1 in
     let look = back16 .before .before .before .before .look in
-    let field = field-here (args .c .row) (contract.stream (args .s .now) (args .c)) (look .ensures .kind) (if1 .left) in
+    let field = here (args .c .row) (contract.stream (args .s .now) (args .c)) (look .ensures .kind) (if1 .left) in
     let visibility = back8 .before .before .before .before .visibility in
     let try-take2 = back8 .before .try-take2 in
     let field-type = c .before .before .before .before .before .field-type in

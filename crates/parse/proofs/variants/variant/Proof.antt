@@ -99,7 +99,8 @@ same-length c = search needs
 
 returns-2 : tie.Need-returns-2
 returns-2 c =
-    let args = c .before .before .before .before .before .before .before .before .before .before .before .before .args in
+    let back8 = c .before .before .before .before .before .before .before .before in
+    let args = back8 .before .before .before .before .args in
     let variant-name = c .before .before .before .before .before .variant-name in
     let if1 = c .before .before .before .before .before .before .before .if1 in
     let look = c .before .before .before .before .before .before .before .before .before .look in
