@@ -8,7 +8,7 @@ use lib.ListN.{length, length-append}
 use Rattle.token_list.specs.Contract.{InList}
 use Rattle.token_list.specs.declared.check.Cursor.{Cursor}
 use Rattle.output.specs.Contract.{FAR, Put}
-use Rattle.output.proofs.Texts.{nothing, joined}
+use Rattle.output.proofs.Texts.{nothing, joined, put-as}
 use Rattle.reading.specs.Declaration.{Parameter, lifetime, constant, type, UnnamedField, Field, Variant}
 use Rattle.reading.specs.Took.{Took, Reader}
 use Rattle.reading.specs.Reading as reading
@@ -27,7 +27,6 @@ use Rattle.parse.proofs.Meeting as meeting
 use Rattle.describe.specs.Listing.{line, numbered, namedLine, tupleLine, variantLines, parameterName}
 use Rattle.describe.specs.Listing.{parameterLine}
 use Rattle.parse.proofs.Inside.{inside-more, inside-done, inside-refused, forward}
-use Rattle.describe.proofs.Worths.{put-as}
 
 -- a part and a name, and the rest of the line
 pub put-line : {k l m : List ℕ} {h i j : ℕ} (part name number : List ℕ) → Put k l h i (part ++ name) →

@@ -1,5 +1,5 @@
 -- Laws on values: the worth of digits, and the text of a negative.
-use mathlib.Core.Path.{_≡_, refl, ap, _∙_, sym, subst, subst⁻¹}
+use mathlib.Core.Path.{_≡_, refl, ap, _∙_, sym, subst}
 use mathlib.Core.Bool.{Bool, true, false, cond}
 use mathlib.Core.List.{List, [], _∷_}
 use Prim.Native.Nat.{ℕ, zero, suc, _+_, _-_, _*_, _≤_, _<_}
@@ -9,9 +9,8 @@ use lib.ListN.{length, getD, take, drop}
 use lib.Seq.{slice}
 use borrow.Author.Tests.{leb-true, le-leb, lt-leb, eq-eqb, ne-eqb}
 use Rattle.token_list.specs.Text.{all, digit}
-use Rattle.token_list.proofs.Texts.{and-parts, chosen, passed-over, slice-next, slice-none}
+use Rattle.token_list.proofs.Texts.{and-parts, chosen, passed-over, slice-next, slice-none, drop-of-take}
 use Rattle.output.specs.Text.{decimal}
-use Rattle.output.specs.Contract.{Put}
 use Rattle.output.proofs.Texts.{decimal-within}
 use Rattle.reading.specs.Declaration as declaration
 use Rattle.reading.specs.Took.{Point, beyond}
@@ -85,9 +84,6 @@ negative-length n = go (eqb n 0)
     go true = omega arith
     go false = omega arith
 
-pub put-as : {k l s t : List ℕ} {h i : ℕ} → s ≡ t → Put k l h i t → Put k l h i s
-put-as {k} {l} {h = h} {i} e p = subst⁻¹ (Put k l h i) e p
-
 -- ## Parts
 
 pub part-beyond : (a e : ℕ) (s : List ℕ) → length s < e → part a e s ≡ []
@@ -95,17 +91,6 @@ part-beyond a e s h = passed-over _ _ _ (lt-leb e (length s) h)
 
 pub part-none : (a e : ℕ) (s : List ℕ) → e ≤ length s → e ≤ a → part a e s ≡ []
 part-none a e s h k = chosen _ _ _ (le-leb e (length s) h) ∙ slice-none s a e k
-
-take-none : (n : ℕ) → _≡_ {A = List ℕ} [] (take n [])
-take-none zero = refl
-take-none (suc n) = refl
-
-pub drop-of-take : (a e : ℕ) (s : List ℕ) → drop a (take e s) ≡ take (e - a) (drop a s)
-drop-of-take zero e s = let n : e ≡ e - 0 = omega arith in ap (λ (n : ℕ). take n s) n
-drop-of-take (suc a) zero s = let n : 0 ≡ 0 - suc a = omega arith in ap (λ (n : ℕ). take n (drop (suc a) s)) n
-drop-of-take (suc a) (suc e) [] = take-none (suc e - suc a)
-drop-of-take (suc a) (suc e) (b ∷ s) =
-    let n : e - a ≡ suc e - suc a = omega arith in drop-of-take a e s ∙ ap (λ (n : ℕ). take n (drop a s)) n
 
 pub part-some : (a e : ℕ) (s : List ℕ) → e ≤ length s → part a e s ≡ take (e - a) (drop a s)
 part-some a e s h = chosen _ _ _ (le-leb e (length s) h) ∙ drop-of-take a e s

@@ -2,7 +2,7 @@
 use mathlib.Core.Path.{_≡_, refl, ap, _∙_, sym, subst}
 use mathlib.Core.Bool.{Bool, true, false}
 use mathlib.Core.List.{List, [], _∷_, _++_, append-assoc, append-nil}
-use Prim.Native.Nat.{ℕ, zero, suc, _+_, _-_, _/_, _%_, _≤_, _<_}
+use Prim.Native.Nat.{ℕ, _+_, _-_, _/_, _%_, _≤_, _<_}
 use native.Mathlib.Numerals.{add-one}
 use native.Mathlib.Omega.{arith}
 use native.Mathlib.Decide.{decLe}
@@ -16,7 +16,7 @@ use Rattle.token_list.specs.Reader.{rowBytes, bytesFrom, shownOf, shownBytes, o
 use Rattle.token_list.specs.declared.check.Cursor.{Cursor}
 use Rattle.token_list.specs.declared.reader.Shown.{Shown}
 use Rattle.token_list.specs.declared.reader.Shown.the-variants.{Row, End}
-use Rattle.token_list.proofs.Texts.{drop-next}
+use Rattle.token_list.proofs.Texts.{drop-next, drop-of-take}
 use Rattle.output.specs.Contract.{FAR, Put, Printed}
 use Rattle.output.proofs.Texts.{joined}
 use Rattle.explanation.specs.Row.{hexDigit, shownByte, shown}
@@ -61,18 +61,6 @@ pub dropped-more : (s : List ℕ) (from n : ℕ) {c d : Cursor} → GoesOn s c d
 dropped-more s from n went e = went .rest ∙ ap (drop 1) e ∙ drop-drop 1 n (bytesFrom s from)
 
 -- ## What a reader shows
-
-take-none : (n : ℕ) → _≡_ {A = List ℕ} [] (take n [])
-take-none zero = refl
-take-none (suc n) = refl
-
--- a part of a list, from both sides
-drop-of-take : (a e : ℕ) (s : List ℕ) → drop a (take e s) ≡ take (e - a) (drop a s)
-drop-of-take zero e s = let n : e ≡ e - 0 = omega arith in ap (λ (n : ℕ). take n s) n
-drop-of-take (suc a) zero s = let n : 0 ≡ 0 - suc a = omega arith in ap (λ (n : ℕ). take n (drop (suc a) s)) n
-drop-of-take (suc a) (suc e) [] = take-none (suc e - suc a)
-drop-of-take (suc a) (suc e) (b ∷ s) =
-    let n : e - a ≡ suc e - suc a = omega arith in drop-of-take a e s ∙ ap (λ (n : ℕ). take n (drop a s)) n
 
 -- a row that is shown is the first of those from its offset on
 pub record FirstRow (s : List ℕ) (i a e : ℕ) : Type 0 where
@@ -128,10 +116,6 @@ module _ (s : List ℕ) (i : ℕ) {r : Shown} (shows : Shows s i r) where
       go (line l ls) f (no h) =
           let g : Row a e ≡ Row i (i + length l) = sym q ∙ shows .answer ∙ ap (shownOf i) f in
           some l (rowBytes ls) (ap rowBytes f) (cc) (cc) (omega arith)
-
--- the same text by another name
-pub retold : {k l x y : List ℕ} {h i : ℕ} → x ≡ y → Put k l h i x → Put k l h i y
-retold {k} {l} {x} {y} {h} {i} e put = subst (λ (t : List ℕ). Put k l h i t) e put
 
 -- a reader goes on where bytes stand
 begun-lines : (b : ℕ) (bs : List ℕ) → lines (b ∷ bs) ≡ tail [] → ⊥

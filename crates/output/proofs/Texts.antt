@@ -1,5 +1,5 @@
 -- Texts one after the other, and the digits of a number.
-use mathlib.Core.Path.{_≡_, refl, sym, ap, _∙_}
+use mathlib.Core.Path.{_≡_, refl, sym, ap, _∙_, subst}
 use mathlib.Core.Bool.{Bool, true, false, cond}
 use mathlib.Core.List.{List, [], _∷_, _++_}
 use Prim.Native.Nat.{ℕ, zero, suc, _+_, _/_, _%_, _^_, _≤_, _<_}
@@ -37,6 +37,13 @@ nothing l i h = record { next = omega arith; bytes = refl; short = h }
 -- a byte for which there is no room
 pub left-out : {l : List ℕ} {i r b : ℕ} → length l ≤ i → length l < FAR → r ≡ further i 1 → Put l l i r (b ∷ [])
 left-out {l} {i} {r} {b} past h e = record { next = e; bytes = sym (set-out l i b past); short = h }
+
+-- the same text by another name
+pub retold : {k l s t : List ℕ} {h i : ℕ} → s ≡ t → Put k l h i s → Put k l h i t
+retold {k} {l} {s} {t} {h} {i} e p = subst (λ (x : List ℕ). Put k l h i x) e p
+
+pub put-as : {k l s t : List ℕ} {h i : ℕ} → s ≡ t → Put k l h i t → Put k l h i s
+put-as e p = retold (sym e) p
 
 pub joined : {k l m s t : List ℕ} {h i j : ℕ} → Put k l h i s → Put l m i j t → Put k m h j (s ++ t)
 joined {k} {l} {m} {s} {t} {h} {i} {j} p q =

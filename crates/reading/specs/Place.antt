@@ -84,9 +84,6 @@ beforeName r = isPunct QUOTE r || isWord CONST r
 abbrev pub parameterNameAt : Point → Point
 parameterNameAt x = cond (starts beforeName (x .stream)) (pastToken x) x
 
-abbrev pub markAt : Point → Point
-markAt x = pastToken (parameterNameAt x)
-
 -- ## A named field: its type stands past its name and `:`
 
 abbrev pub typeAt : Point → Point

@@ -2,7 +2,7 @@
 use mathlib.Core.Path.{_≡_, refl, ap, _∙_, sym, subst}
 use mathlib.Core.Bool.{Bool, true, false, _&&_, _||_, not, cond, true≢false, false≢true}
 use mathlib.Core.List.{List, [], _∷_, _++_}
-use Prim.Native.Nat.{ℕ, suc, _+_, _≤_, _<_}
+use Prim.Native.Nat.{ℕ, zero, suc, _+_, _-_, _≤_, _<_}
 use native.Mathlib.Numerals.{add-one}
 use native.Mathlib.Omega.{arith}
 use lib.Dec.{T, eqb, leb}
@@ -198,3 +198,16 @@ same-fits s n k e = go (leb (length n) (length s)) refl
     go : (b : Bool) → leb (length n) (length s) ≡ b → length n ≤ length s
     go true q = leb-true _ _ q
     go false q = absurd (true≢false (sym e ∙ same-longer s n k (leb-false _ _ q)))
+
+-- ## A part of a list, from both sides
+
+take-none : (n : ℕ) → _≡_ {A = List ℕ} [] (take n [])
+take-none zero = refl
+take-none (suc n) = refl
+
+pub drop-of-take : (a e : ℕ) (s : List ℕ) → slice a e s ≡ take (e - a) (drop a s)
+drop-of-take zero e s = let n : e ≡ e - 0 = omega arith in ap (λ (n : ℕ). take n s) n
+drop-of-take (suc a) zero s = let n : 0 ≡ 0 - suc a = omega arith in ap (λ (n : ℕ). take n (drop (suc a) s)) n
+drop-of-take (suc a) (suc e) [] = take-none (suc e - suc a)
+drop-of-take (suc a) (suc e) (b ∷ s) =
+    let n : e - a ≡ suc e - suc a = omega arith in drop-of-take a e s ∙ ap (λ (n : ℕ). take n (drop a s)) n

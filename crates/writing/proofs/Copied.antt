@@ -15,7 +15,7 @@ use Rattle.token_list.specs.Check.{check, passed, isRow, right, allRight, close
 use Rattle.token_list.specs.Stream.{Trees, streams, size, rowsAt, at, rowStart}
 use Rattle.token_list.specs.Contract.{InList}
 use Rattle.token_list.specs.declared.check.Cursor.{Cursor}
-use Rattle.token_list.proofs.Texts.{chosen, passed-over, and-parts}
+use Rattle.token_list.proofs.Texts.{chosen, passed-over, and-parts, drop-of-take}
 use Rattle.token_list.proofs.Starts.{linesFrom, lines-from}
 use Rattle.token_list.proofs.Passed.{passed-list}
 use Rattle.writing.specs.Rows.{runRows}
@@ -25,16 +25,8 @@ use Rattle.writing.proofs.Passes.{clear-row, lines-clear}
 
 -- ## Parts
 
-take-none : (n : ℕ) → _≡_ {A = List ℕ} (take n []) []
-take-none zero = refl
-take-none (suc n) = refl
-
 pub part-of : (f t : ℕ) (s : List ℕ) → take (t - f) (drop f s) ≡ slice f t s
-part-of zero t s = let n : t - 0 ≡ t = omega arith in ap (λ (n : ℕ). take n s) n
-part-of (suc f) zero s = let n : 0 - suc f ≡ 0 = omega arith in ap (λ (n : ℕ). take n (drop (suc f) s)) n
-part-of (suc f) (suc t) [] = take-none (suc t - suc f)
-part-of (suc f) (suc t) (b ∷ s) =
-    let n : suc t - suc f ≡ t - f = omega arith in ap (λ (n : ℕ). take n (drop f s)) n ∙ part-of f t s
+part-of f t s = sym (drop-of-take f t s)
 
 -- ## The rows from a row on
 

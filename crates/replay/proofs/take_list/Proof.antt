@@ -1,3 +1,4 @@
+use Rattle.token_list.proofs.Texts.{drop-of-take}
 use Prim.Native.Nat.{_+_, _≤_}
 use mathlib.Core.Path.{refl, sym, ap, _∙_}
 use native.Mathlib.Omega.{arith}
@@ -5,7 +6,6 @@ use borrow.Author.Tests.{lt-ltb, le-ltb}
 use lib.ListN.{length}
 use Rattle.replay.specs.Window.{size}
 use lib.Seq.{sets}
-use Rattle.describe.proofs.Worths.{drop-of-take}
 use Rattle.replay.proofs.Letters.{take-part}
 use borrow.Author.Needs.{needs}
 use Rattle.replay.proofs.take_list.Statement.{statement}

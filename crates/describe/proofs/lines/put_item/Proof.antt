@@ -1,10 +1,9 @@
 use lib.Seq.{slice}
 use mathlib.Core.Path.{sym}
 use Rattle.parse.specs.Contract as contract
-use Rattle.output.proofs.Texts.{joined}
+use Rattle.output.proofs.Texts.{joined, put-as}
 use Rattle.output.specs.Text.{decimal}
 use Rattle.describe.proofs.Lined.{put-line}
-use Rattle.describe.proofs.Worths.{put-as}
 use Rattle.describe.specs.Listing.{line, kindText}
 use borrow.Author.Needs.{needs}
 use Rattle.describe.proofs.lines.put_item.Statement.{statement}

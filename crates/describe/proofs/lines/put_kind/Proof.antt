@@ -1,8 +1,8 @@
+use Rattle.output.proofs.Texts.{put-as}
 use lib.Seq.{slice}
 use mathlib.Core.List.{_++_}
 use mathlib.Core.Path.{ap}
 use Rattle.parse.specs.Contract as contract
-use Rattle.describe.proofs.Worths.{put-as}
 use Rattle.describe.specs.Listing.{kindText}
 use borrow.Author.Needs.{needs}
 use Rattle.describe.proofs.lines.put_kind.Statement.{statement}

@@ -1,9 +1,9 @@
+use Rattle.output.proofs.Texts.{put-as}
 use Rattle.parse.specs.Contract.{isLifetime}
 use lib.Seq.{slice}
 use mathlib.Core.List.{_∷_}
 use mathlib.Core.Path.{sym, _∙_, ap}
 use Rattle.describe.proofs.Lined.{put-line, quoted, unquoted}
-use Rattle.describe.proofs.Worths.{put-as}
 use Rattle.describe.specs.Listing.{PARAM, DASH, line}
 use borrow.Author.Needs.{needs}
 use Rattle.describe.proofs.lines.put_parameter.Statement.{statement}

@@ -1,7 +1,7 @@
 use native.Mathlib.Omega.{arith}
 use Rattle.token_list.proofs.Texts.{slice-none}
-use Rattle.output.proofs.Texts.{nothing}
-use Rattle.describe.proofs.Worths.{put-as, drop-of-take}
+use Rattle.output.proofs.Texts.{nothing, put-as}
+use Rattle.token_list.proofs.Texts.{drop-of-take}
 use borrow.Author.Needs.{needs}
 use Rattle.describe.proofs.lines.put_token.Statement.{statement}
 use Rattle.describe.proofs.lines.put_token.Tie as tie

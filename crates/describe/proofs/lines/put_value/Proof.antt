@@ -1,9 +1,9 @@
+use Rattle.output.proofs.Texts.{put-as}
 use Prim.Native.Nat.{ℕ}
 use mathlib.Core.List.{List}
 use mathlib.Core.Path.{sym, _∙_, ap, subst}
 use Rattle.parse.specs.Contract as contract
 use Rattle.reading.specs.Token.{worth, negatable}
-use Rattle.describe.proofs.Worths.{put-as}
 use Rattle.describe.specs.Value.{negativeText}
 use Rattle.describe.specs.Listing.{number}
 use borrow.Author.Needs.{needs}

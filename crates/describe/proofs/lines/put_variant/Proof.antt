@@ -1,8 +1,7 @@
 use lib.Seq.{slice}
 use mathlib.Core.Path.{ap}
-use Rattle.output.proofs.Texts.{joined}
+use Rattle.output.proofs.Texts.{joined, put-as}
 use Rattle.describe.proofs.Lined.{put-line}
-use Rattle.describe.proofs.Worths.{put-as}
 use Rattle.describe.specs.Listing.{VARIANT, line, number}
 use borrow.Author.Needs.{needs}
 use Rattle.describe.proofs.lines.put_variant.Statement.{statement}

@@ -1,8 +1,7 @@
 use native.Mathlib.Omega.{arith}
 use mathlib.Core.Path.{ap, subst}
 use Rattle.parse.specs.Contract as contract
-use Rattle.output.proofs.Texts.{nothing}
-use Rattle.describe.proofs.Worths.{put-as}
+use Rattle.output.proofs.Texts.{nothing, put-as}
 use Rattle.describe.specs.Listing.{fieldLines}
 use borrow.Author.Needs.{needs}
 use Rattle.describe.proofs.listing.field_lines.Statement.{statement}

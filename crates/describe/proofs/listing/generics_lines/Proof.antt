@@ -6,8 +6,7 @@ use mathlib.Core.List.{List}
 use native.Mathlib.Omega.{arith}
 use mathlib.Core.Path.{_≡_, sym, _∙_, ap}
 use Rattle.parse.proofs.Meeting as meeting
-use Rattle.output.proofs.Texts.{nothing}
-use Rattle.describe.proofs.Worths.{put-as}
+use Rattle.output.proofs.Texts.{nothing, put-as}
 use Rattle.describe.specs.Listing.{numbered, parameterLine}
 use borrow.Author.Tests.{not-true, not-false}
 use Rattle.parse.proofs.Inside.{generics-angle, generics-other, generics-group, generics-end}

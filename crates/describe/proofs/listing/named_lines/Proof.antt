@@ -1,3 +1,4 @@
+use Rattle.output.proofs.Texts.{put-as}
 use borrow.Author.Needs.{needs}
 use native.Mathlib.Omega.{arith}
 use Prim.Native.Nat.{_-_}
@@ -7,7 +8,6 @@ use Rattle.output.specs.Text.{decimal}
 use Rattle.parse.proofs.Inside.{meets-tells}
 use Rattle.describe.proofs.Lined.{Lined, named, turn, lined-start, lined-less, lined-more, lined-done}
 use Rattle.describe.proofs.Lined.{lined-refused}
-use Rattle.describe.proofs.Worths.{put-as}
 use Rattle.describe.specs.Listing.{FIELD, line}
 use Rattle.describe.proofs.listing.named_lines.Statement.{statement}
 use Rattle.describe.proofs.listing.named_lines.Tie as tie

@@ -1,8 +1,8 @@
+use Rattle.output.proofs.Texts.{put-as}
 use borrow.Author.Tests.{eq-eqb, ne-eqb}
 use Rattle.describe.specs.Contract.{fieldsIn}
 use native.Mathlib.Omega.{arith}
 use mathlib.Core.Path.{ap, subst}
-use Rattle.describe.proofs.Worths.{put-as}
 use Rattle.describe.specs.Listing.{fieldLines}
 use borrow.Author.Needs.{needs}
 use Rattle.describe.proofs.listing.struct_lines.Statement.{statement}

@@ -1,6 +1,6 @@
 use native.Mathlib.Omega.{arith}
-use Rattle.output.proofs.Texts.{joined}
-use Rattle.describe.proofs.Worths.{negative-none, negative-some, put-as}
+use Rattle.output.proofs.Texts.{joined, put-as}
+use Rattle.describe.proofs.Worths.{negative-none, negative-some}
 use borrow.Author.Needs.{needs}
 use Rattle.describe.proofs.value.put_negative.Statement.{statement}
 use Rattle.describe.proofs.value.put_negative.Tie as tie

@@ -5,9 +5,9 @@ use Prim.Native.Nat.{ℕ, _-_, _≤_, _<_}
 use lib.ListN.{length, take}
 use lib.Seq.{take-all}
 use Rattle.output.specs.Contract.{Put}
-use Rattle.output.proofs.Texts.{nothing, joined, kept}
+use Rattle.output.proofs.Texts.{nothing, joined, kept, retold}
 use Rattle.explanation.specs.Row.{shown}
-use Rattle.explanation.proofs.Shows.{shown-more, retold}
+use Rattle.explanation.proofs.Shows.{shown-more}
 use Rattle.explanation.proofs.row.put_row.Statement.{statement}
 use Rattle.explanation.proofs.row.put_row.Tie as tie
 

@@ -7,9 +7,9 @@ use lib.Seq.{take-all}
 use Rattle.token_list.specs.Layout.{FIRST-ROW}
 use Rattle.token_list.specs.Reader.{bytesFrom}
 use Rattle.output.specs.Contract.{Put}
-use Rattle.output.proofs.Texts.{nothing, joined, kept}
+use Rattle.output.proofs.Texts.{nothing, joined, kept, retold}
 use Rattle.explanation.specs.Explanation.{nearOfFirst, nearRows}
-use Rattle.explanation.proofs.Shows.{counted-on, dropped-more, retold}
+use Rattle.explanation.proofs.Shows.{counted-on, dropped-more}
 use Rattle.explanation.proofs.Texts.{near-more}
 use Rattle.explanation.proofs.rows.put_near.Statement.{statement}
 use Rattle.explanation.proofs.rows.put_near.Tie as tie

@@ -1,8 +1,8 @@
 use borrow.Author.Tests.{not-true, not-false}
 use native.Mathlib.Omega.{arith}
 use mathlib.Core.Path.{_∙_, sym}
-use Rattle.output.proofs.Texts.{nothing}
-use Rattle.explanation.proofs.Shows.{row-shown, none-shown, retold}
+use Rattle.output.proofs.Texts.{nothing, retold}
+use Rattle.explanation.proofs.Shows.{row-shown, none-shown}
 use Rattle.token_list.specs.Reader.{bytesFrom}
 use Rattle.explanation.proofs.Texts.{not-near, near-here, near-none}
 use borrow.Author.Needs.{needs}

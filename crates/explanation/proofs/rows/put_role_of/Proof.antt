@@ -1,6 +1,6 @@
 use native.Mathlib.Omega.{arith}
-use Rattle.output.proofs.Texts.{nothing}
-use Rattle.explanation.proofs.Shows.{row-shown, none-shown, retold}
+use Rattle.output.proofs.Texts.{nothing, retold}
+use Rattle.explanation.proofs.Shows.{row-shown, none-shown}
 use Rattle.explanation.proofs.Texts.{role-here, role-none}
 use borrow.Author.Needs.{needs}
 use Rattle.explanation.proofs.rows.put_role_of.Statement.{statement}

@@ -1,7 +1,7 @@
 use native.Mathlib.Omega.{arith}
 use mathlib.Core.Path.{ap, _∙_, sym}
-use Rattle.output.proofs.Texts.{nothing}
-use Rattle.explanation.proofs.Shows.{row-shown, none-shown, retold}
+use Rattle.output.proofs.Texts.{nothing, retold}
+use Rattle.explanation.proofs.Shows.{row-shown, none-shown}
 use Rattle.explanation.specs.Words.{first}
 use borrow.Author.Needs.{needs}
 use Rattle.explanation.proofs.words.put_line.Statement.{statement}
