@@ -29,7 +29,7 @@ ghost use lib.Seq.{slice};
 ghost use Rattle.token_list.specs.Stream.{at};
 ghost use Rattle.token_list.specs.Contract.{InList, GroupAt};
 ghost use Rattle.reading.specs.Reading.{every, variantFields, negatable, negativeValue, discriminant, valueIf};
-ghost use Rattle.reading.specs.Reading.{variant};
+ghost use Rattle.reading.specs.Reading.{variantHere, variant};
 ghost use Rattle.reading.specs.Place.{variantHead, literalRow};
 ghost use Rattle.parse.specs.Contract.{Meets, stream, countShown, countSaid, Inside, fieldsShown, fieldsSaid};
 ghost use Rattle.parse.specs.Contract.{valueShown, valueSaid, variantNameShown, placedNameSaid, variantValue};
@@ -295,16 +295,11 @@ fn variant_value(s: &[u8], c: Cursor, roles: &mut [u8]) -> ValueStep
     }
 }
 
-// One variant, or the end.
-pub fn variant(s: &[u8], c: Cursor, roles: &mut [u8]) -> VariantStep
+fn variant_here(s: &[u8], c: Cursor, roles: &mut [u8]) -> VariantStep
     requires { ⌜ InList (now s) c ⌝ }
     ensures { λ r. ⌜ Meets (now (s .entry)) c (now (roles .entry)) (now (roles .exit))
-        (variantShown (now (s .entry)) c r) (variantSaid r) (variant (c .row) (stream (now (s .entry)) c)) ⌝ }
+        (variantShown (now (s .entry)) c r) (variantSaid r) (variantHere (c .row) (stream (now (s .entry)) c)) ⌝ }
 {
-    let l = look(s, c);
-    if l.kind == 0 {
-        return VariantStep::Done(c);
-    }
     match variant_name(s, c, roles) {
         PlacedNameStep::Refused(r) => VariantStep::Refused(r),
         PlacedNameStep::At(n) => {
@@ -326,6 +321,19 @@ pub fn variant(s: &[u8], c: Cursor, roles: &mut [u8]) -> VariantStep
             }
         }
     }
+}
+
+// One variant, or the end.
+pub fn variant(s: &[u8], c: Cursor, roles: &mut [u8]) -> VariantStep
+    requires { ⌜ InList (now s) c ⌝ }
+    ensures { λ r. ⌜ Meets (now (s .entry)) c (now (roles .entry)) (now (roles .exit))
+        (variantShown (now (s .entry)) c r) (variantSaid r) (variant (c .row) (stream (now (s .entry)) c)) ⌝ }
+{
+    let l = look(s, c);
+    if l.kind == 0 {
+        return VariantStep::Done(c);
+    }
+    variant_here(s, c, roles)
 }
 
 fn variants(s: &[u8], from: Cursor, roles: &mut [u8]) -> CountStep
