@@ -13,6 +13,7 @@ use Rattle.token_list.specs.declared.check.Cursor.{Cursor}
 use Rattle.token_list.specs.declared.stream.Token.{Token}
 use Rattle.token_list.proofs.Texts.{chosen, passed-over}
 use Rattle.reading.specs.Took.{Took, took, refuse, ranOut, onward, gathered}
+use Rattle.reading.specs.Token.{starts}
 use Rattle.reading.specs.Reading.{isPunct, attributes, afterHash, copied, groupSize}
 use Rattle.parse.specs.Contract.{Moved, stream, pastOf, Gained}
 use Rattle.parse.proofs.Loops.{gathered-onward, gathered-one}
@@ -22,12 +23,10 @@ module _ (s : List ℕ) (c : Cursor) (inList : InList s c) (t : Token) (l : Leaf
   abbrev here : Took (List Trees)
   here = attributes (c .row) (stream s c)
 
-  pub no-hash : isPunct 35 (rowOf s t) ≡ false → here ≡ took [] [] (stream s c)
-  no-hash e = ap (attributes (c .row)) (l .here) ∙ passed-over _ _ _ e ∙ ap (took [] []) (sym (l .here))
-
-  module _ (e : isPunct 35 (rowOf s t) ≡ true) (d : Cursor) (p : d ≡ pastOf c t) where
+  module _ (e : starts (isPunct 35) (stream s c) ≡ true) (d : Cursor) (p : d ≡ pastOf c t) where
     past-hash : (us : Trees) → stream s d ≡ us → here ≡ afterHash (c .row) us
-    past-hash us q = ap (attributes (c .row)) (leaf-then s c d t us l p q) ∙ chosen _ _ _ e
+    past-hash us q = ap (attributes (c .row)) (leaf-then s c d t us l p q) ∙ chosen _ _ _
+        (sym (ap (starts (isPunct 35)) (l .here)) ∙ e)
 
     pub hash-end : stream s d ≡ end → here ≡ ranOut 13 END
     hash-end q = past-hash end q

@@ -12,8 +12,13 @@ use token_list::check::Refusal;
 use token_list::stream::Peeked;
 use token_list::stream::Token;
 use token_list::stream::peek;
+use token_list::stream::punct_at;
+ghost use mathlib.Core.Path.{_≡_};
+ghost use mathlib.Core.Bool.{true};
+ghost use Rattle.token_list.specs.Byte.{HASH};
 ghost use Rattle.token_list.specs.Contract.{InList};
-ghost use Rattle.reading.specs.Reading.{attributes};
+ghost use Rattle.reading.specs.Token.{starts};
+ghost use Rattle.reading.specs.Reading.{isPunct, attributes};
 ghost use Rattle.parse.specs.Contract.{Meets, any, stream, stepSaid, AttributeRead};
 
 // A `#`: whether it is an idle mark, the token after it, which is its group's opening row or the next
@@ -42,56 +47,49 @@ pub fn attribute(s: &[u8], c: Cursor, roles: &mut [u8]) -> AttributeStep
     after_hash(s, c, roles)
 }
 
-// The same by the tokens themselves, where a look has found a `#`.
+// The `#` at c, where a look has found it.
 fn after_hash(s: &[u8], c: Cursor, roles: &mut [u8]) -> AttributeStep
     requires { ⌜ InList (now s) c ⌝ }
+    requires { ⌜ starts (isPunct HASH) (stream (now s) c) ≡ true ⌝ }
     ensures { λ r. ⌜ AttributeRead (now (s .entry)) c (now (roles .entry)) (now (roles .exit)) r ⌝ }
 {
     let row = c.row;
-    match peek(s, c) {
-        Peeked::Nothing => AttributeStep::Done,
-        Peeked::Group(_) => AttributeStep::Done,
+    let hash = punct_at(s, c);
+    let next = past(s, c, hash);
+    let below = next.row;
+    match peek(s, next) {
+        Peeked::Nothing => AttributeStep::Refused(Refusal {
+            number: 13,
+            place: END,
+        }),
         Peeked::Leaf(t) => {
             if !is_punct(t, b'#') {
-                return AttributeStep::Done;
-            }
-            let next = past(s, c, t);
-            let below = next.row;
-            match peek(s, next) {
-                Peeked::Nothing => AttributeStep::Refused(Refusal {
+                return AttributeStep::Refused(Refusal {
                     number: 13,
-                    place: END,
-                }),
-                Peeked::Leaf(q) => {
-                    if !is_punct(q, b'#') {
-                        return AttributeStep::Refused(Refusal {
-                            number: 13,
-                            place: below,
-                        });
-                    }
-                    set_role(roles, row, role::IDLE_MARK);
-                    AttributeStep::One(AttributeAt {
-                        idle: true,
-                        token: q,
-                        next,
-                    })
-                }
-                Peeked::Group(g) => {
-                    if g.first != b'[' {
-                        return AttributeStep::Refused(Refusal {
-                            number: 12,
-                            place: below,
-                        });
-                    }
-                    set_role(roles, row, role::ATTRIBUTE_MARK);
-                    let after = take_group(s, next, g, roles, role::ATTRIBUTE_GROUP);
-                    AttributeStep::One(AttributeAt {
-                        idle: false,
-                        token: g,
-                        next: after,
-                    })
-                }
+                    place: below,
+                });
             }
+            set_role(roles, row, role::IDLE_MARK);
+            AttributeStep::One(AttributeAt {
+                idle: true,
+                token: t,
+                next,
+            })
+        }
+        Peeked::Group(g) => {
+            if g.first != b'[' {
+                return AttributeStep::Refused(Refusal {
+                    number: 12,
+                    place: below,
+                });
+            }
+            set_role(roles, row, role::ATTRIBUTE_MARK);
+            let after = take_group(s, next, g, roles, role::ATTRIBUTE_GROUP);
+            AttributeStep::One(AttributeAt {
+                idle: false,
+                token: g,
+                next: after,
+            })
         }
     }
 }

@@ -17,6 +17,7 @@ use token_list::check::Refusal;
 use token_list::stream::Peeked;
 use token_list::stream::Token;
 use token_list::stream::peek;
+use token_list::stream::punct_at;
 ghost use mathlib.Core.Path.{_≡_};
 ghost use mathlib.Core.List.{List};
 ghost use Prim.Native.Nat.{ℕ};
@@ -313,18 +314,13 @@ pub fn try_take(s: &[u8], c: Cursor, roles: &mut [u8]) -> CountStep
     ensures { λ r. ⌜ Meets (now (s .entry)) c (now (roles .entry)) (now (roles .exit)) (genericsShown r) (countSaid r)
         (generics (c .row) (stream (now (s .entry)) c)) ⌝ }
 {
-    let row = c.row;
-    match peek(s, c) {
-        Peeked::Nothing => CountStep::At(c, 0),
-        Peeked::Group(_) => CountStep::At(c, 0),
-        Peeked::Leaf(t) => {
-            if !is_punct(t, b'<') {
-                return CountStep::At(c, 0);
-            }
-            let next = take_token(s, c, t, roles, role::ANGLE);
-            parameters(s, next, roles, row)
-        }
+    if !stands_punct(s, c, b'<') {
+        return CountStep::At(c, 0);
     }
+    let row = c.row;
+    let t = punct_at(s, c);
+    let next = take_token(s, c, t, roles, role::ANGLE);
+    parameters(s, next, roles, row)
 }
 
 // virtue's GenericConstraints::try_take

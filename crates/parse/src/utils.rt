@@ -7,6 +7,7 @@ use token_list::stream::Peeked;
 use token_list::stream::Token;
 use token_list::stream::look;
 use token_list::stream::peek;
+use token_list::stream::punct_at;
 use token_list::stream::skip;
 use token_list::text::text_is;
 ghost use mathlib.Core.Path.{_≡_};
@@ -152,25 +153,17 @@ pub fn take_group(s: &[u8], c: Cursor, t: Token, roles: &mut [u8], role: u8) -> 
     end
 }
 
-// The place of what stands at c, or the end mark.
-fn place(s: &[u8], c: Cursor) -> usize
-    requires { ⌜ InList (now s) c ⌝ }
-    ensures { λ r. ⌜ r ≡ placeOf (c .row) (stream (now (s .entry)) c) ⌝ }
-{
-    match peek(s, c) {
-        Peeked::Nothing => END,
-        Peeked::Leaf(_) => c.row,
-        Peeked::Group(_) => c.row,
-    }
-}
-
-// A refusal at what stands at c (virtue's Error::wrong_token).
+// A refusal at what stands at c, or with the end mark (virtue's Error::wrong_token).
 pub fn wrong_token(s: &[u8], c: Cursor, number: u8) -> Refusal
     requires { ⌜ InList (now s) c ⌝ }
     ensures { λ r. ⌜ (r .number ≡ number) × (r .place ≡ placeOf (c .row) (stream (now (s .entry)) c)) ⌝ }
 {
-    let at = place(s, c);
-    Refusal { number, place: at }
+    let l = look(s, c);
+    if l.kind == 0 {
+        return Refusal { number, place: END };
+    }
+    let row = c.row;
+    Refusal { number, place: row }
 }
 
 pub fn is_punct(t: Token, b: u8) -> bool
@@ -285,35 +278,7 @@ pub fn consume_punct_if(s: &[u8], c: Cursor, roles: &mut [u8], punct: u8, role: 
             next: c,
         };
     }
-    take_punct(s, c, roles, punct, role)
-}
-
-// The same by the token itself, where a look has found it.
-fn take_punct(s: &[u8], c: Cursor, roles: &mut [u8], punct: u8, role: u8) -> MaybePunct
-    requires { ⌜ InList (now s) c ⌝ }
-    ensures { λ r. ⌜ Meets (now (s .entry)) c (now (roles .entry)) (now (roles .exit)) (λ (v : Bool). r .taken ≡ v)
-        (on (r .next)) (punctIf punct role (c .row) (stream (now (s .entry)) c)) ⌝ }
-    ensures { λ r. ⌜ (r .taken ≡ starts (isPunct punct) (stream (now (s .entry)) c)) ⌝ }
-    ensures { λ r. ⌜ (r .taken ≡ false → r .next ≡ c) ⌝ }
-{
-    match peek(s, c) {
-        Peeked::Nothing => MaybePunct {
-            taken: false,
-            next: c,
-        },
-        Peeked::Group(_) => MaybePunct {
-            taken: false,
-            next: c,
-        },
-        Peeked::Leaf(t) => {
-            if !is_punct(t, punct) {
-                return MaybePunct {
-                    taken: false,
-                    next: c,
-                };
-            }
-            let next = take_token(s, c, t, roles, role);
-            MaybePunct { taken: true, next }
-        }
-    }
+    let t = punct_at(s, c);
+    let next = take_token(s, c, t, roles, role);
+    MaybePunct { taken: true, next }
 }

@@ -13,9 +13,9 @@ use Rattle.token_list.specs.Row.{Row, lines, rows, formOf, written}
 use Rattle.token_list.specs.Check.{isRow, right, allRight}
 use Rattle.token_list.specs.Stream.{rowsAt, allClosed}
 use Rattle.token_list.specs.Contract.{RowEnd, RightRows}
-use Rattle.token_list.proofs.Texts.{and-parts}
+use Rattle.token_list.proofs.Texts.{and-parts, only}
 use Rattle.token_list.proofs.Lines.{Scanned, scan-start, scan-more, scan-found}
-use Rattle.token_list.proofs.Forms.{no-wrong, lf-kind, zero-kind, lf-text, no-text}
+use Rattle.token_list.proofs.Forms.{no-wrong, lf-kind, zero-kind, lf-text, no-text, single-wrong}
 
 pub rows-none : (s : List ℕ) (i : ℕ) → length s ≤ i → rowsAt s i ≡ []
 rows-none s i h = ap (λ (t : List ℕ). rows (lines t)) (drop-of-length-le s {i = i} h)
@@ -101,6 +101,17 @@ module _ (s : List ℕ) (i : ℕ) (f : FirstRow s i) where
   last-lf = byte-at (suc (suc (suc (length (f .text))))) ∙ getD-append-seam (f .row .kind ∷ 32 ∷ f .first ∷ f .text) LF
       (written (f .rest)) 0
 
+  -- the text of a punctuation is one byte
+  punct-lf : f .row .kind ≡ 112 → getD s (i + 3) 0 ≡ LF
+  punct-lf k = byte-at 3 ∙ go (f .text) refl
+    where
+      go : (t : List ℕ) → f .text ≡ t
+          → getD (f .row .kind ∷ 32 ∷ f .first ∷ f .text ++ LF ∷ written (f .rest)) 3 0 ≡ LF
+      go [] q = ap (λ (t : List ℕ). getD (f .row .kind ∷ 32 ∷ f .first ∷ t ++ LF ∷ written (f .rest)) 3 0) q
+      go (b ∷ t) q =
+          absurd (no-wrong (single-wrong (f .row .kind) (f .first ∷ f .text) (λ e. absurd (omega (arith, k, e)))
+          (λ e. absurd (omega (arith, k, e))) (ap (λ (t : List ℕ). only (f .first ∷ t)) (sym q))) (f .right))
+
 -- ## The scan for a row's end: an LF stands ahead
 
 pub record Ahead (s : List ℕ) (i k : ℕ) : Type 0 where
@@ -156,6 +167,11 @@ module _ (s : List ℕ) (i : ℕ) where
         text = a .text;
         within = h;
       }
+
+  pub punct-end : RightRows s i → i < length s → getD s i 0 ≡ 112 → RowEnd s i (i + 3)
+  punct-end w h k =
+      let f = first-row s i w h in
+      ahead-found (i + 3) (punct-lf s i f (first-kind s i f ∙ k)) (ahead-start w h)
 
 -- ## The rows after it
 

@@ -4,8 +4,8 @@ use mathlib.Core.Bool.{Bool, true, false, cond, false≢true}
 use mathlib.Core.List.{List, [], _∷_}
 use Prim.Native.Nat.{ℕ, zero, suc, _+_, _-_, _≤_, _<_}
 use native.Mathlib.Omega.{arith}
-use borrow.Author.Tests.{eq-eqb, ne-eqb, eqb-true, eqb-false}
-use lib.Dec.{eqb}
+use borrow.Author.Tests.{eq-eqb, ne-eqb, eqb-true, eqb-false, leb-true, leb-false}
+use lib.Dec.{leb, eqb}
 use lib.ListN.{length, getD, drop}
 use lib.Seq.{slice, drop-nil}
 use Rattle.token_list.specs.Row.{Row, line, rows, first}
@@ -18,7 +18,7 @@ use Rattle.token_list.specs.declared.stream.Token.{Token}
 use Rattle.token_list.proofs.Texts.{and-parts, chosen, passed-over, slice-next}
 use Rattle.token_list.proofs.Starts.{next-start}
 use Rattle.token_list.proofs.Rows.{rows-none, FirstRow, first-row, first-kind, first-at, some-kind}
-use Rattle.token_list.proofs.Rows.{right-rows-next}
+use Rattle.token_list.proofs.Rows.{right-rows-next, punct-end}
 
 -- ## The row at an offset
 
@@ -171,6 +171,34 @@ module _ (s : List ℕ) (c : Cursor) (inList : InList s c) (e : ℕ) (l : RowEnd
         outer = followed ts (closed-open theRow (rowsAt s (e + 1)) row-closed o) ∙
             ap (λ (us : List Trees). head ts ∷ us) (sym (ap (λ (t : Streams). t .outer) b));
       }
+
+-- ## A punctuation at a cursor
+
+module _ (s : List ℕ) (c : Cursor) (inList : InList s c) (p : firstKind (at s (c .at) .here) ≡ 112) where
+  pub punct-within : c .at < length s
+  punct-within = go (leb (length s) (c .at)) refl
+    where
+      go : (b : Bool) → leb (length s) (c .at) ≡ b → c .at < length s
+      go true e = absurd (omega (arith, p, ap firstKind (none-here s c inList (leb-true (length s) (c .at) e))))
+      go false e = omega (arith, leb-false (length s) (c .at) e)
+
+  punct-kind : getD s (c .at) 0 ≡ 112
+  punct-kind = go (eqb (getD s (c .at) 0) 99) refl
+    where
+      go : (b : Bool) → eqb (getD s (c .at) 0) 99 ≡ b → getD s (c .at) 0 ≡ 112
+      go true e = absurd (omega (arith, p, ap firstKind (close-here s c inList punct-within (eqb-true _ _ e))))
+      go false e = look-here s c inList punct-within (eqb-false _ _ e) .kind ∙ p
+
+  abbrev pub punctToken : ℕ → ℕ → Token
+  punctToken k e = record { kind = k; first = getD s (c .at + 2) 0; start = c .at + 2; end = e; next = e + 1 }
+
+  pub punct-here : LeafAt s (c .at) (punctToken 112 (c .at + 2 + 1))
+  punct-here =
+      let ends = punct-end s (c .at) (inList .rightRows) punct-within punct-kind in
+      let three : c .at + 3 ≡ c .at + 2 + 1 = omega arith in
+      subst (LeafAt s (c .at)) (λ i. punctToken (punct-kind i) (three i))
+      (leaf-here s c inList (c .at + 3) ends (λ e. absurd (omega (arith, punct-kind, e)))
+      (λ e. absurd (omega (arith, punct-kind, e))))
 
 -- ## The way past a group
 

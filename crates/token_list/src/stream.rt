@@ -4,8 +4,9 @@ use crate::layout::TEXT_OFFSET;
 ghost use mathlib.Core.Path.{_≡_};
 ghost use Prim.Native.Nat.{_+_, _^_, _<_};
 ghost use lib.ListN.{length};
-ghost use Rattle.token_list.specs.Stream.{at};
-ghost use Rattle.token_list.specs.Contract.{RightRows, RowEnd, InList, Looked, stands, deeper, skipped};
+ghost use Rattle.token_list.specs.Layout.{PUNCT};
+ghost use Rattle.token_list.specs.Stream.{at, firstKind};
+ghost use Rattle.token_list.specs.Contract.{RightRows, RowEnd, InList, Looked, LeafAt, stands, deeper, skipped};
 
 // A row: its kind, the first byte of its text (a punctuation's byte, a group's delimiter), where
 // its text starts and ends, and where the next row starts.
@@ -88,6 +89,26 @@ pub fn peek(s: &[u8], c: Cursor) -> Peeked
         Peeked::Group(t)
     } else {
         Peeked::Leaf(t)
+    }
+}
+
+// The punctuation at c, where a look has found one: its text is one byte, so its end is not looked for.
+pub fn punct_at(s: &[u8], c: Cursor) -> Token
+    requires { ⌜ InList (now s) c ⌝ }
+    requires { ⌜ firstKind (at (now s) (c .at) .here) ≡ PUNCT ⌝ }
+    ensures { λ r. ⌜ LeafAt (now (s .entry)) (c .at) r ⌝ }
+{
+    let at = c.at;
+    let start = at + TEXT_OFFSET;
+    let first = s[start];
+    let end = start + 1;
+    let next = end + 1;
+    Token {
+        kind: b'p',
+        first,
+        start,
+        end,
+        next,
     }
 }
 

@@ -1,5 +1,5 @@
 use mathlib.Core.Path.{refl, sym, _∙_}
-use borrow.Author.Tests.{not-true}
+use borrow.Author.Tests.{not-true, not-false}
 use Rattle.parse.specs.Contract.{stream}
 use Rattle.parse.proofs.Looks.{no-attribute}
 use borrow.Author.Needs.{needs}
@@ -19,7 +19,9 @@ returns c =
     )
 
 after-hash-requires : tie.Need-after-hash-requires
-after-hash-requires c κs = search needs
+after-hash-requires c κs =
+    let d = c .before .before .before .before .before in
+    (d .pre, sym (c .before .before .stands-punct .ensures) ∙ not-false _ (c .before .if1 .left))
 
 same-length : tie.Need-same-length
 same-length c = search needs

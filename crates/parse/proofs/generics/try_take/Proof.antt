@@ -1,101 +1,66 @@
-use Rattle.parse.proofs.Meeting as meeting
-use Rattle.reading.specs.Declaration.{angled}
-use Rattle.reading.specs.Reading as reading
-use Rattle.token_list.proofs.Texts.{chosen, passed-over}
+use mathlib.Core.Path.{refl, sym, _∙_, ap}
 use borrow.Author.Tests.{not-true, not-false}
-use mathlib.Core.Path.{refl, sym, _∙_}
+use Rattle.token_list.proofs.Texts.{chosen}
+use Rattle.reading.specs.Declaration.{angled}
+use Rattle.reading.specs.Token.{starts}
+use Rattle.reading.specs.Reading.{isPunct, generics, genericsAfter}
+use Rattle.parse.specs.Contract.{stream}
+use Rattle.parse.proofs.Looks.{punct-kind, no-generics}
+use Rattle.parse.proofs.Meeting.{meets-same, meets-from, meets-map, past-in-of}
 use borrow.Author.Needs.{needs}
 use Rattle.parse.proofs.generics.try_take.Statement.{statement}
 use Rattle.parse.proofs.generics.try_take.Tie as tie
 
-peek-requires : tie.Need-peek-requires
-peek-requires c κs = search needs
-
-enum-told : tie.Need-enum-told
-enum-told c = search needs
-
-enum-told-2 : tie.Need-enum-told-2
-enum-told-2 c = search needs
-
-enum-known-t : tie.Need-enum-known-t
-enum-known-t c = search needs
-
-is-punct-requires : tie.Need-is-punct-requires
-is-punct-requires c κs = search needs
+stands-punct-requires : tie.Need-stands-punct-requires
+stands-punct-requires c κs = search needs
 
 returns : tie.Need-returns
 returns c =
-    let pre = c .before .before .before .before .before .before .before .before .pre in
-    let peek = c .before .before .before .before .before .peek in
-    let t = c .before .before .before .t in
-    meeting.meets-same reading.generics _ _ pre _ _ _ _ ((meeting.peeked _ _ (peek .ensures) (t .given .1)) .here)
-    (passed-over _ _ _
-    (meeting.punct-of _ _ _ _ ((meeting.peeked _ _ (peek .ensures) (t .given .1)) .token) ∙ sym
-    ((c .before .is-punct) .ensures) ∙ not-true _ ((c .if1) .taken)))
-    refl
+    let d = c .before .before .before .before in
+    let a = d .args in
+    let none = sym (c .before .stands-punct .ensures) ∙ not-true _ (c .if1 .taken) in
+    meets-same generics _ _ (d .pre) _ _ _ _ refl
+    (no-generics (a .c .row) (stream (a .s .now) (a .c)) none) refl
+
+punct-at-requires : tie.Need-punct-at-requires
+punct-at-requires c κs =
+    let d = c .before .before .before .before in
+    let found = sym (c .before .stands-punct .ensures) ∙ not-false _ (c .if1 .left) in
+    (d .pre, punct-kind 60 (stream (d .args .s .now) (d .args .c)) found)
 
 take-token-requires : tie.Need-take-token-requires
-take-token-requires c κs =
-    let pre = c .before .before .before .before .before .before .before .before .before .pre in
-    let peek = c .before .before .before .before .before .before .peek in
-    let t = c .before .before .before .before .t in
-    (pre, (meeting.peeked _ _ (peek .ensures) (t .given .1)) .token)
+take-token-requires c κs = search needs
 
 parameters-requires : tie.Need-parameters-requires
 parameters-requires c κs =
-    let back8 = c .before .before .before .before .before .before .before .before in
-    let pre = back8 .before .before .before .before .before .pre in
-    let peek = back8 .before .before .peek in
-    let t = back8 .t in
-    meeting.past-in-of _ _ _ _ ((c .before .before .before .take-token) .ensures .0) pre
-    ((meeting.peeked _ _ (peek .ensures) (t .given .1)) .token)
-
-returns-2 : tie.Need-returns-2
-returns-2 c =
-    let pre = c .before .before .before .before .before .pre in
-    meeting.meets-same reading.generics _ _ pre _ _ _ _
-    (meeting.peeked _ _ ((c .before .before .peek) .ensures) ((c .enum-told) .given .1)) refl refl
-
-returns-3 : tie.Need-returns-3
-returns-3 c =
-    let pre = c .before .before .before .before .before .pre in
-    meeting.meets-same reading.generics _ _ pre _ _ _ _
-    ((meeting.peeked _ _ ((c .before .before .peek) .ensures) ((c .enum-told2) .given .1)) .here) refl refl
+    let back4 = c .before .before .before .before in
+    let l = back4 .before .punct-at .ensures in
+    let d = back4 .before .before .before .before .before .before in
+    past-in-of _ _ _ _ (c .before .before .before .take-token .ensures .0) (d .pre) (l .token)
 
 same-length : tie.Need-same-length
 same-length c = search needs
 
-returns-4 : tie.Need-returns-4
-returns-4 c =
+returns-2 : tie.Need-returns-2
+returns-2 c =
     let back8 = c .before .before .before .before .before .before .before .before in
-    let back16 = back8 .before .before .before .before .before .before .before .before in
-    let args = back16 .args in
-    let pre = back16 .pre in
-    let peek = back8 .before .before .before .before .before .peek in
-    let t = back8 .before .before .before .t in
-    let is-punct = back8 .before .is-punct in
-    let if1 = back8 .if1 in
+    let d = back8 .before .before .before .before .before in
+    let l = back8 .punct-at .ensures in
     let take-token = c .before .before .before .before .before .before .take-token in
-    meeting.meets-from reading.generics _ _ pre _ _ (meeting.peeked _ _ (peek .ensures) (t .given .1)) _ _ _ _
-    (take-token .ensures .0) (take-token .ensures .1) _ _ (reading.genericsAfter (args .c .row))
-    (chosen _ _ _
-    (meeting.punct-of _ _ _ _ ((meeting.peeked _ _ (peek .ensures) (t .given .1)) .token) ∙ sym
-    (is-punct .ensures) ∙ not-false _ (if1 .left)))
-    (meeting.meets-map _ angled (λ ps h. h) ((c .before .before .parameters) .ensures))
+    let stands = sym (back8 .before .before .stands-punct .ensures) ∙ not-false _ (back8 .before .if1 .left) in
+    let found = sym (ap (starts (isPunct 60)) (l .here)) ∙ stands in
+    meets-from generics _ _ (d .pre) _ _ l _ _ _ _ (take-token .ensures .0) (take-token .ensures .1) _ _
+    (genericsAfter (d .args .c .row)) (chosen _ _ _ found)
+    (meets-map _ angled (λ ps h. h) (c .before .before .parameters .ensures))
 
 pub try-take-spec : {M : Type 1} → statement M
 try-take-spec =
     tie.close
     (tie.spec
-    peek-requires
-    enum-told
-    enum-told-2
-    enum-known-t
-    is-punct-requires
+    stands-punct-requires
     returns
+    punct-at-requires
     take-token-requires
     parameters-requires
-    returns-2
-    returns-3
     same-length
-    returns-4)
+    returns-2)
