@@ -12,7 +12,7 @@ use Rattle.token_list.specs.Contract.{InList, LeafAt, GroupAt, rowOf}
 use Rattle.token_list.specs.declared.check.Cursor.{Cursor}
 use Rattle.token_list.specs.declared.stream.Token.{Token}
 use Rattle.token_list.proofs.Texts.{chosen, passed-over}
-use Rattle.reading.specs.Took.{Took, took, refuse, ranOut, onward, gathered}
+use Rattle.reading.specs.Took.{Took, refuse, ranOut, onward, gathered}
 use Rattle.reading.specs.Token.{starts}
 use Rattle.reading.specs.Reading.{isPunct, attributes, afterHash, copied, groupSize}
 use Rattle.parse.specs.Contract.{Moved, stream, pastOf, Gained}
