@@ -17,8 +17,8 @@ use parse::generics::parameter;
 use parse::item::ItemAt;
 use parse::item::ItemStep;
 use parse::item::item;
-use parse::utils::is_punct;
 use parse::utils::past;
+use parse::utils::stands_punct;
 use parse::variants::FieldsAt;
 use parse::variants::VariantStep;
 use parse::variants::variant;
@@ -31,6 +31,7 @@ use token_list::layout::FIRST_ROW;
 use token_list::layout::MAX_ROWS;
 use token_list::stream::Peeked;
 use token_list::stream::peek;
+use token_list::stream::punct_at;
 ghost use mathlib.Core.Path.{_≡_};
 ghost use mathlib.Core.List.{List};
 ghost use Prim.Native.Nat.{ℕ};
@@ -180,18 +181,13 @@ fn generics_lines(s: &[u8], c: Cursor, roles: &mut [u8], out: &mut [u8], at: usi
     ensures { λ r. ⌜ ((g : Generics) → InsideAt generics (now (s .entry)) c g →
         Put (now (out .entry)) (now (out .exit)) at r (numbered parameterLine 0 (parametersOf g))) ⌝ }
 {
-    let row = c.row;
-    match peek(s, c) {
-        Peeked::Nothing => at,
-        Peeked::Group(_) => at,
-        Peeked::Leaf(t) => {
-            if !is_punct(t, b'<') {
-                return at;
-            }
-            let inside = past(s, c, t);
-            parameter_lines(s, inside, roles, row, out, at)
-        }
+    if !stands_punct(s, c, b'<') {
+        return at;
     }
+    let row = c.row;
+    let t = punct_at(s, c);
+    let inside = past(s, c, t);
+    parameter_lines(s, inside, roles, row, out, at)
 }
 
 // The lines of a struct's body, whose group's inside is at c.

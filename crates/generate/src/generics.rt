@@ -10,16 +10,15 @@ use parse::generics::ParameterStep;
 use parse::generics::parameter;
 use parse::item::ItemStep;
 use parse::item::item;
-use parse::utils::is_punct;
 use parse::utils::past;
+use parse::utils::stands_punct;
 use token_list::check::Checked;
 use token_list::check::Cursor;
 use token_list::check::END;
 use token_list::check::Refusal;
 use token_list::check::check;
 use token_list::layout::FIRST_ROW;
-use token_list::stream::Peeked;
-use token_list::stream::peek;
+use token_list::stream::punct_at;
 ghost use mathlib.Core.Path.{_≡_};
 ghost use mathlib.Core.List.{List, _++_, map};
 ghost use Prim.Native.Nat.{ℕ};
@@ -121,18 +120,13 @@ fn put_generics(
         (genericsRows (parametersBy names (now (lifetimes .entry)) (now (types .entry))) g)) ⌝ }
 {
     let b = StreamBuilder::new(out);
-    let row = c.row;
-    match peek(s, c) {
-        Peeked::Nothing => b,
-        Peeked::Group(_) => b,
-        Peeked::Leaf(t) => {
-            if !is_punct(t, b'<') {
-                return b;
-            }
-            let inside = past(s, c, t);
-            put_angled(b, out, s, inside, roles, row, names, lifetimes, types)
-        }
+    if !stands_punct(s, c, b'<') {
+        return b;
     }
+    let row = c.row;
+    let t = punct_at(s, c);
+    let inside = past(s, c, t);
+    put_angled(b, out, s, inside, roles, row, names, lifetimes, types)
 }
 
 // Measures the list, and writes it where the output is long enough.

@@ -17,7 +17,7 @@ use Rattle.reading.specs.Token.{starts}
 use Rattle.reading.specs.Reading.{isPunct, attributes, afterHash, copied, groupSize}
 use Rattle.parse.specs.Contract.{Moved, stream, pastOf, Gained}
 use Rattle.parse.proofs.Loops.{gathered-onward, gathered-one}
-use Rattle.parse.proofs.Meeting.{leaf-taken, leaf-then, moved-on, group-stream}
+use Rattle.parse.proofs.Meeting.{stands-row, leaf-taken, leaf-then, moved-on, group-stream}
 
 module _ (s : List ℕ) (c : Cursor) (inList : InList s c) (t : Token) (l : LeafAt s (c .at) t) where
   abbrev here : Took (List Trees)
@@ -25,8 +25,7 @@ module _ (s : List ℕ) (c : Cursor) (inList : InList s c) (t : Token) (l : Leaf
 
   module _ (e : starts (isPunct 35) (stream s c) ≡ true) (d : Cursor) (p : d ≡ pastOf c t) where
     past-hash : (us : Trees) → stream s d ≡ us → here ≡ afterHash (c .row) us
-    past-hash us q = ap (attributes (c .row)) (leaf-then s c d t us l p q) ∙ chosen _ _ _
-        (sym (ap (starts (isPunct 35)) (l .here)) ∙ e)
+    past-hash us q = ap (attributes (c .row)) (leaf-then s c d t us l p q) ∙ chosen _ _ _ (stands-row 35 l e)
 
     pub hash-end : stream s d ≡ end → here ≡ ranOut 13 END
     hash-end q = past-hash end q

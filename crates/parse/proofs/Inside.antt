@@ -5,18 +5,20 @@ use mathlib.Core.List.{List, [], _∷_}
 use Prim.Native.Nat.{ℕ, _+_, _<_}
 use native.Mathlib.Omega.{arith}
 use Rattle.token_list.specs.Byte.{LESS}
-use Rattle.token_list.specs.Stream.{Trees, end, at}
-use Rattle.token_list.specs.Contract.{InList, LeafAt, GroupAt, rowOf}
+use Rattle.token_list.specs.Stream.{Trees, at}
+use Rattle.token_list.specs.Contract.{InList, LeafAt}
 use Rattle.token_list.specs.declared.check.Cursor.{Cursor}
 use Rattle.token_list.specs.declared.stream.Token.{Token}
-use Rattle.token_list.proofs.Texts.{chosen, passed-over}
+use Rattle.token_list.proofs.Texts.{chosen}
 use Rattle.reading.specs.Role as role
 use Rattle.reading.specs.Declaration.{Parameter, Generics, without, angled, parametersOf}
 use Rattle.reading.specs.Took.{Took, took, Cause, stopped, Reader, onward, after, pure}
+use Rattle.reading.specs.Token.{starts}
 use Rattle.reading.specs.Reading.{Maybe, done, one, more, every, isPunct, parameter, generics}
 use Rattle.reading.proofs.Rounds.{Rounding, Round, every-step}
 use Rattle.parse.specs.Contract.{Moved, on, no, Meets, stands, refuses, stream, pastOf, InsideAt}
-use Rattle.parse.proofs.Meeting.{past-in}
+use Rattle.parse.proofs.Meeting.{past-in, stands-row}
+use Rattle.parse.proofs.Looks.{no-generics}
 
 -- ## What an answer tells
 
@@ -138,11 +140,11 @@ forward {A} m rd {s} {c} {d} {b0} {b1} {sh} w f = go refl w
 module _ {s : List ℕ} {c : Cursor} {v : Generics} (i : InsideAt generics s c v) where
   -- the parameters after a `<`
   pub generics-angle : (t : Token) (d : Cursor) → LeafAt s (c .at) t → d ≡ pastOf c t →
-      isPunct LESS (rowOf s t) ≡ true
+      starts (isPunct LESS) (stream s c) ≡ true
       → (v ≡ angled (parametersOf v)) × InsideAt (every (parameter (c .row))) s d (parametersOf v)
   generics-angle t d l e p =
       go (inside (c .row + 1) (at s (t .next) .here)) refl
-      (sym (chosen _ _ _ p) ∙ ap (generics (c .row)) (sym (l .here)) ∙ i .gives)
+      (sym (chosen _ _ _ (stands-row LESS l p)) ∙ ap (generics (c .row)) (sym (l .here)) ∙ i .gives)
     where
       inside : Reader (List Parameter)
       inside = every (parameter (c .row))
@@ -163,12 +165,5 @@ module _ {s : List ℕ} {c : Cursor} {v : Generics} (i : InsideAt generics s c v
           )
       go (stopped w n p) g h = took-not-refuse h
 
-  pub generics-other : (t : Token) → LeafAt s (c .at) t → isPunct LESS (rowOf s t) ≡ false → v ≡ without
-  generics-other t l p = sym
-      (took-value (sym (passed-over _ _ _ p) ∙ ap (generics (c .row)) (sym (l .here)) ∙ i .gives))
-
-  pub generics-group : (t : Token) → GroupAt s (c .at) t → v ≡ without
-  generics-group t g = sym (took-value (ap (generics (c .row)) (sym (g .here)) ∙ i .gives))
-
-  pub generics-end : stream s c ≡ end → v ≡ without
-  generics-end e = sym (took-value (ap (generics (c .row)) (sym e) ∙ i .gives))
+  pub generics-none : starts (isPunct LESS) (stream s c) ≡ false → v ≡ without
+  generics-none e = sym (took-value (sym (no-generics (c .row) (stream s c) e) ∙ i .gives))

@@ -14,6 +14,7 @@ use Rattle.token_list.specs.declared.stream.Peeked.{Peeked}
 use Rattle.token_list.specs.declared.check.Cursor.{Cursor}
 use Rattle.token_list.specs.declared.stream.Token.{Token}
 use Rattle.reading.specs.Took.{Took, took, Cause, stopped, Reader, onward, after, _>>=_, placeOf, pure}
+use Rattle.reading.specs.Token.{starts}
 use Rattle.reading.specs.Reading.{copied, groupSize, lone, isPunct, isIdent, isWord, firstText, Word, missing, found}
 use Rattle.parse.specs.Contract.{Moved, Said, on, no, Meets, stands, refuses, refusal, stream, pastOf, Belonged}
 use Rattle.parse.specs.Contract.{InsideAt, point, wordShown, wordSaid}
@@ -286,6 +287,11 @@ leaf-then s c d t us l e n = l .here ∙ ap (leaf (rowOf s t)) (sym (ap (λ (x :
 pub punct-of : (s : List ℕ) (i : ℕ) (t : Token) (b : ℕ) → TokenAt s i t →
     isPunct b (rowOf s t) ≡ (eqb (t .kind) 112 && eqb (t .first) b)
 punct-of s i t b k = ap (λ (m : ℕ). eqb (t .kind) 112 && eqb m b) (sym (k .first))
+
+-- the same on the stream, where the token stands
+pub stands-row : {s : List ℕ} {i : ℕ} {t : Token} (b : ℕ) → LeafAt s i t → starts (isPunct b) (at s i .here) ≡ true →
+    isPunct b (rowOf s t) ≡ true
+stands-row b l e = sym (ap (starts (isPunct b)) (l .here)) ∙ e
 
 -- ## Readers that go round: what was `was` at the cursor `from` is `is` at c
 

@@ -1,33 +1,23 @@
-use Rattle.reading.specs.Declaration.{Generics, without, parametersOf}
-use Rattle.output.specs.Contract.{FAR, Put}
 use Prim.Native.Nat.{ℕ, _<_}
-use lib.ListN.{length}
+use mathlib.Core.Path.{_≡_, sym, _∙_, ap}
 use mathlib.Core.List.{List}
 use native.Mathlib.Omega.{arith}
-use mathlib.Core.Path.{_≡_, sym, _∙_, ap}
-use Rattle.parse.proofs.Meeting as meeting
-use Rattle.output.proofs.Texts.{nothing, put-as}
-use Rattle.describe.specs.Listing.{numbered, parameterLine}
 use borrow.Author.Tests.{not-true, not-false}
-use Rattle.parse.proofs.Inside.{generics-angle, generics-other, generics-group, generics-end}
+use lib.ListN.{length}
+use Rattle.output.specs.Contract.{FAR, Put}
+use Rattle.output.proofs.Texts.{nothing, put-as}
+use Rattle.reading.specs.Declaration.{Generics, without, parametersOf}
+use Rattle.parse.specs.Contract.{stream}
+use Rattle.parse.proofs.Meeting.{past-in-of}
+use Rattle.parse.proofs.Looks.{punct-kind}
+use Rattle.parse.proofs.Inside.{generics-angle, generics-none}
+use Rattle.describe.specs.Listing.{numbered, parameterLine}
 use borrow.Author.Needs.{needs}
 use Rattle.describe.proofs.listing.generics_lines.Statement.{statement}
 use Rattle.describe.proofs.listing.generics_lines.Tie as tie
 
-peek-requires : tie.Need-peek-requires
-peek-requires c κs = search needs
-
-enum-told : tie.Need-enum-told
-enum-told c = search needs
-
-enum-told-2 : tie.Need-enum-told-2
-enum-told-2 c = search needs
-
-enum-known-t : tie.Need-enum-known-t
-enum-known-t c = search needs
-
-is-punct-requires : tie.Need-is-punct-requires
-is-punct-requires c κs = search needs
+stands-punct-requires : tie.Need-stands-punct-requires
+stands-punct-requires c κs = search needs
 
 -- no parameters, no lines
 none : {l : List ℕ} {i : ℕ} {g : Generics} → length l < FAR → g ≡ without → Put l l i i
@@ -36,40 +26,24 @@ none h e = put-as (ap (λ (g : Generics). numbered parameterLine 0 (parametersOf
 
 returns : tie.Need-returns
 returns c =
-    let start = c .before .before .before .before .before .before .before .before .before in
-    let peek = c .before .before .before .before .before .peek in
-    let t = c .before .before .before .t in
-    let leaf = meeting.peeked _ _ (peek .ensures) (t .given .1) in
-    let punct = meeting.punct-of _ _ _ _ (leaf .token) in
-    let other = punct ∙ sym (c .before .is-punct .ensures) ∙ not-true _ (c .if1 .taken) in
-    λ g k. none (omega (arith, start .good)) (generics-other k _ leaf other)
+    let start = c .before .before .before .before .before in
+    let other = sym (c .before .stands-punct .ensures) ∙ not-true _ (c .if1 .taken) in
+    λ g k. none (omega (arith, start .good)) (generics-none k other)
+
+punct-at-requires : tie.Need-punct-at-requires
+punct-at-requires c κs =
+    let d = c .before .before .before .before .before in
+    let angle = sym (c .before .stands-punct .ensures) ∙ not-false _ (c .if1 .left) in
+    (d .pre, punct-kind 60 (stream (d .args .s .now) (d .args .c)) angle)
 
 past-requires : tie.Need-past-requires
-past-requires c κs =
-    let pre = c .before .before .before .before .before .before .before .before .before .pre in
-    let peek = c .before .before .before .before .before .peek in
-    (pre, (meeting.peeked _ _ (peek .ensures) ((c .before .before .before .t) .given .1)) .token)
+past-requires c κs = search needs
 
 parameter-lines-requires : tie.Need-parameter-lines-requires
 parameter-lines-requires c κs =
-    let pre =
-    c .before .before .before .before .before .before .before .before .before .before .before .before .pre in
-    let peek = c .before .before .before .before .before .before .before .before .peek in
-    let t = c .before .before .before .before .before .before .t in
-    let leaf = meeting.peeked _ _ (peek .ensures) (t .given .1) in
-    meeting.past-in-of _ _ _ _ (c .before .before .past .ensures) pre (leaf .token)
-
-returns-2 : tie.Need-returns-2
-returns-2 c =
-    let start = c .before .before .before .before .before .before in
-    let end = meeting.peeked _ _ (c .before .before .peek .ensures) (c .enum-told .given .1) in
-    λ g k. none (omega (arith, start .good)) (generics-end k end)
-
-returns-3 : tie.Need-returns-3
-returns-3 c =
-    let start = c .before .before .before .before .before .before in
-    let group = meeting.peeked _ _ (c .before .before .peek .ensures) (c .enum-told2 .given .1) in
-    λ g k. none (omega (arith, start .good)) (generics-group k _ group)
+    let pre = c .before .before .before .before .before .before .before .before .before .pre in
+    let leaf = c .before .before .before .punct-at .ensures in
+    past-in-of _ _ _ _ (c .before .before .past .ensures) pre (leaf .token)
 
 same-length : tie.Need-same-length
 same-length c = search needs
@@ -77,34 +51,24 @@ same-length c = search needs
 same-length-2 : tie.Need-same-length-2
 same-length-2 c = search needs
 
-returns-4 : tie.Need-returns-4
-returns-4 c =
-    let after-t = c .before .before .before .before .before .before .before .before .before .before .before in
-    let is-punct = c .before .before .before .before .before .before .before .before .before .is-punct in
-    let if1 = c .before .before .before .before .before .before .before .before .if1 in
+returns-2 : tie.Need-returns-2
+returns-2 c =
+    let back8 = c .before .before .before .before .before .before .before .before in
+    let leaf = back8 .punct-at .ensures in
     let past = c .before .before .before .before .before .before .before .past in
     let parameter-lines = c .before .before .before .before .parameter-lines in
-    let t = after-t .t in
-    let peek = after-t .before .before .peek in
-    let leaf = meeting.peeked _ _ (peek .ensures) (t .given .1) in
-    let punct = meeting.punct-of _ _ _ _ (leaf .token) in
-    let angle = punct ∙ sym (is-punct .ensures) ∙ not-false _ (if1 .left) in
+    let angle = sym (back8 .before .before .stands-punct .ensures) ∙ not-false _ (back8 .before .if1 .left) in
     λ g k. parameter-lines .ensures (parametersOf g) (generics-angle k _ _ leaf (past .ensures) angle .1)
 
 pub generics-lines-spec : {M : Type 1} → statement M
 generics-lines-spec =
     tie.close
     (tie.spec
-    peek-requires
-    enum-told
-    enum-told-2
-    enum-known-t
-    is-punct-requires
+    stands-punct-requires
     returns
+    punct-at-requires
     past-requires
     parameter-lines-requires
-    returns-2
-    returns-3
     same-length
     same-length-2
-    returns-4)
+    returns-2)

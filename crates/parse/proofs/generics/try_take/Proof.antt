@@ -1,12 +1,11 @@
-use mathlib.Core.Path.{refl, sym, _∙_, ap}
+use mathlib.Core.Path.{refl, sym, _∙_}
 use borrow.Author.Tests.{not-true, not-false}
 use Rattle.token_list.proofs.Texts.{chosen}
 use Rattle.reading.specs.Declaration.{angled}
-use Rattle.reading.specs.Token.{starts}
-use Rattle.reading.specs.Reading.{isPunct, generics, genericsAfter}
+use Rattle.reading.specs.Reading.{generics, genericsAfter}
 use Rattle.parse.specs.Contract.{stream}
 use Rattle.parse.proofs.Looks.{punct-kind, no-generics}
-use Rattle.parse.proofs.Meeting.{meets-same, meets-from, meets-map, past-in-of}
+use Rattle.parse.proofs.Meeting.{stands-row, meets-same, meets-from, meets-map, past-in-of}
 use borrow.Author.Needs.{needs}
 use Rattle.parse.proofs.generics.try_take.Statement.{statement}
 use Rattle.parse.proofs.generics.try_take.Tie as tie
@@ -48,9 +47,8 @@ returns-2 c =
     let l = back8 .punct-at .ensures in
     let take-token = c .before .before .before .before .before .before .take-token in
     let stands = sym (back8 .before .before .stands-punct .ensures) ∙ not-false _ (back8 .before .if1 .left) in
-    let found = sym (ap (starts (isPunct 60)) (l .here)) ∙ stands in
     meets-from generics _ _ (d .pre) _ _ l _ _ _ _ (take-token .ensures .0) (take-token .ensures .1) _ _
-    (genericsAfter (d .args .c .row)) (chosen _ _ _ found)
+    (genericsAfter (d .args .c .row)) (chosen _ _ _ (stands-row 60 l stands))
     (meets-map _ angled (λ ps h. h) (c .before .before .parameters .ensures))
 
 pub try-take-spec : {M : Type 1} → statement M

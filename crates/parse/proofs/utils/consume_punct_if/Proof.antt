@@ -1,11 +1,10 @@
-use mathlib.Core.Path.{refl, sym, _∙_, ap}
+use mathlib.Core.Path.{refl, sym, _∙_}
 use mathlib.Core.Bool.{true≢false}
 use borrow.Author.Tests.{not-true, not-false}
 use Rattle.token_list.proofs.Texts.{chosen}
-use Rattle.reading.specs.Token.{starts}
-use Rattle.reading.specs.Reading.{isPunct, punctIf}
+use Rattle.reading.specs.Reading.{punctIf}
 use Rattle.parse.specs.Contract.{stream}
-use Rattle.parse.proofs.Meeting.{meets-same, meets-leaf}
+use Rattle.parse.proofs.Meeting.{stands-row, meets-same, meets-leaf}
 use Rattle.parse.proofs.Looks.{no-punct, punct-kind}
 use borrow.Author.Needs.{needs}
 use Rattle.parse.proofs.utils.consume_punct_if.Statement.{statement}
@@ -43,10 +42,9 @@ returns-2 c =
     let a = d .args in
     let l = back4 .punct-at .ensures in
     let take-token = c .before .before .take-token in
-    let stands = sym (back4 .before .before .stands-punct .ensures) ∙ not-false _ (back4 .before .if1 .left) in
-    let found = sym (ap (starts (isPunct (a .punct))) (l .here)) ∙ stands in (
+    let stands = sym (back4 .before .before .stands-punct .ensures) ∙ not-false _ (back4 .before .if1 .left) in (
       meets-leaf (punctIf (a .punct) (a .role)) _ _ (d .pre) _ _ l _ _ _ _ (take-token .ensures .0)
-          (take-token .ensures .1) _ (chosen _ _ _ found) refl,
+          (take-token .ensures .1) _ (chosen _ _ _ (stands-row (a .punct) l stands)) refl,
       (sym stands, (λ e. absurd (true≢false e))),
     )
 
