@@ -136,7 +136,7 @@ added "${many[@]}" | cmp - /dev/null
 grep -q 'more than 4096 bytes of added types' target/bindings/added.err
 
 if have gcc "the C examples and the stack that a call needs"; then
-    for program in roles listing generics stack; do
+    for program in roles listing generics names stack; do
         gcc -std=c11 -Wall -Wextra -Werror -Iinclude -o target/bindings/$program bindings/c/$program.c target/staticlib/libexports.a
     done
     example target/bindings/roles bindings/valve.roles
@@ -146,6 +146,12 @@ if have gcc "the C examples and the stack that a call needs"; then
     target/bindings/listing examples/valve.tokens 1 | grep -qx 'no value'
     target/bindings/listing examples/valve.tokens 2 | grep -qx 'value -2'
     target/bindings/generics examples/generics.tokens "'b" Drain | cmp - <(cat crates/{impl,type}_generics/stdout)
+    compared() { target/bindings/names "$1" "$2" | grep -qx "$3, pairs looked at: $4"; } # NAME NAME ANSWER PAIRS
+    compared valve_north_1 valve_north_1 equal 13
+    compared valve_north_1 valve_north_2 'not equal' 1
+    compared valve_north_1 halve_north_1 'not equal' 13
+    compared valve_north_1 valve_north 'not equal' 0
+    compared '' '' equal 0
     target/bindings/stack recorded/*.txt
     # It has no data but constants, and calls nothing but memset and its like.
     size target/staticlib/libexports.a | awk 'NR > 1 && $2 + $3 > 0 { print; bad = 1 } END { exit bad }'

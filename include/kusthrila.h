@@ -3,7 +3,7 @@
  * A slice is a pointer and a length. A pointer may be anything where its length is 0, but not NULL: pass the address of
  * some byte. Lists and buffers must not overlap.
  *
- * An answer is one number. Below KUSTHRILA_REFUSED it is an acceptance. Else it is a refusal: its number is
+ * An answer is one number; that of kusthrila_same_name is told below. Any other below KUSTHRILA_REFUSED it is an acceptance. Else it is a refusal: its number is
  * kusthrila_number(answer), one of enum kusthrila_refusal, and its place kusthrila_place(answer), a row counted from 0 or
  * KUSTHRILA_END. Row n is line n + 2 of the list. README.md says where each refusal's place is, and which comes first.
  *
@@ -155,6 +155,13 @@ uint64_t kusthrila_value(const uint8_t *list, size_t list_len, size_t position, 
  * is compared as text. roles must have a byte for each row, else refusal 8. */
 uint64_t kusthrila_tagged(const uint8_t *list, size_t list_len, const uint8_t *prefix, size_t prefix_len, uint8_t *roles,
                           size_t roles_len);
+
+/* Compares two names, which may be the same bytes: their lengths, then their bytes from the last to the first. The answer is twice
+ * the number of pairs of bytes that were looked at, and one more where the names are equal: no pair where the lengths differ, else
+ * those from the last down to the first unequal one, or all. Nothing is refused; the two functions below take the answer apart. */
+uint64_t kusthrila_same_name(const uint8_t *a, size_t a_len, const uint8_t *b, size_t b_len);
+static inline int kusthrila_names_equal(uint64_t answer) { return (int)(answer % 2u); }
+static inline uint64_t kusthrila_pairs(uint64_t answer) { return answer / 2u; }
 
 /* A refusal's number and place. */
 static inline uint64_t kusthrila_number(uint64_t answer) { return answer / KUSTHRILA_REFUSED; }

@@ -62,6 +62,14 @@ static void tagged_all(void) {
         kusthrila_tagged(lists[n].bytes, lists[n].length, (const uint8_t *)"p", 1, roles, sizeof roles);
 }
 
+static void same_name_all(void) {
+    top = (uint8_t *)__builtin_frame_address(0);
+    for (size_t n = 1; n < count; n++) {
+        kusthrila_same_name(lists[n].bytes, lists[n].length, lists[n].bytes, lists[n].length);
+        kusthrila_same_name(lists[n].bytes, lists[n].length, lists[n - 1].bytes, lists[n - 1].length);
+    }
+}
+
 static int measure(const char *name, void (*calls)(void)) {
     ucontext_t here, there;
     memset(stack, PAINT, sizeof stack);
@@ -136,5 +144,6 @@ int main(int argc, char **argv) {
     over |= measure("kusthrila_value", value_all);
     over |= measure("kusthrila_tagged", tagged_all);
     over |= measure("kusthrila_impl_generics and its like", generics_all);
+    over |= measure("kusthrila_same_name", same_name_all);
     return over;
 }

@@ -30,6 +30,7 @@ extern "C" {
         out: *mut u8,
         out_len: usize,
     ) -> u64;
+    fn kusthrila_same_name(a: *const u8, a_len: usize, b: *const u8, b_len: usize) -> u64;
 }
 
 /// No list has more rows.
@@ -78,6 +79,13 @@ pub enum Kind {
 pub enum Entry<'a> {
     Tag(&'a [u8]),
     Property(&'a [u8], &'a [u8]),
+}
+
+/// Two names compared: whether they are the same, and how many pairs of bytes were looked at.
+#[derive(Clone, Copy, Debug, PartialEq, Eq)]
+pub struct Compared {
+    pub same: bool,
+    pub pairs: usize,
 }
 
 // An answer below 2^32 refuses nothing; else it is 2^32 times the refusal's number, plus its place.
@@ -182,6 +190,14 @@ pub fn tagged<'a>(list: &'a [u8], prefix: &[u8], roles: &mut [u8]) -> Result<Opt
         }
     }
     Ok(Some(entries))
+}
+
+/// Compares two names: their lengths, then their bytes from the last to the first. No pair of bytes is looked at where the lengths
+/// differ, else those from the last down to the first unequal one, or all.
+pub fn same_name(a: &[u8], b: &[u8]) -> Compared {
+    // SAFETY: both are slices, which the call only reads.
+    let code = unsafe { kusthrila_same_name(a.as_ptr(), a.len(), b.as_ptr(), b.len()) };
+    Compared { same: code % 2 == 1, pairs: (code / 2) as usize }
 }
 
 #[cfg(test)]
@@ -308,5 +324,67 @@ mod tests {
         let comma = b"kind text\no [\ni p\no (\ni k\np =\nl 1\ni b\nc )\nc ]\n";
         assert_eq!(tagged(comma, b"p", &mut roles), refused(refusal::NO_ENTRY_COMMA, Place::Row(6)));
         assert_eq!(roles, [NO_ROLE; 11]);
+    }
+
+    // What `same_name` is to answer, said with the standard library.
+    fn compared(a: &[u8], b: &[u8]) -> Compared {
+        let unequal = a.iter().rev().zip(b.iter().rev()).position(|(x, y)| x != y);
+        let pairs = if a.len() == b.len() { unequal.map_or(a.len(), |equal| equal + 1) } else { 0 };
+        Compared { same: a == b, pairs }
+    }
+
+    // A xorshift generator: the same numbers each time.
+    struct Random(u64);
+
+    impl Random {
+        fn below(&mut self, end: usize) -> usize {
+            self.0 ^= self.0 << 13;
+            self.0 ^= self.0 >> 7;
+            self.0 ^= self.0 << 17;
+            (self.0 % end as u64) as usize
+        }
+
+        // Few letters, so that pairs are equal now and then.
+        fn name_of(&mut self, len: usize) -> Vec<u8> {
+            (0..len).map(|_| b"drip"[self.below(4)]).collect()
+        }
+
+        fn name(&mut self) -> Vec<u8> {
+            let len = self.below(301);
+            self.name_of(len)
+        }
+    }
+
+    #[test]
+    fn compares_names() {
+        assert_eq!(same_name(b"", b""), Compared { same: true, pairs: 0 });
+        assert_eq!(same_name(b"north_1", b"north_1"), Compared { same: true, pairs: 7 });
+        assert_eq!(same_name(b"north_1", b"north_2"), Compared { same: false, pairs: 1 });
+        assert_eq!(same_name(b"north_1", b"forth_1"), Compared { same: false, pairs: 7 });
+        assert_eq!(same_name(b"north_1", b"north"), Compared { same: false, pairs: 0 });
+        let mut random = Random(3);
+        for _ in 0..20_000 {
+            let (a, b) = (random.name(), random.name());
+            assert_eq!(same_name(&a, &b), compared(&a, &b), "{a:?} {b:?}");
+            let len = a.len().min(b.len());
+            assert_eq!(same_name(&a[..len], &b[..len]), compared(&a[..len], &b[..len]), "{a:?} {b:?}");
+        }
+        // Near-equal ones: the same bytes elsewhere, a byte more, then at each place another byte, and before it a second one.
+        for len in 0..=300 {
+            let name = random.name_of(len);
+            let mut near = name.clone();
+            assert_eq!(same_name(&name, &near), Compared { same: true, pairs: len });
+            near.push(b'a');
+            assert_eq!(same_name(&name, &near), Compared { same: false, pairs: 0 });
+            near.pop();
+            for at in 0..len {
+                let before = random.below(at + 1);
+                near[before] = random.below(256) as u8;
+                near[at] = name[at] ^ (1 << random.below(8));
+                assert_eq!(same_name(&name, &near), Compared { same: false, pairs: len - at }, "{name:?} {near:?}");
+                assert_eq!(same_name(&near, &name), compared(&near, &name), "{name:?} {near:?}");
+                (near[before], near[at]) = (name[before], name[at]);
+            }
+        }
     }
 }

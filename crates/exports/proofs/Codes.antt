@@ -1,17 +1,21 @@
 -- A number gives its case back; the cases of the answers are small enough for it.
 use mathlib.Core.Path.{_≡_, refl, ap, _∙_, sym, subst}
 use mathlib.Core.Logic.{⊎-elim}
-use mathlib.Core.Bool.{Bool, true, false, false≢true}
+use mathlib.Core.Bool.{Bool, true, false, cond, false≢true}
 use mathlib.Core.List.{List}
 use Prim.Native.Nat.{ℕ, zero, suc, _+_, _*_, _/_, _%_, _≤_, _<_}
 use native.Mathlib.Nat.{mul-add-div-right, mul-add-mod-self-right, div-eq-of-lt, mod-eq-of-lt}
 use native.Mathlib.Omega.{arith}
-use borrow.Author.Tests.{lt-ltb, le-ltb, ne-eqb}
+use borrow.Author.Tests.{lt-ltb, le-ltb, eq-eqb, ne-eqb}
+use lib.Dec.{eqb}
 use lib.ListN.{length}
 use lib.Seq.{length-take-le}
+use Rattle.token_list.specs.Pairs.{pairs}
 use Rattle.token_list.specs.Check as list
+use Rattle.token_list.specs.Contract.{ComparedAs}
 use Rattle.token_list.specs.Place.{OneRefusal, checkNumber}
 use Rattle.token_list.specs.declared.check.Refusal.{Refusal}
+use Rattle.token_list.specs.declared.text.Compared.{Compared}
 use Rattle.token_list.proofs.Texts.{chosen, passed-over}
 use Rattle.token_list.proofs.Bounds.{bounds, check-refusal}
 use Rattle.reading.specs.Declaration.{Kind, struct, enum}
@@ -34,7 +38,7 @@ use Rattle.describe.proofs.Answers.{listing-refusal}
 use Rattle.describe.proofs.Length.{fits}
 use Rattle.exports.specs.Code.{IN-LIST, Case, accepted, refusal, REFUSED, code, decoded, Coded, checkCase}
 use Rattle.exports.specs.Code.{kindCode, readCase, writtenCase, writtenCode, LowPlace, WrittenInto, placeCase}
-use Rattle.exports.specs.Code.{decodedPlace, ValueInto}
+use Rattle.exports.specs.Code.{decodedPlace, ValueInto, NamesCompared}
 
 -- ## A number gives back its case, number and place
 
@@ -204,3 +208,20 @@ module _ (s : List ℕ) (position : ℕ) (x y : List ℕ) {r : ValuePlace}
             a) range;
         scratch = h .scratch;
       }
+
+-- ## Two names compared
+
+pub names-compared : (x y : List ℕ) (c : Compared) (t : Bool) {r : ℕ} → ComparedAs x y c → c .same ≡ t →
+    r ≡ 2 * c .pairs + cond t 1 0 → NamesCompared x y r
+names-compared x y c t {r} h e q =
+    let equal = sym (h .same) ∙ e in
+    let half = go t (q ∙ ap (λ (n : ℕ). 2 * n + cond t 1 0) (h .pairs)) in
+    record {
+      code = q ∙ (λ i. 2 * h .pairs i + cond (sym equal i) 1 0);
+      pairs = half .0;
+      same = half .1 ∙ sym equal;
+    }
+  where
+    go : (t : Bool) → r ≡ 2 * pairs x y + cond t 1 0 → (r / 2 ≡ pairs x y) × (eqb (r % 2) 1 ≡ t)
+    go true k = (omega (arith, k), eq-eqb (r % 2) 1 (omega (arith, k)))
+    go false k = (omega (arith, k), ne-eqb (r % 2) 1 (λ z. absurd (omega (arith, k, z))))

@@ -6,6 +6,8 @@ use mathlib.Core.List.{List}
 use Prim.Native.Nat.{ℕ, _+_, _*_, _/_, _%_, _≤_, min}
 use lib.Dec.{eqb, ltb}
 use lib.ListN.{length}
+use Rattle.token_list.specs.Text.{same}
+use Rattle.token_list.specs.Pairs.{pairs}
 use Rattle.token_list.specs.Check as list
 use Rattle.token_list.specs.Place.{OneRefusal}
 use Rattle.reading.specs.Declaration.{Kind, struct, enum}
@@ -127,3 +129,10 @@ taggedCase (tagged.refused n p) = refusal n p
 pub record TaggedInto (prefix s before after : List ℕ) (r : ℕ) : Type 0 where
   pub coded : Coded taggedAnswers.taggedNumber s (taggedCase (taggedAnswers.answer prefix s (length before))) r
   pub buffer : after ≡ taggedAnswers.buffer (length before) (taggedAnswers.answer prefix s (length before))
+
+-- the number for two names: twice the number of pairs of bytes that are looked at, and one more where the names are the
+-- same; it gives back both
+pub record NamesCompared (a b : List ℕ) (r : ℕ) : Type 0 where
+  pub code : r ≡ 2 * pairs a b + cond (same a b) 1 0
+  pub pairs : r / 2 ≡ pairs a b
+  pub same : eqb (r % 2) 1 ≡ same a b

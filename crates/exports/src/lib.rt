@@ -11,6 +11,7 @@ use tagged_attribute::utils::Tagged;
 use token_list::check;
 use token_list::check::Checked;
 use token_list::check::Refusal;
+use token_list::text;
 ghost use mathlib.Core.Path.{_≡_};
 ghost use Prim.Native.Nat.{_≤_, min};
 ghost use Rattle.token_list.specs.Check.{END, check};
@@ -21,6 +22,7 @@ ghost use Rattle.describe.specs.Listing as listing;
 ghost use Rattle.writing.specs.Answer.{implGenerics, typeGenerics, withAdditional};
 ghost use Rattle.exports.specs.Code.{refusal, code, Coded, checkCase, ReadInto, writtenCode, LowPlace};
 ghost use Rattle.exports.specs.Code.{WrittenInto, MAX-OUTPUT, GeneratedInto, ValueInto, TaggedInto};
+ghost use Rattle.exports.specs.Code.{NamesCompared};
 
 // A number from here on tells a refusal.
 const REFUSED: u64 = 4294967296;
@@ -164,4 +166,18 @@ pub extern "C" fn kusthrila_tagged(list: &[u8], prefix: &[u8], roles: &mut [u8])
         Tagged::Read(_) => 1,
         Tagged::Refused(r) => coded(r),
     }
+}
+
+// Compares two names: twice the number of pairs of bytes that were looked at, and one more where they are equal.
+#[no_mangle]
+pub extern "C" fn kusthrila_same_name(a: &[u8], b: &[u8]) -> u64
+    ensures { λ r. ⌜ NamesCompared (now (a .entry)) (now (b .entry)) r ⌝ }
+{
+    let compared = text::compare(a, b);
+    let pairs = compared.pairs as u64;
+    let twice = 2 * pairs;
+    if compared.same {
+        return twice + 1;
+    }
+    twice
 }

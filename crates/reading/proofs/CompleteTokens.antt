@@ -10,7 +10,7 @@ use lib.ListN.{length}
 use Rattle.token_list.specs.Text.{same}
 use Rattle.token_list.specs.Row.{Row, first}
 use Rattle.token_list.specs.Stream.{Trees, end, leaf, group}
-use Rattle.token_list.proofs.Texts.{and-parts, chosen, passed-over, and-last, and-fails}
+use Rattle.token_list.proofs.Texts.{and-parts, chosen, passed-over, and-last, and-fails, same-path}
 use Rattle.reading.specs.Role as role
 use Rattle.reading.specs.Token.{isIdent, isLiteral, isPunct, isWord, copied, lone, starts, isGroup, PUB, STRUCT}
 use Rattle.reading.specs.Token.{ENUM, Stops, stopping}
@@ -94,12 +94,6 @@ ident-no-punct b q e = and-fails (eqb (q .kind) 112) (eqb (first (q .text)) b) (
 
 pub punct-no-literal : (b : ℕ) (q : Row) → isPunct b q ≡ true → isLiteral q ≡ false
 punct-no-literal b q e = eqb-other (q .kind) 112 108 (punct-parts b q e .0) refl
-
-pub same-path : (xs ys : List ℕ) → same xs ys ≡ true → xs ≡ ys
-same-path [] [] e = refl
-same-path [] (y ∷ ys) e = absurd (false≢true e)
-same-path (x ∷ xs) [] e = absurd (false≢true e)
-same-path (x ∷ xs) (y ∷ ys) e = let p = and-parts _ _ e in λ i. eqb-true x y (p .0) i ∷ same-path xs ys (p .1) i
 
 -- ## Runs
 

@@ -1,6 +1,7 @@
 -- Laws on the definitions, which the proofs of the functions cite.
 pub mod Table
 pub mod Texts
+pub mod Pairs
 pub mod Lines
 pub mod Starts
 pub mod Forms

@@ -15,7 +15,7 @@ use Rattle.token_list.specs.Check.{allRight, closedBy, enclosing, nested
 use Rattle.token_list.specs.Stream.{Trees, Streams, head, others, before, streams, size, follows, allClosed}
 use Rattle.token_list.specs.Stream.{rowsAt, at}
 use Rattle.token_list.specs.Contract.{PassedList}
-use Rattle.token_list.proofs.Texts.{chosen, passed-over, and-both, and-parts}
+use Rattle.token_list.proofs.Texts.{chosen, passed-over, and-both, and-parts, same-path}
 use Rattle.token_list.proofs.Streams.{before-close, before-open, before-leaf}
 use Rattle.token_list.proofs.Walks as walks
 
@@ -325,12 +325,6 @@ counted (r ∷ rs) w = counted-row r rs w (counted rs (and-parts (allClosed rs) 
 no-outer : (ts : List Trees) → length ts ≡ 0 → ts ≡ []
 no-outer [] e = refl
 no-outer (t ∷ ts) e = absurd (omega arith)
-
-same-path : (xs ys : List ℕ) → same xs ys ≡ true → xs ≡ ys
-same-path [] [] e = refl
-same-path [] (y ∷ ys) e = absurd (false≢true e)
-same-path (x ∷ xs) [] e = absurd (false≢true e)
-same-path (x ∷ xs) (y ∷ ys) e = let p = and-parts _ _ e in λ i. eqb-true x y (p .0) i ∷ same-path xs ys (p .1) i
 
 pub passed-list : (s : List ℕ) (n : ℕ) → check s ≡ passed n → PassedList s n
 unfolding check at delimiters around joined

@@ -2,13 +2,13 @@
 use mathlib.Core.Path.{_≡_, refl, ap, _∙_, sym, subst}
 use mathlib.Core.Bool.{Bool, true, false, _&&_, _||_, not, cond, true≢false, false≢true}
 use mathlib.Core.List.{List, [], _∷_, _++_}
-use Prim.Native.Nat.{ℕ, zero, suc, _+_, _-_, _≤_, _<_}
+use Prim.Native.Nat.{ℕ, zero, suc, _+_, _-_, _≤_, _<_, min}
 use native.Mathlib.Numerals.{add-one}
 use native.Mathlib.Omega.{arith}
 use lib.Dec.{T, eqb, leb}
-use borrow.Author.Tests.{eq-eqb, ne-eqb, leb-true, leb-false}
+use borrow.Author.Tests.{eq-eqb, ne-eqb, eqb-true, leb-true, leb-false}
 use lib.ListN.{length, getD, take, drop, length-take, drop-of-length-le}
-use lib.Seq.{slice, slice-cons, drop-cons, take-suc, drop-append-le, length-take-le}
+use lib.Seq.{slice, slice-cons, drop-cons, take-suc, take-all, drop-append-le, length-take-le}
 use Rattle.token_list.specs.Text.{all, member, same, rawName, plainName, neverRaw, single, literal, literalStart}
 use Rattle.token_list.specs.Text.{printable}
 use Rattle.token_list.specs.Row.{first}
@@ -81,30 +81,15 @@ pub all-more : (p : ℕ → Bool) (s : List ℕ) (from i : ℕ) → from ≤ i �
     → all p (slice from (i + 1) s) ≡ true
 all-more p s from i h k e q = ap (all p) (slice-more s from i h k) ∙ all-last p (slice from i s) (getD s i 0) e q
 
-module _ (s n : List ℕ) (e : ℕ) (fits : e ≤ length s) where
-  same-step : (i j : ℕ) → i < e → j < length n
-      → same (slice i e s) (drop j n) ≡ (eqb (getD s i 0) (getD n j 0) && same (slice (i + 1) e s) (drop (j + 1) n))
-  same-step i j h k = rw (slice-next s i e h fits, drop-next n j k)
+pub same-self : (xs : List ℕ) → same xs xs ≡ true
+same-self [] = refl
+same-self (x ∷ xs) = and-both _ _ (eq-eqb x x refl) (same-self xs)
 
-  pub same-next : (i j : ℕ) → i < e → j < length n → getD s i 0 ≡ getD n j 0
-      → same (slice i e s) (drop j n) ≡ same (slice (i + 1) e s) (drop (j + 1) n)
-  same-next i j h k q = same-step i j h k ∙ and-last _ _ (eq-eqb _ _ q)
-
-  pub same-fails : (i j : ℕ) → i < e → j < length n → (getD s i 0 ≡ getD n j 0 → ⊥) →
-      same (slice i e s) (drop j n) ≡ false
-  same-fails i j h k q = same-step i j h k ∙ and-fails _ _ (ne-eqb _ _ q)
-
-  -- nothing is left of the part, and something of the name
-  pub same-short : (i j : ℕ) → e ≤ i → j < length n → same (slice i e s) (drop j n) ≡ false
-  same-short i j h k = rw (slice-none s i e h, drop-next n j k)
-
-  -- nothing is left of the name
-  pub same-end : (i j : ℕ) → length n ≤ j → same (slice i e s) (drop j n) ≡ leb e i
-  same-end i j h = rw (drop-of-length-le n {i = j} h) (go (leb e i) refl)
-    where
-      go : (b : Bool) → leb e i ≡ b → same (slice i e s) [] ≡ b
-      go true q = rw (slice-none s i e (leb-true e i q))
-      go false q = rw (slice-next s i e (leb-false e i q) fits)
+pub same-path : (xs ys : List ℕ) → same xs ys ≡ true → xs ≡ ys
+same-path [] [] e = refl
+same-path [] (y ∷ ys) e = absurd (false≢true e)
+same-path (x ∷ xs) [] e = absurd (false≢true e)
+same-path (x ∷ xs) (y ∷ ys) e = let p = and-parts _ _ e in λ i. eqb-true x y (p .0) i ∷ same-path xs ys (p .1) i
 
 -- texts of different lengths are not the same
 pub same-length : (x y : List ℕ) → (length x ≡ length y → ⊥) → same x y ≡ false
@@ -116,10 +101,6 @@ same-length (a ∷ x) (b ∷ y) h = go (eqb a b) (same-length x y (λ e. h (ap s
     go : (t : Bool) → same x y ≡ false → (t && same x y) ≡ false
     go true e = e
     go false e = refl
-
-pub same-none : (y : List ℕ) → same [] y ≡ eqb (length y) 0
-same-none [] = refl
-same-none (b ∷ y) = sym (ne-eqb (suc (length y)) 0 (λ e. absurd (omega (arith, e))))
 
 -- the test for a raw name, where two bytes at least are there
 pub raw-parts : (s : List ℕ) (i e : ℕ) → i + 1 < e → e ≤ length s
@@ -211,3 +192,34 @@ drop-of-take (suc a) zero s = let n : 0 ≡ 0 - suc a = omega arith in ap (λ (n
 drop-of-take (suc a) (suc e) [] = take-none (suc e - suc a)
 drop-of-take (suc a) (suc e) (b ∷ s) =
     let n : e - a ≡ suc e - suc a = omega arith in drop-of-take a e s ∙ ap (λ (n : ℕ). take n (drop a s)) n
+
+take-cut : (s : List ℕ) (e : ℕ) → take (min e (length s)) s ≡ take e s
+take-cut s e = go (leb e (length s)) refl
+  where
+    go : (b : Bool) → leb e (length s) ≡ b → take (min e (length s)) s ≡ take e s
+    go true q =
+        let h = leb-true e (length s) q in
+        let n : min e (length s) ≡ e = omega (arith, h) in ap (λ (k : ℕ). take k s) n
+    go false q =
+        let h = leb-false e (length s) q in
+        take-all (min e (length s)) s (omega (arith, h)) ∙ sym (take-all e s (omega (arith, h)))
+
+drop-cut : (t : List ℕ) (i n : ℕ) → length t ≤ n → drop (min i n) t ≡ drop i t
+drop-cut t i n h = go (leb i n) refl
+  where
+    go : (b : Bool) → leb i n ≡ b → drop (min i n) t ≡ drop i t
+    go true q =
+        let k = leb-true i n q in
+        let m : min i n ≡ i = omega (arith, k) in ap (λ (j : ℕ). drop j t) m
+    go false q =
+        let k = leb-false i n q in
+        drop-of-length-le t {i = min i n} (omega (arith, h, k))
+        ∙ sym (drop-of-length-le t {i = i} (omega (arith, h, k)))
+
+-- a part whose end is cut to the list, and its start to its end, is the same
+pub slice-cut : (s : List ℕ) (a e from to : ℕ) → to ≡ min e (length s) → from ≡ min a to →
+    take (to - from) (drop from s) ≡ slice a e s
+slice-cut s a e from to end start =
+    let short : length (take to s) ≤ to = simp length-take (omega arith) in
+    sym (drop-of-take from to s) ∙ ap (λ (i : ℕ). slice i to s) start ∙ drop-cut (take to s) a to short
+    ∙ ap (drop a) (ap (λ (n : ℕ). take n s) end ∙ take-cut s e)

@@ -3,7 +3,7 @@ use mathlib.Core.Path.{_≡_}
 use mathlib.Core.Bool.{Bool, true, false, cond, _&&_}
 use mathlib.Core.List.{List, [], _∷_}
 use Prim.Native.Nat.{ℕ, _+_, _-_, _≤_, _<_}
-use lib.Dec.{leb, ltb, eqb}
+use lib.Dec.{ltb, eqb}
 use lib.ListN.{length, getD, take, drop}
 use lib.Seq.{slice}
 use Rattle.token_list.specs.Byte.{SPACE, LF}
@@ -18,7 +18,7 @@ use Rattle.token_list.specs.declared.check.Checked.{Checked}
 use Rattle.token_list.specs.declared.check.Checked.the-variants.{Passed, Refused}
 use Rattle.token_list.specs.declared.check.LevelEnd.{LevelEnd}
 use Rattle.token_list.specs.declared.check.LevelEnd.the-variants.{End, Close, Refused as Stopped}
-use Rattle.token_list.specs.Stream.{Trees, end, leaf, group, size, firstKind, firstByte, follows, allClosed}
+use Rattle.token_list.specs.Stream.{Trees, end, leaf, group, size, firstKind, firstByte, allClosed}
 use Rattle.token_list.specs.Stream.{rowsAt, at, rowStart}
 use Rattle.token_list.specs.declared.stream.Token.{Token}
 use Rattle.token_list.specs.declared.stream.Glance.{Glance}
@@ -27,7 +27,9 @@ use Rattle.token_list.specs.declared.stream.Peeked.the-variants.{Nothing
 use Rattle.token_list.specs.declared.row.Shape.{Shape}
 use Rattle.token_list.specs.declared.row.Shape.the-variants.{Plain, Opens, Closed, Wrong}
 use Rattle.token_list.specs.declared.row.Line.{Line}
-use Rattle.token_list.specs.Text.{all, namePart, printable, punctuation, opening, closing}
+use Rattle.token_list.specs.declared.text.Compared.{Compared}
+use Rattle.token_list.specs.Text.{all, namePart, printable, punctuation, opening, closing, same}
+use Rattle.token_list.specs.Pairs.{pairs}
 
 -- what may stand in a name, or else in a literal
 abbrev pub inText : Bool → ℕ → Bool
@@ -41,6 +43,11 @@ pub record TextEnd (s : List ℕ) (names : Bool) (from r : ℕ) : Type 0 where
   pub fits : all (inText names) (slice from r s) ≡ true
   pub stops : r < length s → inText names (getD s r 0) ≡ false
   pub line : r < length s → getD s r 0 ≡ LF → lines (drop from s) ≡ line (slice from r s) (lines (drop (r + 1) s))
+
+-- two texts compared
+pub record ComparedAs (a b : List ℕ) (r : Compared) : Type 0 where
+  pub same : r .same ≡ same a b
+  pub pairs : r .pairs ≡ pairs a b
 
 -- the first LF of a list s at or after `from` stands at e, or there is none
 pub record LineEnd (s : List ℕ) (from e : ℕ) : Type 0 where

@@ -1,5 +1,6 @@
 -- What the token_list crate's contracts say. Byte and Layout have the names of bytes and numbers; Text, Row, Check,
--- Place and Stream state the meaning, from document 01; Contract and Reader tie the code's answers to it.
+-- Place, Stream and Pairs state the meaning, from documents 01 and 02; Contract and Reader tie the code's answers to
+-- it.
 pub mod Byte
 pub mod Layout
 pub mod Text
@@ -7,5 +8,6 @@ pub mod Row
 pub mod Check
 pub mod Place
 pub mod Stream
+pub mod Pairs
 pub mod Contract
 pub mod Reader

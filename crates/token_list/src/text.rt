@@ -1,10 +1,10 @@
 // Bytes and texts: the classes of bytes, and the one comparison of a text with given bytes.
 ghost use mathlib.Core.Path.{_≡_};
-ghost use Prim.Native.Nat.{_+_, _≤_};
+ghost use Prim.Native.Nat.{_≤_, min};
 ghost use lib.ListN.{length};
 ghost use lib.Seq.{slice};
 ghost use Rattle.token_list.specs.Text.{all, member, same, between, digit, nameStart, punctuation};
-ghost use Rattle.token_list.specs.Contract.{inText, TextEnd};
+ghost use Rattle.token_list.specs.Contract.{inText, TextEnd, ComparedAs};
 
 // Whether lo <= b <= hi.
 fn between(lo: u8, hi: u8, b: u8) -> bool
@@ -108,43 +108,54 @@ pub fn is_one_of(b: u8, set: &[u8]) -> bool
     false
 }
 
-// Whether the bytes of s from `at` on begin with `name`.
-fn begins_with(s: &[u8], at: usize, name: &[u8]) -> bool
-    requires { ⌜ at + length (now name) ≤ length (now s) ⌝ }
-    ensures { λ r. ⌜ r ≡ same (slice at (at + length (now (name .entry))) (now (s .entry))) (now (name .entry)) ⌝ }
-{
-    let mut i = 0;
-    while i < name.len() {
-        let k = at + i;
-        if s[k] != name[i] {
-            return false;
-        }
-        i += 1;
-    }
-    true
+// Two texts compared: whether they are the same, and how many pairs of bytes were looked at for it.
+pub struct Compared {
+    pub same: bool,
+    pub pairs: usize,
 }
 
-// Whether the text from start to end is `name`, where it is in the list.
-fn text_within(s: &[u8], start: usize, end: usize, name: &[u8]) -> bool
-    requires { ⌜ end ≤ length (now s) ⌝ }
-    ensures { λ r. ⌜ r ≡ same (slice start end (now (s .entry))) (now (name .entry)) ⌝ }
+// From the last byte to the first, since names in one firmware begin alike.
+pub fn compare(a: &[u8], b: &[u8]) -> Compared
+    ensures { λ r. ⌜ ComparedAs (now (a .entry)) (now (b .entry)) r ⌝ }
 {
-    if end < start {
-        return name.len() == 0;
+    let len = a.len();
+    if len != b.len() {
+        return Compared {
+            same: false,
+            pairs: 0,
+        };
     }
-    if end - start != name.len() {
-        return false;
+    let mut pairs = 0;
+    while pairs < len {
+        let looked = pairs + 1;
+        let i = len - looked;
+        if a[i] != b[i] {
+            return Compared {
+                same: false,
+                pairs: looked,
+            };
+        }
+        pairs = looked;
     }
-    begins_with(s, start, name)
+    Compared { same: true, pairs }
+}
+
+// The smaller of two numbers.
+fn least(m: usize, n: usize) -> usize
+    ensures { λ r. ⌜ r ≡ min m n ⌝ }
+{
+    if n < m {
+        return n;
+    }
+    m
 }
 
 // Whether the text from start to end, or to the list's end, is `name`.
 pub fn text_is(s: &[u8], start: usize, end: usize, name: &[u8]) -> bool
     ensures { λ r. ⌜ r ≡ same (slice start end (now (s .entry))) (now (name .entry)) ⌝ }
 {
-    let len = s.len();
-    if len < end {
-        return text_within(s, start, len, name);
-    }
-    text_within(s, start, end, name)
+    let to = least(end, s.len());
+    let from = least(start, to);
+    let r = compare(&s[from..to], name);
+    r.same
 }

@@ -14,7 +14,7 @@ use Rattle.token_list.specs.Text as text
 use Rattle.token_list.specs.Row.{Row, first, written}
 use Rattle.token_list.specs.Check.{right, check, passed}
 use Rattle.token_list.specs.Stream.{Trees, end, leaf, group, size, at}
-use Rattle.token_list.proofs.Texts.{and-parts, and-last}
+use Rattle.token_list.proofs.Texts.{and-parts, and-last, same-path}
 use Rattle.reading.specs.Token.{isIdent, isPunct, isEnd, CONST}
 use Rattle.reading.specs.Declaration.{Parameter, lifetime, constant, type, Generics, angled, Declaration}
 use Rattle.reading.specs.Took.{took}
@@ -27,7 +27,6 @@ use Rattle.writing.specs.ReadBack.{runOf}
 use Rattle.writing.proofs.Joined.{joined, size-joined, rows-joined, token, written-append}
 use Rattle.writing.proofs.Balanced.{sound, sound-joined, list-stream}
 use Rattle.reading.specs.Grammar as g
-use Rattle.reading.proofs.CompleteTokens.{same-path}
 use Rattle.writing.proofs.Read.{RunAt, OptionalRun, ParameterAt, CommaAt, ParametersAt, GenericsAt, Later}
 use Rattle.writing.proofs.Read.{Within, item-read}
 use Rattle.writing.proofs.Reread.{StandsAlone, typeConst}

@@ -1,29 +1,47 @@
-use mathlib.Core.Path.{_≡_, sym, _∙_, ap}
+use mathlib.Core.Path.{_∙_, ap}
 use mathlib.Core.List.{List}
 use Prim.Native.Nat.{ℕ}
 use native.Mathlib.Omega.{arith}
-use lib.ListN.{length, take, drop}
-use lib.Seq.{take-all}
-use Rattle.token_list.specs.Text.{same}
 use borrow.Author.Needs.{needs}
+use Rattle.token_list.specs.Text.{same}
+use Rattle.token_list.proofs.Texts.{slice-cut}
 use Rattle.token_list.proofs.text.text_is.Statement.{statement}
 use Rattle.token_list.proofs.text.text_is.Tie as tie
 
-text-within-requires : tie.Need-text-within-requires
-text-within-requires c κs = search needs
+least-requires : tie.Need-least-requires
+least-requires c κs = search needs
+
+least-requires-2 : tie.Need-least-requires-2
+least-requires-2 c κs = search needs
+
+sub-compare : tie.Need-sub-compare
+sub-compare c = omega (arith, c .least2 .ensures)
+
+part-compare-start : tie.Need-part-compare-start
+part-compare-start c = omega (arith, c .least2 .ensures, c .before .least .ensures)
+
+part-compare-end : tie.Need-part-compare-end
+part-compare-end c = omega (arith, c .least2 .ensures, c .before .least .ensures)
+
+compare-requires : tie.Need-compare-requires
+compare-requires c κs = search needs
 
 returns : tie.Need-returns
 returns c =
-    let a = c .before .before .before .before .args in
-    let e : take (length (a .s .now)) (a .s .now) ≡ take (a .end) (a .s .now) =
-    take-all (length (a .s .now)) (a .s .now) (omega arith) ∙ sym (take-all (a .end) (a .s .now) (omega arith)) in
-    c .text-within .ensures ∙ ap (λ (x : List ℕ). same (drop (a .start) x) (a .name .now)) e
-
-text-within-requires-2 : tie.Need-text-within-requires-2
-text-within-requires-2 c κs = search needs
-
-returns-2 : tie.Need-returns-2
-returns-2 c = search needs
+    let least = c .before .before .before .least in
+    let least2 = c .before .before .least2 in
+    let args = c .before .before .before .before .before .before .args in
+    let part = slice-cut (args .s .now) (args .start) (args .end) _ _ (least .ensures) (least2 .ensures) in
+    c .compare .ensures .same ∙ ap (λ (t : List ℕ). same t (args .name .now)) part
 
 pub text-is-spec : {M : Type 1} → statement M
-text-is-spec = tie.close (tie.spec text-within-requires returns text-within-requires-2 returns-2)
+text-is-spec =
+    tie.close
+    (tie.spec
+    least-requires
+    least-requires-2
+    sub-compare
+    part-compare-start
+    part-compare-end
+    compare-requires
+    returns)
