@@ -3,9 +3,10 @@
  * A slice is a pointer and a length. A pointer may be anything where its length is 0, but not NULL: pass the address of
  * some byte. Lists and buffers must not overlap.
  *
- * An answer is one number; that of kusthrila_same_name is told below. Any other below KUSTHRILA_REFUSED it is an acceptance. Else it is a refusal: its number is
+ * An answer is one number. Below KUSTHRILA_REFUSED it is an acceptance. Else it is a refusal: its number is
  * kusthrila_number(answer), one of enum kusthrila_refusal, and its place kusthrila_place(answer), a row counted from 0 or
- * KUSTHRILA_END. Row n is line n + 2 of the list. README.md says where each refusal's place is, and which comes first.
+ * KUSTHRILA_END. Row n is line n + 2 of the list. README.md says where each refusal's place is, and which comes first. Only
+ * kusthrila_same_name refuses nothing, and its number is told with it.
  *
  * Nothing is allocated and nothing global is kept: the library has no data but constants, and calls only memset and its like. So
  * calls from several threads are independent, as long as none writes a buffer that another uses.
