@@ -61,6 +61,10 @@ refusal() { # NUMBER PLACE ROW..: the list of these rows is refused so, with its
     printf '%s\n' 'kind text' "${@:3}" >target/bindings/list
     explained "$1" "$2"
 }
+marked_refusal() { # NUMBER PLACE ROW..: the same of rows that have joint marks
+    printf '%s\n' 'kind joint text' "${@:3}" >target/bindings/list
+    explained "$1" "$2"
+}
 explained() { # NUMBER PLACE: the same of the list at hand
     target/bin/explain <target/bindings/list >target/bindings/explained
     printf '%s\n' 'refused place' "$1 $2" "$(sed -n "s/^$1 //p" target/bindings/meanings)" | cmp - <(head -n 3 target/bindings/explained)
@@ -101,6 +105,24 @@ tail -n 1 target/bindings/explained | awk 'length != 2 + 4 + 2 + 255 { exit 1 }'
 printf 'kind text\ni A\n\001\377' >target/bindings/list && explained 3 1
 tail -n 1 target/bindings/explained | grep -qx '>    1  \\x01\\xff'
 
+# Joint marks: rows are shown with them, README's list is read, wrong ones are refused with 3, third lines of names with 2.
+target/bin/explain <examples/marked.tokens | cmp - examples/marked.explain
+sed -n '/^    kind joint text$/,/^$/s/^    //p' README.md >target/bindings/list
+target/bin/explain <target/bindings/list | sed -n 1p | grep -qx ' row  role  *kind joint text'
+for row in 'p 2 :' 'p :' 'p  :' 'p 1:' 'p 0 0 :' 'p 1 1 :' 'i 1 A' 'i 2 A' 'i A' 'l 1 1' 'o 1 (' 'c 1 )'; do
+    marked_refusal 3 1 'i 0 struct' "$row" 'p 0 ;'
+    tail -n +4 target/bindings/explained | cmp - <(printf '     0  i 0 struct\n>    1  %s\n     2  p 0 ;\n' "$row")
+done
+refusal 3 1 'i struct' 'p 1 :'
+marked_refusal 15 6 'i 0 struct' 'i 0 A' 'o 0 {' 'i 0 a' 'p 1 :' 'i 0 u8' 'p 1 >' 'c 0 }'
+marked_refusal 24 3 'i 0 struct' 'i 0 A' 'p 0 <' "p 0 '"
+printf '%s\n' 'kind joint text' 'i 0 enum' 'i 0 E' 'o 0 {' 'i 0 A' 'p 0 =' 'l 0 0 1' 'c 0 }' >target/bindings/list
+target/bin/explain <target/bindings/list | grep -qx '   5  value  *l 0 0 1'
+for names in 'kind joint  text' 'kind joint' 'kind joint text ' 'kind text joint' 'joint kind text' 'kind Joint text' 'kind mark text'; do
+    printf '%s\n' "$names" 'i 0 struct' 'i 0 A' 'p 0 ;' >target/bindings/list && explained 2 -
+done
+printf 'kind joint text' >target/bindings/list && explained 2 -
+
 # Newly made lists, against virtue itself where rustc and virtue's sources are at hand.
 rm -f target/oracle/compare.txt
 answers=(recorded/answers.txt)
@@ -123,7 +145,7 @@ example() { # COMMAND FILE: the command prints FILE of the first example, and re
     cmp target/bindings/refused.out bindings/refused.roles
 }
 # Added names as a program's arguments: what is no name is refused, and never two names.
-rt check impl_generics >/dev/null
+rt check impl_generics type_generics >/dev/null
 added() { target/bin/impl_generics "$@" <examples/generics.tokens 2>target/bindings/added.err; }
 long=$(printf 'n%.0s' $(seq 255))
 added "'$long" "$long" _ | grep -qx "i $long"
@@ -134,6 +156,9 @@ many=()
 for n in $(seq 17); do many+=("$long"); done
 added "${many[@]}" | cmp - /dev/null
 grep -q 'more than 4096 bytes of added types' target/bindings/added.err
+# What is written has the names of the list that was read, and its marks.
+target/bin/impl_generics "'b" Drain <examples/marked.tokens | cmp - examples/marked.impl
+target/bin/type_generics <examples/marked.tokens | cmp - examples/marked.type
 
 if have gcc "the C examples and the stack that a call needs"; then
     for program in roles listing generics names stack; do
@@ -146,6 +171,7 @@ if have gcc "the C examples and the stack that a call needs"; then
     target/bindings/listing examples/valve.tokens 1 | grep -qx 'no value'
     target/bindings/listing examples/valve.tokens 2 | grep -qx 'value -2'
     target/bindings/generics examples/generics.tokens "'b" Drain | cmp - <(cat crates/{impl,type}_generics/stdout)
+    target/bindings/generics examples/marked.tokens "'b" Drain | cmp - <(cat examples/marked.{impl,type})
     compared() { target/bindings/names "$1" "$2" | grep -qx "$3, pairs looked at: $4"; } # NAME NAME ANSWER PAIRS
     compared valve_north_1 valve_north_1 equal 13
     compared valve_north_1 valve_north_2 'not equal' 1
@@ -168,6 +194,7 @@ if have cargo "the Rust wrapper"; then
     wrapper build --examples
     example target/cargo/release/examples/roles bindings/valve.roles
     target/cargo/release/examples/generics examples/generics.tokens "'b" Drain | cmp - <(cat crates/{impl,type}_generics/stdout)
+    target/cargo/release/examples/generics examples/marked.tokens "'b" Drain | cmp - <(cat examples/marked.{impl,type})
     for file in "${answers[@]}"; do
         target/cargo/release/examples/compare "$file" 100000
     done

@@ -1,5 +1,11 @@
 /* The reader of token lists, for C and C++. Link libexports.a (rt staticlib exports).
  *
+ * A list is a text: a line of names, `kind text` or `kind joint text`, then a line for each row, as `p :` or, with the second
+ * names, `p 1 :`. The column between kind and text is the row's mark: 1 for a punctuation that is joint, that is, the next one
+ * (after `'` the name) follows it at once, else 0; kinds other than p have 0. With the names `kind text`, `'` is joint and no other
+ * punctuation is. Every function takes lists with either names. Marks change no role, refusal, place, listing, value or entry;
+ * only what the writers of generics write has marks.
+ *
  * A slice is a pointer and a length. A pointer may be anything where its length is 0, but not NULL: pass the address of
  * some byte. Lists and buffers must not overlap.
  *
@@ -38,12 +44,12 @@ extern "C" {
 /* No listing is longer: MOST in crates/describe/specs/Listing.antt, of which the law `fits` is proved. */
 #define KUSTHRILA_MOST_LISTING 147473u
 
-/* No list that kusthrila_impl_generics or kusthrila_type_generics writes is longer; added names take at most 12 bytes more
- * for each byte of lifetimes and 8 for each of types: MOST and mostAdded in crates/writing/specs/Answer.antt, of which the laws
- * in crates/writing/proofs/Lengths.antt are proved. */
-#define KUSTHRILA_MOST_GENERICS 98304u
+/* No list that kusthrila_impl_generics or kusthrila_type_generics writes is longer, with either names; added names take at most
+ * 18 bytes more for each byte of lifetimes and 12 for each of types: MOST and mostAdded in crates/writing/specs/Answer.antt, of
+ * which the laws in crates/writing/proofs/Lengths.antt are proved. */
+#define KUSTHRILA_MOST_GENERICS 114688u
 #define KUSTHRILA_MOST_ADDED(lifetimes_len, types_len) \
-    (KUSTHRILA_MOST_GENERICS + 12u * (size_t)(lifetimes_len) + 8u * (size_t)(types_len))
+    (KUSTHRILA_MOST_GENERICS + 18u * (size_t)(lifetimes_len) + 12u * (size_t)(types_len))
 
 /* A scratch must have as many bytes. */
 #define KUSTHRILA_SCRATCH 20u
@@ -88,8 +94,8 @@ enum kusthrila_tagged_role {
 /* The refusals. 9 and 10 are none. */
 enum kusthrila_refusal {
     KUSTHRILA_REFUSAL_TOO_LONG = 1,             /* more than 65,536 bytes */
-    KUSTHRILA_REFUSAL_LINE_OF_NAMES = 2,        /* the first line is not `kind text` */
-    KUSTHRILA_REFUSAL_ROW_FORM = 3,             /* a row's form, its text's length or its LF is wrong */
+    KUSTHRILA_REFUSAL_LINE_OF_NAMES = 2,        /* the first line is neither `kind text` nor `kind joint text` */
+    KUSTHRILA_REFUSAL_ROW_FORM = 3,             /* a row's form (its mark too), its text's length or its LF is wrong */
     KUSTHRILA_REFUSAL_TOO_MANY_ROWS = 4,        /* a further row begins after 4,096 */
     KUSTHRILA_REFUSAL_UNMATCHED_CLOSE = 5,      /* a close without its matching open */
     KUSTHRILA_REFUSAL_TOO_DEEP = 6,             /* a 33rd open group */
@@ -133,7 +139,10 @@ uint64_t kusthrila_listing(const uint8_t *list, size_t list_len, uint8_t *out, s
 /* Writes the generics of the declaration as a token list at the start of out: as they stand behind `impl`, without defaults, or
  * as names alone, as they stand behind the type's name. The answer is the list's length, with the bytes after it as they were; or
  * a refusal, with all bytes as they were. A declaration without generics gives the line of names alone. out must be long enough,
- * else refusal 8; KUSTHRILA_MOST_GENERICS bytes always are. At most the first 4,294,967,295 bytes of out are used. */
+ * else refusal 8; KUSTHRILA_MOST_GENERICS bytes always are. At most the first 4,294,967,295 bytes of out are used.
+ *
+ * What is written has the names of the list that was read. With marks, a copied bound or const type keeps its own, but that every
+ * `'` goes out joint; the rows that the writer makes itself are not joint, but for `'`. */
 uint64_t kusthrila_impl_generics(const uint8_t *list, size_t list_len, uint8_t *out, size_t out_len);
 uint64_t kusthrila_type_generics(const uint8_t *list, size_t list_len, uint8_t *out, size_t out_len);
 

@@ -1,5 +1,6 @@
 #!/bin/sh
 # speed.sh: how long the reader takes, beside virtue's parser on the same lists. speed.sh ours NAME [TIMES]: our reader alone.
+# Inputs whose name ends in -joint have the names `kind joint text`; they are left out where the reader refuses these.
 # It needs Debian's librust-proc-macro2-dev, so that virtue's parser runs outside the compiler; CARGO_REGISTRY names the folder
 # with that package's sources.
 set -eu

@@ -118,25 +118,36 @@ static void add_recorded(const char *path) {
     fclose(file);
 }
 
+/* A row for each pair of kind and text in a string, with the column that stands between them. */
+static void add_rows(char *text, const char *rows, const char *column) {
+    for (; *rows; rows += 2)
+        sprintf(text + strlen(text), "%c %s%c\n", rows[0], column, rows[1]);
+}
+
 /* So many groups, one in the other, in a field's type. */
-static void add_nested(int groups) {
-    static char texts[2][1024];
+static void add_nested(int groups, const char *names, const char *column) {
+    static char texts[4][1024];
     static int used;
     char *text = texts[used++];
-    strcpy(text, "kind text\ni enum\ni E\no {\ni A\no {\ni a\np :\n");
+    sprintf(text, "%si %senum\n", names, column);
+    add_rows(text, "iEo{iAo{iap:", column);
     for (int open = 2; open < groups; open++)
-        strcat(text, "o (\n");
+        add_rows(text, "o(", column);
     for (int open = 2; open < groups; open++)
-        strcat(text, "c )\n");
-    strcat(text, "c }\np =\np -\nl 9223372036854775807\nc }\n");
+        add_rows(text, "c)", column);
+    add_rows(text, "c}p=p-", column);
+    sprintf(text + strlen(text), "l %s9223372036854775807\n", column);
+    add_rows(text, "c}", column);
     add((const uint8_t *)text, strlen(text));
 }
 
 int main(int argc, char **argv) {
     for (int n = 1; n < argc; n++)
         add_recorded(argv[n]);
-    add_nested(32);
-    add_nested(33);
+    for (int groups = 32; groups <= 33; groups++) {
+        add_nested(groups, "kind text\n", "");
+        add_nested(groups, "kind joint text\n", "0 ");
+    }
     printf("%d lists\n", (int)count);
     int over = measure("kusthrila_check", check_all);
     over |= measure("kusthrila_read", read_all);

@@ -1,23 +1,24 @@
 //! Runs the Rust on token lists and writes what it answers in the words of document 01.
 
 use crate::added;
-use crate::check::{check, printed, refusal, Check, END};
+use crate::check::{check, columns, printed, refusal, Check, END};
 use crate::expect::{meets, Sections};
-use crate::lists::{mates, write_section, Row};
+use crate::lists::{mates, read_section, to_bytes, write_section, Names, Row};
 use crate::literal::sound_literal;
 use crate::model;
 use crate::parse::{Attribute, AttributeLocation, DataType, Generics, Parse, Visibility};
-use crate::reading::Reading;
+use crate::reading::{lifetimes, row_of, Reading};
 use crate::refusals::{number_and_place, place, Refusal};
 use crate::rng::Rng;
 use crate::stream_builder::StreamBuilder;
 use crate::trees::trees;
 use crate::utils::{parse_tagged_attribute, ParsedAttribute};
-use proc_macro::{Delimiter, Ident, Literal, Punct, Spacing, Span, TokenStream, TokenTree};
+use crate::written::written;
+use proc_macro::{Ident, Literal, Punct, Spacing, Span, TokenStream, TokenTree};
 use std::cell::Cell;
 use std::collections::{BTreeMap, HashMap};
 use std::fs::File;
-use std::io::{self, BufRead, BufReader, BufWriter, Write};
+use std::io::{BufReader, BufWriter, Write};
 use std::panic::{catch_unwind, AssertUnwindSafe};
 use std::str::FromStr;
 
@@ -71,12 +72,13 @@ pub fn run(spans: Vec<Span>) {
             for (name, body) in &sections {
                 write_section(&mut out, name, body).expect("ORACLE_OUT");
             }
+            let names = Names::of(&body).unwrap_or(Names::Plain);
             for words in expected
                 .split("=>")
                 .map(str::trim)
                 .filter(|w| !w.is_empty())
             {
-                if !meets(&sections, words) {
+                if !meets(&sections, names, words) {
                     disappointed += 1;
                     eprintln!("not as expected: {words}\n{}", text());
                 }
@@ -106,28 +108,14 @@ fn accepted(letters: &[u8]) -> Vec<u8> {
 }
 
 /// The rows of a list that passes the list check.
-fn to_rows(list: &[u8]) -> Vec<Row> {
+fn to_rows(list: &[u8], names: Names) -> Vec<Row> {
     let text = std::str::from_utf8(list).expect("a checked list is ASCII");
-    text.lines()
-        .skip(1)
-        .map(|line| (line.as_bytes()[0], line[2..].to_string()))
-        .collect()
-}
-
-fn read_section(input: &mut impl BufRead) -> io::Result<Option<(String, Vec<u8>)>> {
-    let mut header = String::new();
-    if input.read_line(&mut header)? == 0 {
-        return Ok(None);
-    }
-    let bad = || io::Error::new(io::ErrorKind::InvalidData, format!("header {header:?}"));
-    let (name, length) = header
-        .trim_end_matches('\n')
-        .split_once(' ')
-        .ok_or_else(bad)?;
-    let length: usize = length.parse().map_err(|_| bad())?;
-    let mut body = vec![0; length];
-    input.read_exact(&mut body)?;
-    Ok(Some((name.to_string(), body)))
+    let row = |line: &str| {
+        let (kind, joint, text) = columns(line.as_bytes(), names).expect("checked");
+        let text = String::from_utf8_lossy(text).into_owned();
+        Row { kind, joint, text }
+    };
+    text.lines().skip(1).map(row).collect()
 }
 
 struct Oracle {
@@ -150,6 +138,10 @@ impl Oracle {
         let mut put = |name: &'static str, body: &[u8]| sections.push((name, body.to_vec()));
         self.count("all lists".into());
         self.count(format!("kind {kind}, lists"));
+        let names = Names::of(list).unwrap_or(Names::Plain);
+        if names == Names::Marked {
+            self.count(format!("kind {kind}, lists with marks"));
+        }
         let answer = check(list);
         put("check", printed(answer).as_bytes());
         if let Check::Refused(number, _) = answer {
@@ -157,34 +149,46 @@ impl Oracle {
             self.count(format!("list check, refusal {number:2}"));
             return sections;
         }
-        let rows = to_rows(list);
+        let rows = to_rows(list, names);
         if rows
             .iter()
-            .any(|(k, text)| *k == b'l' && !sound_literal(text))
+            .any(|row| row.kind == b'l' && !sound_literal(&row.text))
         {
             self.count(format!("kind {kind}, not compared (literals)"));
             return sections;
         }
         let mate = mates(&rows);
-        let trees = self.trees(&rows);
+        // First all punctuation apart, since a joint `'` and its name share a span; then as the list has it.
+        let lifetimes = lifetimes(&rows);
+        let no_lifetimes = vec![false; rows.len()];
+        let trees = self.trees(&rows, |_| Spacing::Alone);
+        let joint_trees = self.trees(&rows, spacing);
         let model = model::roles(&rows, &mate);
         let declaration = self.declaration(&trees);
+        let joint_declaration = self.declaration(&joint_trees);
         if let (Err(of_model), Err(of_rust)) = (&model, &declaration) {
             assert_eq!(of_model, of_rust, "the model refuses otherwise: {rows:?}");
         }
 
-        match declaration {
-            Err((number, place)) => {
+        match (declaration, joint_declaration) {
+            (Err((number, place)), Err(joint)) => {
                 assert!(model.is_err(), "the model accepts: {rows:?}");
+                assert!(
+                    same((number, place), joint, &lifetimes),
+                    "joint, {joint:?}: {rows:?}"
+                );
                 self.count(format!("kind {kind}, refused"));
                 self.count(format!("declaration, refusal {number:2}"));
                 let text = refusal(number, place);
                 put("roles", text.as_bytes());
                 put("listing", text.as_bytes());
             }
-            Ok(parse) => {
+            (Ok(parse), Ok(joint_parse)) => {
                 self.count(format!("kind {kind}, accepted"));
-                let reading = Reading::new(rows.len(), &mate, &parse);
+                let reading = Reading::new(&mate, &no_lifetimes, &parse);
+                let joint = Reading::new(&mate, &lifetimes, &joint_parse);
+                assert_eq!(reading.roles, joint.roles, "joint: {rows:?}");
+                assert_eq!(reading.listing, joint.listing, "joint: {rows:?}");
                 put("roles", &accepted(&reading.roles));
                 let mut model =
                     model.unwrap_or_else(|r| panic!("the model refuses {r:?}: {rows:?}"));
@@ -198,21 +202,24 @@ impl Oracle {
                 model.push(b'\n');
                 put("every", &model);
                 put("listing", reading.listing.as_bytes());
-                let (Parse::Struct { generics, .. } | Parse::Enum { generics, .. }) = &parse;
-                let written = |f: &dyn Fn(&Generics) -> StreamBuilder| {
-                    let mut text = String::from("kind text\n");
-                    if let Some(generics) = generics {
-                        write_rows(f(generics).stream, &mut text);
-                    }
-                    text
+                let not_joint = Cell::new(0);
+                let written = |write: &dyn Fn(&Generics) -> StreamBuilder| {
+                    let [apart, joint] = [&parse, &joint_parse].map(|parse| {
+                        let (Parse::Struct { generics, .. } | Parse::Enum { generics, .. }) = parse;
+                        let stream = generics.as_ref().map(|generics| write(generics).stream);
+                        stream.unwrap_or_default()
+                    });
+                    let (rows, copied_apart) = written(apart, joint, &rows);
+                    not_joint.set(not_joint.get() + copied_apart);
+                    to_bytes(&rows, names)
                 };
                 let lifetimes = ADDED_LIFETIMES.map(String::from);
                 let types = ADDED_TYPES.map(String::from);
-                put("impl", written(&|g| g.impl_generics()).as_bytes());
-                put("type", written(&|g| g.type_generics()).as_bytes());
+                put("impl", &written(&|g| g.impl_generics()));
+                put("type", &written(&|g| g.type_generics()));
                 put(
                     "additional",
-                    written(&|g| g.impl_generics_with_additional(&lifetimes, &types)).as_bytes(),
+                    &written(&|g| g.impl_generics_with_additional(&lifetimes, &types)),
                 );
                 if let Some(rng) = &mut self.added {
                     let texts = [added::text(rng), added::text(rng)];
@@ -224,14 +231,29 @@ impl Oracle {
                             "added names, written",
                             written(&|g| g.impl_generics_with_additional(&lifetimes, &types)),
                         ),
-                        _ => ("added names, refusal 30", refusal(30, END)),
+                        _ => ("added names, refusal 30", refusal(30, END).into_bytes()),
                     };
-                    put("added", answer.as_bytes());
+                    put("added", &answer);
                     self.count(what.into());
                 }
+                if not_joint.get() > 0 {
+                    let what = "written, ' that the Rust copies as not joint";
+                    self.count(format!("{what}, lists"));
+                    *self.counts.entry(what.into()).or_insert(0) += not_joint.get();
+                }
+            }
+            (declaration, joint) => {
+                panic!("{:?}, joint {:?}: {rows:?}", declaration.err(), joint.err())
             }
         }
-        let tagged = tagged(&trees, &rows, &mate);
+        let tagged = tagged(&trees, &mate, &no_lifetimes);
+        let same_tagged = match (&tagged, self::tagged(&joint_trees, &mate, &lifetimes)) {
+            (Tagged::Refused(apart), Tagged::Refused(joint)) => same(*apart, joint, &lifetimes),
+            (Tagged::None, Tagged::None) => true,
+            (Tagged::Roles(apart), Tagged::Roles(joint)) => *apart == joint,
+            _ => false,
+        };
+        assert!(same_tagged, "joint, tagged: {rows:?}");
         self.count(match &tagged {
             Tagged::Refused((number, _)) => format!("tagged, refusal {number:2}"),
             Tagged::None => "tagged, none".into(),
@@ -245,15 +267,16 @@ impl Oracle {
         sections
     }
 
-    fn trees(&mut self, rows: &[Row]) -> Vec<TokenTree> {
+    fn trees(&mut self, rows: &[Row], spacing: impl Fn(&Row) -> Spacing) -> Vec<TokenTree> {
         let Oracle {
             spans,
             idents,
             literals,
             ..
         } = self;
-        let leaf = |kind: u8, text: &str, span: Span| {
-            let mut tree: TokenTree = match kind {
+        let leaf = |row: &Row, span: Span| {
+            let text = &row.text;
+            let mut tree: TokenTree = match row.kind {
                 b'i' => idents
                     .entry(text.to_string())
                     .or_insert_with(|| match text.strip_prefix("r#") {
@@ -272,8 +295,7 @@ impl Oracle {
                     })
                     .clone()
                     .into(),
-                // Never joint: a joint `'` and the name after it become one token with one span.
-                _ => Punct::new(text.as_bytes()[0] as char, Spacing::Alone).into(),
+                _ => Punct::new(text.as_bytes()[0] as char, spacing(row)).into(),
             };
             tree.set_span(span);
             tree
@@ -315,26 +337,19 @@ fn place_of_panic(trees: &[TokenTree]) -> usize {
     last.get().expect("a token was asked for")
 }
 
-/// A stream as rows.
-fn write_rows(stream: TokenStream, out: &mut String) {
-    for token in stream {
-        match token {
-            TokenTree::Ident(ident) => *out += &format!("i {ident}\n"),
-            TokenTree::Punct(punct) => *out += &format!("p {}\n", punct.as_char()),
-            TokenTree::Literal(literal) => *out += &format!("l {literal}\n"),
-            TokenTree::Group(group) => {
-                let (open, close) = match group.delimiter() {
-                    Delimiter::Parenthesis => ('(', ')'),
-                    Delimiter::Bracket => ('[', ']'),
-                    Delimiter::Brace => ('{', '}'),
-                    Delimiter::None => ('0', '0'),
-                };
-                *out += &format!("o {open}\n");
-                write_rows(group.stream(), out);
-                *out += &format!("c {close}\n");
-            }
-        }
+/// The spacing that a row of punctuation has in its list.
+fn spacing(row: &Row) -> Spacing {
+    if row.joint {
+        Spacing::Joint
+    } else {
+        Spacing::Alone
     }
+}
+
+/// Whether a refusal is the same from joint tokens, where one of a lifetime's rows may stand for the other.
+fn same(apart: Refusal, joint: Refusal, lifetimes: &[bool]) -> bool {
+    let (first, last) = (apart.1.min(joint.1), apart.1.max(joint.1));
+    apart.0 == joint.0 && (first == last || (first + 1 == last && lifetimes[first]))
 }
 
 enum Tagged {
@@ -344,7 +359,7 @@ enum Tagged {
 }
 
 /// 31 is ours: the Rust is handed a group, never a list.
-fn tagged(trees: &[TokenTree], rows: &[Row], mate: &[usize]) -> Tagged {
+fn tagged(trees: &[TokenTree], mate: &[usize], lifetimes: &[bool]) -> Tagged {
     let group = match trees.first() {
         None => return Tagged::Refused((31, END)),
         Some(TokenTree::Group(group)) => group,
@@ -358,13 +373,13 @@ fn tagged(trees: &[TokenTree], rows: &[Row], mate: &[usize]) -> Tagged {
         Ok(None) => Tagged::None,
         Ok(Some(parts)) => {
             // Every row that the answer does not name is "other".
-            let mut roles = vec![b'a' + 23; rows.len()];
+            let mut roles = vec![b'a' + 23; mate.len()];
             for part in parts {
                 match part {
-                    ParsedAttribute::Tag(tag) => roles[place(tag.span())] = b'a' + 20,
+                    ParsedAttribute::Tag(tag) => roles[row_of(tag.span(), lifetimes)] = b'a' + 20,
                     ParsedAttribute::Property(key, value) => {
-                        roles[place(key.span())] = b'a' + 21;
-                        roles[place(value.span())] = b'a' + 22;
+                        roles[row_of(key.span(), lifetimes)] = b'a' + 21;
+                        roles[row_of(value.span(), lifetimes)] = b'a' + 22;
                     }
                 }
             }

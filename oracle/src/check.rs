@@ -1,7 +1,7 @@
 //! The list check of document 01, written from its text alone (the Rust has nothing like it):
 //! refusals 1 to 7 with their places, or the number of rows.
 
-use crate::lists::PUNCTUATION;
+use crate::lists::{Names, PUNCTUATION};
 
 pub const END: usize = 65_535;
 
@@ -9,7 +9,6 @@ const MAX_BYTES: usize = 65_536;
 const MAX_ROWS: usize = 4_096;
 const MAX_TEXT: usize = 255;
 const MAX_OPEN: usize = 32;
-const NAMES: &[u8] = b"kind text\n";
 
 #[derive(Clone, Copy, PartialEq, Eq, Debug)]
 pub enum Check {
@@ -21,10 +20,10 @@ pub fn check(list: &[u8]) -> Check {
     if list.len() > MAX_BYTES {
         return Check::Refused(1, END);
     }
-    if !list.starts_with(NAMES) {
+    let Some(names) = Names::of(list) else {
         return Check::Refused(2, END);
-    }
-    let mut rest = &list[NAMES.len()..];
+    };
+    let mut rest = &list[names.line().len()..];
     let mut row = 0;
     // The open groups: opening row and the byte that closes it.
     let mut open: Vec<(usize, u8)> = Vec::new();
@@ -37,18 +36,18 @@ pub fn check(list: &[u8]) -> Check {
         };
         let line = &rest[..end];
         rest = &rest[end + 1..];
-        if !row_form(line) {
+        let Some((kind, _, text)) = columns(line, names).filter(row_form) else {
             return Check::Refused(3, row);
-        }
-        match line[0] {
+        };
+        match kind {
             b'o' => {
                 if open.len() == MAX_OPEN {
                     return Check::Refused(6, row);
                 }
-                open.push((row, closing(line[2])));
+                open.push((row, closing(text[0])));
             }
             b'c' => match open.last() {
-                Some((_, close)) if *close == line[2] => {
+                Some((_, close)) if *close == text[0] => {
                     open.pop();
                 }
                 _ => return Check::Refused(5, row),
@@ -63,16 +62,24 @@ pub fn check(list: &[u8]) -> Check {
     }
 }
 
-/// Kind, one space, a text that fits the kind.
-fn row_form(line: &[u8]) -> bool {
-    if line.len() < 3 || line[1] != b' ' {
+/// A row's kind, whether it is joint, and its text, parted by one space each. Without a column for it
+/// a `'` alone is joint.
+pub fn columns(line: &[u8], names: Names) -> Option<(u8, bool, &[u8])> {
+    match (names, line) {
+        (Names::Plain, [kind, b' ', text @ ..]) => Some((*kind, line == b"p '", text)),
+        (Names::Marked, [kind, b' ', mark @ (b'0' | b'1'), b' ', text @ ..]) => {
+            Some((*kind, *mark == b'1', text))
+        }
+        _ => None,
+    }
+}
+
+/// A text that fits the kind, and no joint mark but on punctuation.
+fn row_form((kind, joint, text): &(u8, bool, &[u8])) -> bool {
+    if text.is_empty() || text.len() > MAX_TEXT || (*joint && *kind != b'p') {
         return false;
     }
-    let text = &line[2..];
-    if text.len() > MAX_TEXT {
-        return false;
-    }
-    match line[0] {
+    match kind {
         b'i' => ident_text(text),
         b'p' => text.len() == 1 && PUNCTUATION.as_bytes().contains(&text[0]),
         b'l' => {

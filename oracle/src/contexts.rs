@@ -1,7 +1,7 @@
 //! Kind c: all lists up to some length over small alphabets, each where it matters. A letter of an
 //! alphabet may be several tokens, so that groups stay closed.
 
-use crate::lists::{to_bytes, tokens};
+use crate::lists::{tokens, Row};
 use crate::rng::Rng;
 
 /// What stands before, the letters parted by `|`, what stands after.
@@ -52,14 +52,14 @@ const CONTEXTS: [(&str, &str, &str); 17] = [
 ];
 
 /// At most `most` lists: every one up to the greatest length that fits, then longer ones by chance.
-pub fn lists(rng: &mut Rng, most: usize) -> Vec<Vec<u8>> {
+pub fn lists(rng: &mut Rng, most: usize) -> Vec<Vec<Row>> {
     let contexts = CONTEXTS.map(|(before, letters, after)| {
         let letters: Vec<&str> = letters.split('|').collect();
         (before, letters, after)
     });
     let spell = |(before, letters, after): &(&str, Vec<&str>, &str), word: &[usize]| {
         let word: Vec<&str> = word.iter().map(|letter| letters[*letter]).collect();
-        to_bytes(&tokens(&format!("{before} {} {after}", word.join(" "))))
+        tokens(&format!("{before} {} {after}", word.join(" ")))
     };
     let size = |length: u32| -> usize {
         contexts

@@ -2,7 +2,8 @@
 
 use crate::check::{check, Check};
 use crate::grammar::{declaration, plain_row, tagged, DELIMITERS};
-use crate::lists::{mates, to_bytes, Row};
+use crate::lists::{mates, row, to_bytes, Names, Row};
+use crate::marks;
 use crate::rng::Rng;
 
 /// Kind b. What is done to a delimiter is done to its partner too.
@@ -16,7 +17,7 @@ pub fn damaged(rng: &mut Rng) -> Vec<Row> {
         for _ in 0..1 + rng.below(3) {
             damage(rng, &mut rows);
         }
-        if matches!(check(&to_bytes(&rows)), Check::Rows(_)) {
+        if matches!(check(&to_bytes(&rows, Names::Plain)), Check::Rows(_)) {
             return rows;
         }
     }
@@ -24,14 +25,7 @@ pub fn damaged(rng: &mut Rng) -> Vec<Row> {
 
 fn delimiter_row(kind: u8, d: usize) -> Row {
     let (open, close) = DELIMITERS[d];
-    (
-        kind,
-        if kind == b'o' {
-            open.into()
-        } else {
-            close.into()
-        },
-    )
+    row(kind, if kind == b'o' { open } else { close })
 }
 
 fn damage(rng: &mut Rng, rows: &mut Vec<Row>) {
@@ -115,9 +109,14 @@ fn damage(rng: &mut Rng, rows: &mut Vec<Row>) {
 pub fn bad_bytes(rng: &mut Rng) -> Vec<u8> {
     let mut rows = declaration(rng);
     rows.truncate(40);
-    let mut list = to_bytes(&rows);
+    let names = marks::names(rng);
+    let mut list = marks::list(rng, rows, names);
     for _ in 0..1 + rng.below(2) {
-        fault(rng, &mut list);
+        if names == Names::Marked && rng.one_in(2) {
+            wrong_mark(rng, &mut list);
+        } else {
+            fault(rng, &mut list, names);
+        }
     }
     list
 }
@@ -134,7 +133,35 @@ fn line_starts(list: &[u8]) -> Vec<usize> {
     starts
 }
 
-fn fault(rng: &mut Rng, list: &mut Vec<u8>) {
+/// What may stand for the line of names. The last two are right, though maybe not for the rows below.
+const LINES_OF_NAMES: [&str; 24] = [
+    "kind  text",
+    "Kind text",
+    "text kind",
+    " kind text",
+    "kind text ",
+    "kind",
+    "joint",
+    "kind joint",
+    "joint text",
+    "kind joint text ",
+    "kind joint  text",
+    "kind  joint text",
+    " kind joint text",
+    "joint kind text",
+    "kind text joint",
+    "kind joint texts",
+    "kind joints text",
+    "kind mark text",
+    "kind joint joint text",
+    "kind\tjoint text",
+    "Kind Joint Text",
+    "KIND JOINT TEXT",
+    "kind text",
+    "kind joint text",
+];
+
+fn fault(rng: &mut Rng, list: &mut Vec<u8>, names: Names) {
     if list.is_empty() {
         list.push(b'k');
         return;
@@ -142,8 +169,14 @@ fn fault(rng: &mut Rng, list: &mut Vec<u8>) {
     let at = rng.below(list.len());
     let starts = line_starts(list);
     let line = starts[rng.below(starts.len())];
-    let add = |list: &mut Vec<u8>, at: usize, text: &[u8]| {
-        list.splice(at..at, text.iter().copied());
+    // A new row has now and then the columns of the other names.
+    let columns = match names {
+        Names::Plain if rng.one_in(8) => Names::Marked,
+        Names::Marked if rng.one_in(8) => Names::Plain,
+        _ => names,
+    };
+    let add = |list: &mut Vec<u8>, kind: u8, text: &str| {
+        list.splice(line..line, columns.row(&row(kind, text)).into_bytes());
     };
     match rng.below(16) {
         // Bytes.
@@ -161,24 +194,21 @@ fn fault(rng: &mut Rng, list: &mut Vec<u8>) {
             list.pop();
         }
         // Lines.
-        6 => add(list, line, b"o (\n"),
-        7 => {
-            let text = *rng.pick(&[&b"c )\n", &b"c ]\n", &b"c }\n", &b"c 0\n"]);
-            add(list, line, text);
-        }
-        8 => add(list, line, b"\n"),
+        6 => add(list, b'o', "("),
+        7 => add(list, b'c', rng.pick(&[")", "]", "}", "0"])),
+        8 => list.insert(line, b'\n'),
         9 => {
-            let text: &[u8] = match rng.below(8) {
-                0 => b"i r#self\n",
-                1 => b"i r#\n",
-                2 => b"i r#_\n",
-                3 => b"i 9a\n",
-                4 => b"p ::\n",
-                5 => b"l a\n",
-                6 => b"q x\n",
-                _ => b"i a b\n",
+            let (kind, text) = match rng.below(8) {
+                0 => (b'i', "r#self"),
+                1 => (b'i', "r#"),
+                2 => (b'i', "r#_"),
+                3 => (b'i', "9a"),
+                4 => (b'p', "::"),
+                5 => (b'l', "a"),
+                6 => (b'q', "x"),
+                _ => (b'i', "a b"),
             };
-            add(list, line, text);
+            add(list, kind, text);
         }
         // Line ends of another system.
         10 => {
@@ -189,35 +219,23 @@ fn fault(rng: &mut Rng, list: &mut Vec<u8>) {
         }
         // The line of names.
         11 => {
-            let text: &[u8] = match rng.below(5) {
-                0 => b"kind  text\n",
-                1 => b"Kind text\n",
-                2 => b"text kind\n",
-                3 => b" kind text\n",
-                _ => b"kind text \n",
-            };
+            let text = rng.pick(&LINES_OF_NAMES);
             let first = starts.get(1).copied().unwrap_or(list.len());
-            list.splice(0..first, text.iter().copied());
+            list.splice(0..first, format!("{text}\n").into_bytes());
         }
         // A text too long.
-        12 => {
-            let mut text = b"i ".to_vec();
-            text.resize(2 + 254 + rng.below(4), b'n');
-            text.push(b'\n');
-            add(list, line, &text);
-        }
+        12 => add(list, b'i', &"n".repeat(254 + rng.below(4))),
         // Too many groups.
         13 => {
-            let text = b"o [\n".repeat(30 + rng.below(5));
-            add(list, line, &text);
+            let text = columns.row(&row(b'o', "[")).repeat(30 + rng.below(5));
+            list.splice(line..line, text.into_bytes());
         }
         // Another closing delimiter.
         14 => {
-            if let Some(n) = starts
-                .iter()
-                .find(|n| list[**n] == b'c' && **n + 2 < list.len())
-            {
-                list[*n + 2] = *rng.pick(&[&b')', &b']', &b'}', &b'0']);
+            let text = names.row(&row(b'c', "")).len() - 1;
+            let close = |n: &&usize| list[**n] == b'c' && **n + text < list.len();
+            if let Some(n) = starts.iter().find(close) {
+                list[*n + text] = *rng.pick(&[&b')', &b']', &b'}', &b'0']);
             }
         }
         // One line doubled.
@@ -227,7 +245,45 @@ fn fault(rng: &mut Rng, list: &mut Vec<u8>) {
                 .position(|b| *b == b'\n')
                 .map_or(list.len(), |n| line + n + 1);
             let copy = list[line..end].to_vec();
-            add(list, line, &copy);
+            list.splice(line..line, copy);
+        }
+    }
+}
+
+/// A fault in or beside the mark of a row.
+fn wrong_mark(rng: &mut Rng, list: &mut Vec<u8>) {
+    let starts = line_starts(list);
+    // Where a row begins with kind, space, mark, space.
+    let rows: Vec<usize> = starts
+        .into_iter()
+        .skip(1)
+        .filter(|n| n + 4 < list.len())
+        .collect();
+    if rows.is_empty() {
+        return;
+    }
+    let at = rows[rng.below(rows.len())];
+    match rng.below(11) {
+        // Another mark.
+        0 => list[at + 2] = *rng.pick(&[&b'2', &b'9', &b' ', &b'-', &b'x', &b'O', &0, &b'\n']),
+        1 => list[at + 2] = rng.below(256) as u8,
+        // No column, or two.
+        2 => drop(list.drain(at + 2..at + 4)),
+        3 => drop(list.splice(at + 2..at + 2, *b"0 ")),
+        4 => drop(list.splice(at + 2..at + 2, *b"1 ")),
+        // Two digits.
+        5 => list.insert(at + 2, *rng.pick(&[&b'0', &b'1'])),
+        // No space, two, or LF in its place.
+        6 => drop(list.remove(at + 1 + 2 * rng.below(2))),
+        7 => list.insert(at + 1 + 2 * rng.below(2), b' '),
+        8 => list[at + 1 + 2 * rng.below(2)] = b'\n',
+        // The other mark, which only punctuation may have.
+        9 => list[at + 2] ^= 1,
+        _ => {
+            let others: Vec<usize> = rows.into_iter().filter(|n| list[*n] != b'p').collect();
+            if !others.is_empty() {
+                list[others[rng.below(others.len())] + 2] = b'1';
+            }
         }
     }
 }

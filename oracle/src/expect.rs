@@ -1,12 +1,12 @@
 //! What the examples are said to answer.
 
-use crate::lists::{to_bytes, tokens};
+use crate::lists::{to_bytes, tokens, Names};
 
 /// The sections of one answer.
 pub type Sections = Vec<(&'static str, Vec<u8>)>;
 
-/// Whether the answer is what the words of an example say (see examples.txt).
-pub fn meets(sections: &Sections, words: &str) -> bool {
+/// Whether the answer to a list with these names is what the words of an example say (see examples.txt).
+pub fn meets(sections: &Sections, names: Names, words: &str) -> bool {
     let section = |name: &str| {
         let found = sections.iter().find(|(n, _)| *n == name);
         found.map_or(String::new(), |(_, body)| {
@@ -18,7 +18,7 @@ pub fn meets(sections: &Sections, words: &str) -> bool {
         let letter = |n: &str| (b'a' + n.parse::<u8>().expect("a role")) as char;
         text.split(' ').map(letter).collect()
     };
-    let in_rows = |text: &str| String::from_utf8(to_bytes(&tokens(text))).expect("ASCII");
+    let in_rows = |text: &str| String::from_utf8(to_bytes(&tokens(text), names)).expect("ASCII");
     let (first, rest) = words.split_once(' ').unwrap_or((words, ""));
     match first {
         "accepted" => section("roles").starts_with("accepted\n"),

@@ -1,7 +1,7 @@
 //! Kind a: declarations (and tagged attributes) made along the grammar of document 01, with all of
 //! its optional parts, and now and then a turn that it refuses.
 
-use crate::lists::{Row, PUNCTUATION};
+use crate::lists::{row, Row, PUNCTUATION};
 use crate::rng::Rng;
 
 pub const DELIMITERS: [(&str, &str); 4] = [("(", ")"), ("[", "]"), ("{", "}"), ("0", "0")];
@@ -75,17 +75,16 @@ pub fn tagged(rng: &mut Rng) -> Vec<Row> {
 /// Any row that is no delimiter.
 pub fn plain_row(rng: &mut Rng) -> Row {
     match rng.below(10) {
-        0..=2 => (b'i', rng.pick(&NAMES).into()),
-        3..=4 => (b'i', rng.pick(&WORDS).into()),
-        5 => (b'l', rng.pick(&LITERALS).into()),
-        6..=8 => (
+        0..=2 => row(b'i', rng.pick(&NAMES)),
+        3..=4 => row(b'i', rng.pick(&WORDS)),
+        5 => row(b'l', rng.pick(&LITERALS)),
+        6..=8 => row(
             b'p',
-            rng.pick(&["<", ">", "-", ",", ":", "=", "#", "'", ";"])
-                .into(),
+            rng.pick(&["<", ">", "-", ",", ":", "=", "#", "'", ";"]),
         ),
         _ => {
             let n = rng.below(PUNCTUATION.len());
-            (b'p', PUNCTUATION[n..n + 1].into())
+            row(b'p', &PUNCTUATION[n..n + 1])
         }
     }
 }
@@ -103,12 +102,12 @@ impl Builder<'_> {
     }
 
     pub fn i(&mut self, text: &str) {
-        self.rows.push((b'i', text.into()));
+        self.rows.push(row(b'i', text));
     }
 
     pub fn p(&mut self, text: &str) {
         for c in text.chars() {
-            self.rows.push((b'p', c.to_string()));
+            self.rows.push(row(b'p', c));
         }
     }
 
@@ -118,14 +117,14 @@ impl Builder<'_> {
         } else {
             self.rng.pick(&LITERALS).to_string()
         };
-        self.rows.push((b'l', text));
+        self.rows.push(row(b'l', text));
     }
 
     pub fn group(&mut self, delimiter: usize, inside: impl FnOnce(&mut Self)) {
         let (open, close) = DELIMITERS[delimiter];
-        self.rows.push((b'o', open.into()));
+        self.rows.push(row(b'o', open));
         inside(self);
-        self.rows.push((b'c', close.into()));
+        self.rows.push(row(b'c', close));
     }
 
     pub fn any_group(&mut self, inside: impl FnOnce(&mut Self)) {

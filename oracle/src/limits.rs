@@ -1,20 +1,21 @@
 //! Kind d: lists on the limits.
 
 use crate::grammar::DELIMITERS;
-use crate::lists::{to_bytes, tokens, Row};
+use crate::lists::{row, to_bytes, tokens, Names, Row};
+use crate::marks;
 use crate::rng::Rng;
 
-/// The list of the line's tokens with the `@` in it replaced by other rows.
-fn around(line: &str, inside: &[Row]) -> Vec<u8> {
+/// The line's tokens with the `@` in it replaced by other rows.
+fn around(line: &str, inside: &[Row]) -> Vec<Row> {
     let (before, after) = line.split_once('@').expect("an @ in the line");
-    to_bytes(&[&tokens(before)[..], inside, &tokens(after)].concat())
+    [&tokens(before)[..], inside, &tokens(after)].concat()
 }
 
 pub fn nest(depth: usize, first: usize, inside: &[Row]) -> Vec<Row> {
     let delimiter = |n: usize| DELIMITERS[(first + n) % 4];
-    let mut rows: Vec<Row> = (0..depth).map(|n| (b'o', delimiter(n).0.into())).collect();
+    let mut rows: Vec<Row> = (0..depth).map(|n| row(b'o', delimiter(n).0)).collect();
     rows.extend_from_slice(inside);
-    rows.extend((0..depth).rev().map(|n| (b'c', delimiter(n).1.to_string())));
+    rows.extend((0..depth).rev().map(|n| row(b'c', delimiter(n).1)));
     rows
 }
 
@@ -28,27 +29,28 @@ pub fn name(length: usize) -> String {
 }
 
 /// `struct A ;`, then left-over names up to the given number of bytes.
-pub fn bytes_exactly(total: usize) -> Vec<u8> {
+pub fn bytes_exactly(total: usize, names: Names) -> Vec<Row> {
     let mut rows = tokens("struct A ;");
-    let mut left = total - to_bytes(&rows).len();
+    let mut left = total - to_bytes(&rows, names).len();
+    let beside_text = names.row(&row(b'i', "")).len();
+    let most = 255 + beside_text;
     while left > 0 {
-        let length = if left > 2 * 258 {
-            258
-        } else if left > 258 {
+        let length = if left > 2 * most {
+            most
+        } else if left > most {
             left / 2
         } else {
             left
         };
-        rows.push((b'i', name(length - 3)));
+        rows.push(row(b'i', name(length - beside_text)));
         left -= length;
     }
-    let list = to_bytes(&rows);
-    assert_eq!(list.len(), total);
-    list
+    assert_eq!(to_bytes(&rows, names).len(), total);
+    rows
 }
 
 /// Short lists: nesting, texts, negative values. All of them are made each time.
-pub fn small() -> Vec<Vec<u8>> {
+pub fn small() -> Vec<Vec<Row>> {
     let mut out = Vec::new();
     for (line, around_it) in [
         ("struct A ; @", 0),
@@ -82,11 +84,11 @@ pub fn small() -> Vec<Vec<u8>> {
             "struct A { @ : u8 }",
             "struct A < @ > ;",
         ] {
-            out.push(around(line, &[(b'i', n.clone())]));
+            out.push(around(line, &[row(b'i', n.clone())]));
         }
         for line in ["struct A < ' @ > ;", "enum E { A ( @ ) }", "@ A ;"] {
             let raw = format!("r#{}", &n[..length.max(3) - 2]);
-            out.push(around(line, &[(b'i', raw)]));
+            out.push(around(line, &[row(b'i', raw)]));
         }
         for value in [
             format!("\"{}\"", &n[..length.max(3) - 2]),
@@ -99,7 +101,7 @@ pub fn small() -> Vec<Vec<u8>> {
                 "enum E { A = - @ , B }",
                 "[ p ( k = @ ) ]",
             ] {
-                out.push(around(line, &[(b'l', value.clone())]));
+                out.push(around(line, &[row(b'l', value.clone())]));
             }
         }
     }
@@ -159,37 +161,49 @@ pub fn small() -> Vec<Vec<u8>> {
             "enum E { A = @ }",
             "enum E { A , B = - @ , C }",
         ] {
-            out.push(around(line, &[(b'l', value.into())]));
+            out.push(around(line, &[row(b'l', value)]));
         }
     }
     out
 }
 
-/// Long lists, rows and bytes on their limits: the few that a sample holds.
-pub fn large() -> Vec<Vec<u8>> {
-    let mut malformed = rows_exactly(4_096);
-    malformed.extend_from_slice(b"i r#self\n");
-    vec![
-        bytes_exactly(65_536),
-        bytes_exactly(65_537),
+/// Rows and bytes on their limits.
+pub fn large(rng: &mut Rng, names: Names) -> Vec<Vec<u8>> {
+    let rows = [
+        bytes_exactly(65_536, names),
+        bytes_exactly(65_537, names),
         rows_exactly(4_096),
         rows_exactly(4_097),
-        malformed,
+    ];
+    let mut out = lists(rng, rows, names);
+    let malformed = names.row(&row(b'i', "r#self"));
+    out.push([&out[2], malformed.as_bytes()].concat());
+    out
+}
+
+/// Long declarations: the few that a sample holds.
+pub fn long(rng: &mut Rng, names: Names) -> Vec<Vec<u8>> {
+    let rows = [
         tuple(4_096),
         variants(4_096),
         variants(4_097),
         around("enum E { @ A B }", &repeat("A ,", 2_045)),
         around("struct A < @ > ;", &repeat("T : U ,", 1_022)),
         around("[ p ( @ ) ]", &repeat("k = 1 ,", 1_022)),
-    ]
+    ];
+    lists(rng, rows, names)
+}
+
+fn lists<const N: usize>(rng: &mut Rng, rows: [Vec<Row>; N], names: Names) -> Vec<Vec<u8>> {
+    rows.map(|rows| marks::list(rng, rows, names)).to_vec()
 }
 
 /// `struct A ;` with left-over rows.
-fn rows_exactly(rows: usize) -> Vec<u8> {
+fn rows_exactly(rows: usize) -> Vec<Row> {
     around("struct A ; @", &repeat(";", rows - 3))
 }
 
-fn tuple(rows: usize) -> Vec<u8> {
+fn tuple(rows: usize) -> Vec<Row> {
     let line = match rows % 2 {
         1 => "struct A ( @ ) ;",
         _ => "struct A ( u @ ) ;",
@@ -197,7 +211,7 @@ fn tuple(rows: usize) -> Vec<u8> {
     around(line, &repeat("u ,", (rows - 5) / 2))
 }
 
-fn variants(rows: usize) -> Vec<u8> {
+fn variants(rows: usize) -> Vec<Row> {
     let line = match rows % 2 {
         0 => "enum E { @ }",
         _ => "enum E { @ A }",
@@ -206,36 +220,36 @@ fn variants(rows: usize) -> Vec<u8> {
 }
 
 /// More of them, for the long runs.
-pub fn larger(rng: &mut Rng) -> Vec<Vec<u8>> {
-    let mut out = vec![bytes_exactly(65_535), rows_exactly(4_095)];
+pub fn larger(rng: &mut Rng, names: Names) -> Vec<Vec<u8>> {
+    let rows = [
+        bytes_exactly(65_535, names),
+        rows_exactly(4_095),
+        tuple(4_095),
+        variants(4_095),
+        tuple(4_097),
+        variants(4_097),
+        // Faults in the last rows.
+        around("enum E { @ A = 1 2 }", &repeat("A ,", 2_044)),
+        around("struct A < @", &repeat("T ,", 2_046)),
+        around("struct A { @ a }", &repeat("a : u ,", 1_022)),
+        around("struct A < @ > ;", &repeat("' a ,", 1_363)),
+        around("@ struct A ;", &repeat("# [ a ]", 1_023)),
+        [repeat("(", 32), repeat(";", 4_064)].concat(),
+        [repeat("(", 32), repeat(";", 4_065)].concat(),
+    ];
+    let mut out = lists(rng, rows, names);
     // Wrong in other ways too: the first in the order is told.
-    let mut list = bytes_exactly(65_537);
+    let mut list = to_bytes(&bytes_exactly(65_537, names), names);
     list[0] = b'K';
     out.push(list);
-    let mut list = bytes_exactly(65_536);
+    let mut list = to_bytes(&bytes_exactly(65_536, names), names);
     list.pop();
     out.push(list);
-    for rows in [4_095, 4_097] {
-        out.push(tuple(rows));
-        out.push(variants(rows));
-    }
-    // Faults in the last rows.
-    out.push(around("enum E { @ A = 1 2 }", &repeat("A ,", 2_044)));
-    out.push(around("struct A < @", &repeat("T ,", 2_046)));
-    out.push(around("struct A { @ a }", &repeat("a : u ,", 1_022)));
-    out.push(around("struct A < @ > ;", &repeat("' a ,", 1_363)));
-    out.push(around("@ struct A ;", &repeat("# [ a ]", 1_023)));
     // A row after the last one that may stand, malformed or not even a row.
-    for tail in [&b"\n"[..], b"i", b"c )\n"] {
-        let mut list = rows_exactly(4_096);
-        list.extend_from_slice(tail);
-        out.push(list);
+    for tail in ["\n", "i", &names.row(&row(b'c', ")"))] {
+        let list = to_bytes(&rows_exactly(4_096), names);
+        out.push([&list, tail.as_bytes()].concat());
     }
-    let mut list = to_bytes(&repeat("(", 32));
-    list.extend(b"p ;\n".repeat(4_064));
-    out.push(list.clone());
-    list.extend_from_slice(b"p ;\n");
-    out.push(list);
     // A few with many groups, by chance.
     for _ in 0..4 {
         let inside = nest(rng.below(30), rng.below(4), &tokens("x"));
@@ -243,13 +257,14 @@ pub fn larger(rng: &mut Rng) -> Vec<Vec<u8>> {
         let line: Vec<Row> = (0..times)
             .flat_map(|_| inside.iter().cloned().chain(tokens(",")))
             .collect();
-        out.push(around("struct A ( @ ) ;", &line));
+        let rows = around("struct A ( @ ) ;", &line);
+        out.push(marks::list(rng, rows, names));
     }
     out
 }
 
 /// One negative value by chance, near powers of ten and two.
-pub fn negative(rng: &mut Rng) -> Vec<u8> {
+pub fn negative(rng: &mut Rng) -> Vec<Row> {
     let digits = match rng.below(4) {
         0 => (u64::MAX >> rng.below(64))
             .wrapping_add(rng.below(5) as u64)
@@ -262,5 +277,5 @@ pub fn negative(rng: &mut Rng) -> Vec<u8> {
     };
     let zeros = if rng.one_in(3) { rng.below(6) } else { 0 };
     let value = format!("{}{digits}", "0".repeat(zeros));
-    around("enum E { A = - @ , B }", &[(b'l', value)])
+    around("enum E { A = - @ , B }", &[row(b'l', value)])
 }

@@ -2,6 +2,7 @@
 //!   lists cases COUNT SEED EXAMPLES   kinds a to e, after the examples of a file
 //!   lists checks                      the table of bad input, with the answers of the list check
 //!   lists tokens LINE..               one list for each line of tokens
+//!   lists counts                      what a replay of the sections in standard input is to print
 
 mod bad_input;
 mod bodies;
@@ -11,9 +12,10 @@ mod damage;
 mod grammar;
 mod limits;
 mod lists;
+mod marks;
 mod rng;
 
-use lists::{to_bytes, tokens, write_section};
+use lists::{read_section, to_bytes, tokens, write_section, Names};
 use rng::Rng;
 use std::io::{self, BufWriter, Write};
 
@@ -36,15 +38,24 @@ fn main() -> io::Result<()> {
         }
         Some("tokens") => {
             for line in &args[1..] {
-                write_section(out, "list", &to_bytes(&tokens(line)))?;
+                write_section(out, "list", &list(line))?;
             }
         }
+        Some("counts") => counts(out)?,
         _ => {
-            eprintln!("usage: lists cases COUNT SEED EXAMPLES | checks | tokens LINE..");
+            eprintln!("usage: lists cases COUNT SEED EXAMPLES | checks | tokens LINE.. | counts");
             std::process::exit(2);
         }
     }
     out.flush()
+}
+
+/// The list of tokens in one line; the names with marks where the word `joint` stands before them.
+fn list(line: &str) -> Vec<u8> {
+    match line.trim_start().strip_prefix("joint ") {
+        Some(line) => to_bytes(&tokens(line), Names::Marked),
+        None => to_bytes(&tokens(line), Names::Plain),
+    }
 }
 
 /// The lines of the file of examples: tokens, ` => `, what is expected.
@@ -64,33 +75,45 @@ fn cases(out: &mut impl Write, count: usize, seed: u64, example_text: &str) -> i
         write_section(out, "list", list)
     };
     for (line, expected) in examples(example_text) {
-        put("a", expected, &to_bytes(&tokens(line)))?;
+        put("a", expected, &list(line))?;
     }
     let mut put = |kind: &str, list: &[u8]| put(kind, "", list);
-    for list in limits::small() {
-        put("d", &list)?;
-    }
-    for list in limits::large() {
-        put("d", &list)?;
-    }
-    // A small sample has room for few long lists.
-    if count >= 10_000 {
-        for list in limits::larger(rng) {
-            put("d", &list)?;
+    for rows in limits::small() {
+        put("d", &to_bytes(&rows, Names::Plain))?;
+        if rng.one_in(3) {
+            put("d", &marks::list(rng, rows, Names::Marked))?;
         }
+    }
+    let mut long = limits::large(rng, Names::Plain);
+    long.extend(limits::long(rng, Names::Plain));
+    let marked = limits::large(rng, Names::Marked);
+    // A small sample has room for few long lists: with marks those that pass, the others are in the table.
+    if count < 10_000 {
+        let passes = |list: &Vec<u8>| matches!(check::check(list), check::Check::Rows(_));
+        long.extend(marked.into_iter().filter(passes));
+    } else {
+        long.extend(marked);
+        long.extend(limits::long(rng, Names::Marked));
+        long.extend(limits::larger(rng, Names::Plain));
+        long.extend(limits::larger(rng, Names::Marked));
+    }
+    for list in long {
+        put("d", &list)?;
     }
     let share = |hundredths: usize| count * hundredths / 100;
     for _ in 0..share(2) {
-        put("d", &limits::negative(rng))?;
+        let rows = limits::negative(rng);
+        put("d", &marks::some(rng, rows))?;
     }
     for _ in 0..share(8) {
         put("e", &damage::bad_bytes(rng))?;
     }
-    for list in contexts::lists(rng, share(40)) {
-        put("c", &list)?;
+    for rows in contexts::lists(rng, share(40)) {
+        put("c", &marks::some(rng, rows))?;
     }
     for _ in 0..share(25) {
-        put("b", &to_bytes(&damage::damaged(rng)))?;
+        let rows = damage::damaged(rng);
+        put("b", &marks::some(rng, rows))?;
     }
     for _ in 0..count - share(2) - share(8) - share(40) - share(25) {
         let rows = if rng.one_in(6) {
@@ -98,7 +121,33 @@ fn cases(out: &mut impl Write, count: usize, seed: u64, example_text: &str) -> i
         } else {
             grammar::declaration(rng)
         };
-        put("a", &to_bytes(&rows))?;
+        put("a", &marks::some(rng, rows))?;
     }
     Ok(())
+}
+
+/// How many sections of each sort there are, and no differences.
+fn counts(out: &mut impl Write) -> io::Result<()> {
+    const SORTS: [(&str, &[&str]); 6] = [
+        ("check", &["check"]),
+        ("roles", &["roles"]),
+        ("every", &["every"]),
+        ("listing", &["listing"]),
+        ("generics", &["impl", "type", "additional"]),
+        ("tagged", &["tagged"]),
+    ];
+    let mut counts = [0; SORTS.len()];
+    let input = &mut io::stdin().lock();
+    while let Some((name, _)) = read_section(input)? {
+        if let Some(n) = SORTS
+            .iter()
+            .position(|(_, names)| names.contains(&name.as_str()))
+        {
+            counts[n] += 1;
+        }
+    }
+    for ((sort, _), count) in SORTS.iter().zip(counts) {
+        writeln!(out, "{sort} {count}")?;
+    }
+    writeln!(out, "differences 0")
 }

@@ -51,7 +51,7 @@ impl Reader<'_> {
     }
 
     fn next_is(&self, s: &Stream, kind: u8, text: &str) -> bool {
-        !self.ended(s) && self.rows[s.at].0 == kind && self.rows[s.at].1 == text
+        !self.ended(s) && self.rows[s.at].kind == kind && self.rows[s.at].text == text
     }
 
     fn next_punct(&self, s: &Stream, text: &str) -> bool {
@@ -59,12 +59,13 @@ impl Reader<'_> {
     }
 
     fn next_kind(&self, s: &Stream, kind: u8) -> bool {
-        !self.ended(s) && self.rows[s.at].0 == kind
+        !self.ended(s) && self.rows[s.at].kind == kind
     }
 
     /// The opening delimiter of the group that comes next.
     fn next_group(&self, s: &Stream) -> Option<&str> {
-        self.next_kind(s, b'o').then(|| self.rows[s.at].1.as_str())
+        self.next_kind(s, b'o')
+            .then(|| self.rows[s.at].text.as_str())
     }
 
     /// Gives the next token its role, a group with all its rows.
@@ -92,7 +93,7 @@ impl Reader<'_> {
             return Some(s.at);
         }
         let alone = self.next_kind(s, b'o') && self.mate[s.at] == s.at + 2;
-        (alone && self.rows[s.at + 1].0 == b'i').then_some(s.at + 1)
+        (alone && self.rows[s.at + 1].kind == b'i').then_some(s.at + 1)
     }
 
     fn optional(&mut self, s: &mut Stream, punct: &str) -> bool {
@@ -107,7 +108,7 @@ impl Reader<'_> {
         let mut depth = 0;
         let mut after_minus = false;
         while !self.ended(s) {
-            let (kind, text) = (self.rows[s.at].0, self.rows[s.at].1.clone());
+            let (kind, text) = (self.rows[s.at].kind, self.rows[s.at].text.clone());
             let stop = stops.contains(text.as_str());
             match kind {
                 b'p' if text == ">" && after_minus => {}
@@ -128,7 +129,7 @@ impl Reader<'_> {
         self.attributes(s)?;
         self.visibility(s);
         let word = self.word(s).ok_or((11, self.place(s)))?;
-        let is_struct = match self.rows[word].1.as_str() {
+        let is_struct = match self.rows[word].text.as_str() {
             "struct" => true,
             "enum" => false,
             _ => return Err((25, word)),
@@ -204,12 +205,14 @@ impl Reader<'_> {
         if self.next_is(s, b'i', "pub") {
             self.take(s, 4);
             if self.next_group(s) == Some("(") {
-                let (kind, text) = &self.rows[s.at + 1];
+                let Row { kind, text, .. } = &self.rows[s.at + 1];
                 if *kind == b'i' && ["crate", "self", "super", "in"].contains(&text.as_str()) {
                     self.take(s, 5);
                 }
             }
-        } else if self.next_kind(s, b'o') && self.word(s).is_some_and(|w| self.rows[w].1 == "pub") {
+        } else if self.next_kind(s, b'o')
+            && self.word(s).is_some_and(|w| self.rows[w].text == "pub")
+        {
             self.take(s, 4);
             if self.next_kind(s, b'o') {
                 self.take(s, 5);
@@ -308,7 +311,7 @@ impl Reader<'_> {
         }
         if negative {
             // Worth counts, not length: without leading zeros, compared as text.
-            let text = &self.rows[s.at].1;
+            let text = &self.rows[s.at].text;
             let digits = text.trim_start_matches('0');
             let most = "9223372036854775807";
             let fits = (digits.len(), digits) <= (most.len(), most);

@@ -1,22 +1,41 @@
 //! What the Rust's answer to an accepted list says of its rows, and its listing.
 
 use crate::check::END;
+use crate::lists::Row;
 use crate::parse::{Attribute, Fields, Generic, Parse, UnnamedField};
 use crate::refusals::place;
 use proc_macro::{Span, TokenTree};
 
+/// Whether a row is a joint `'` with a name after it. The compiler makes one token of the two, so that
+/// the name's span begins where the `'` does.
+pub fn lifetimes(rows: &[Row]) -> Vec<bool> {
+    let next_is_name = |n: usize| rows.get(n + 1).is_some_and(|next| next.kind == b'i');
+    let lifetime = |(n, row): (usize, &Row)| row.joint && row.text == "'" && next_is_name(n);
+    rows.iter().enumerate().map(lifetime).collect()
+}
+
+/// The row whose name or literal has this span, or the end mark.
+pub fn row_of(span: Span, lifetimes: &[bool]) -> usize {
+    match place(span) {
+        END => END,
+        row => row + usize::from(lifetimes[row]),
+    }
+}
+
 pub struct Reading<'a> {
     mate: &'a [usize],
+    lifetimes: &'a [bool],
     /// A letter for each row that is named, `.` for the others.
     pub roles: Vec<u8>,
     pub listing: String,
 }
 
 impl<'a> Reading<'a> {
-    pub fn new(rows: usize, mate: &'a [usize], parse: &Parse) -> Self {
+    pub fn new(mate: &'a [usize], lifetimes: &'a [bool], parse: &Parse) -> Self {
         let mut r = Reading {
             mate,
-            roles: vec![b'.'; rows],
+            lifetimes,
+            roles: vec![b'.'; mate.len()],
             listing: String::from("part name number\n"),
         };
         let (
@@ -85,7 +104,7 @@ impl<'a> Reading<'a> {
     }
 
     fn mark(&mut self, span: Span, role: u8) {
-        let row = place(span);
+        let row = row_of(span, self.lifetimes);
         if row != END {
             self.set(row, role);
         }
@@ -93,7 +112,10 @@ impl<'a> Reading<'a> {
 
     /// A token of a run or an attribute: a group with all its rows.
     fn tree(&mut self, token: &TokenTree, role: u8) {
-        let row = place(token.span());
+        let row = match token {
+            TokenTree::Ident(name) => row_of(name.span(), self.lifetimes),
+            _ => place(token.span()),
+        };
         assert_ne!(row, END, "a token of the list has a row");
         for n in row..=self.mate[row].max(row) {
             self.set(n, role);
@@ -114,7 +136,7 @@ impl<'a> Reading<'a> {
         match generic {
             Generic::Lifetime(lifetime) => {
                 // The Rust drops the `'`, which stands directly before the name.
-                let row = place(name.span());
+                let row = row_of(name.span(), self.lifetimes);
                 self.set(row - 1, 9);
                 text.insert(0, '\'');
                 for token in &lifetime.constraint {

@@ -15,6 +15,7 @@ mod reading;
 mod refusals;
 mod rng;
 mod trees;
+mod written;
 
 /// Reads the cases in the file `ORACLE_IN` and writes them with the answers to `ORACLE_OUT`, the
 /// counts to `ORACLE_COUNTS`. The tokens of the invocation are commas whose spans stand for rows.

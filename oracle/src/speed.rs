@@ -1,6 +1,7 @@
 //! How long reading takes: nanoseconds a row on several inputs, beside virtue's `Parse::new` from ready tokens and beside one
 //! pass over the list's bytes that only counts LFs, and the growth from a quarter of the rows. Every ratio is of two times
-//! measured in this one run. Built by oracle/speed.sh.
+//! measured in this one run. Each input is there once more, with `-joint` behind its name: the same tokens under
+//! the names `kind joint text`. Built by oracle/speed.sh.
 //! usage: speed [ours NAME [TIMES]]: all of it, or our reader alone on one input (100 times), for a count of instructions.
 extern crate proc_macro2 as proc_macro;
 
@@ -13,8 +14,8 @@ mod kusthrila;
 mod lists;
 mod trees;
 
-use kusthrila::{read, MOST_ROWS};
-use lists::{to_bytes, tokens, Row};
+use kusthrila::{check, read, MOST_ROWS};
+use lists::{to_bytes, tokens, Names, Row};
 use prelude::{Ident, Literal, Punct, Spacing, Span, TokenStream};
 use std::hint::black_box;
 use std::time::Instant;
@@ -25,7 +26,20 @@ struct List {
 }
 
 fn list(rows: Vec<Row>) -> List {
-    List { bytes: to_bytes(&rows), rows }
+    List { bytes: to_bytes(&rows, Names::Plain), rows }
+}
+
+// The same tokens with marks; the longest names lose a few rows, since no list has more than 65,536 bytes.
+fn marked(list: &List) -> List {
+    let mut rows = list.rows.clone();
+    while to_bytes(&rows, Names::Marked).len() > 65_536 {
+        rows.drain(3..5);
+    }
+    for n in 1..rows.len() {
+        let pair = [rows[n - 1].text.as_str(), rows[n].text.as_str()].concat();
+        rows[n - 1].joint = rows[n - 1].joint || ["::", "->", ">>", "<'", "&'", ">,"].contains(&pair.as_str());
+    }
+    List { bytes: to_bytes(&rows, Names::Marked), rows }
 }
 
 // As many parts as fit into so many rows.
@@ -113,10 +127,22 @@ const SIZED: [(&str, fn(usize) -> List); 6] = [
     ("names", long_names),
 ];
 
-fn inputs() -> Vec<(&'static str, Vec<List>)> {
-    let mut inputs: Vec<_> = SIZED.iter().map(|(name, make)| (*name, vec![make(4000)])).collect();
-    inputs.insert(1, ("small", small()));
-    inputs
+fn inputs() -> Vec<(String, Vec<List>)> {
+    let mut inputs: Vec<_> = SIZED.iter().map(|(name, make)| (name.to_string(), vec![make(4000)])).collect();
+    inputs.insert(1, ("small".into(), small()));
+    if !knows_marks() {
+        return inputs;
+    }
+    let with_marks = |(name, input): (String, Vec<List>)| {
+        let second = (format!("{name}-joint"), input.iter().map(marked).collect());
+        [(name, input), second]
+    };
+    inputs.into_iter().flat_map(with_marks).collect()
+}
+
+// Before the names `kind joint text` were added, the reader refused them.
+fn knows_marks() -> bool {
+    check(Names::Marked.line().as_bytes()).is_ok()
 }
 
 // The least of 50 times of a call, and of the call with the freeing of its answer, in nanoseconds. What it takes is made anew
@@ -162,10 +188,13 @@ fn a_byte_a_row(list: &List) -> usize {
 }
 
 fn stream(list: &List) -> TokenStream {
-    let leaf = |kind: u8, text: &str, span: Span| match kind {
-        b'i' => Ident::new(text, span).into(),
-        b'l' => text.parse::<Literal>().expect("a literal").into(),
-        _ => Punct::new(char::from(text.as_bytes()[0]), Spacing::Alone).into(),
+    let leaf = |row: &Row, span: Span| match row.kind {
+        b'i' => Ident::new(&row.text, span).into(),
+        b'l' => row.text.parse::<Literal>().expect("a literal").into(),
+        _ => {
+            let spacing = if row.joint { Spacing::Joint } else { Spacing::Alone };
+            Punct::new(char::from(row.text.as_bytes()[0]), spacing).into()
+        }
     };
     trees::trees(&list.rows, |_| Span::call_site(), leaf).into_iter().collect()
 }
@@ -218,13 +247,16 @@ fn table() {
         parse::Parse::new(stream(list)).expect("a declaration");
     }
     let times = in_turns(|| {
-        let turn = |(_, input): &(&str, Vec<List>)| {
+        let turn = |(_, input): &(String, Vec<List>)| {
             let (theirs, freed) = original(input);
             let [slow, usual, fast] = [byte_by_byte, plain, vectorised].map(|count| pass(input, count));
             [reading(input, a_byte_a_row), theirs, freed, slow, usual, fast]
         };
         inputs.iter().map(turn).collect()
     });
+    if !knows_marks() {
+        println!("without the marked inputs: the reader refuses the names kind joint text");
+    }
     println!(
         "input rows bytes ns-a-row virtue-ns-a-row times-as-fast virtue-freed-ns-a-row times-as-fast of-the-pass-byte-by-byte \
          of-the-plain-loop of-the-vectorised"
@@ -246,10 +278,18 @@ fn table() {
     let lent = in_turns(|| vec![[reading(&input, |_| MOST_ROWS), reading(&input, a_byte_a_row)]])[0];
     println!("small with {MOST_ROWS} role bytes lent to each: {:.2} times as long", lent[0] / lent[1]);
     println!("input growth-a-row-from-a-quarter-of-the-rows");
-    let inputs = SIZED.map(|(_, make)| [[make(1000)], [make(4000)]]);
+    let sizes = |make: fn(usize) -> List| [1000, 4000].map(|rows| [make(rows)]);
+    let mut inputs: Vec<_> = SIZED.iter().map(|(name, make)| (name.to_string(), sizes(*make))).collect();
+    if knows_marks() {
+        let joint = |(name, sizes): &(String, [[List; 1]; 2])| {
+            let sizes = sizes.each_ref().map(|[list]| [marked(list)]);
+            (format!("{name}-joint"), sizes)
+        };
+        inputs.extend(inputs.iter().map(joint).collect::<Vec<_>>());
+    }
     let a_row = |input: &[List; 1]| reading(input, a_byte_a_row) / input[0].rows.len() as f64;
-    let times = in_turns(|| inputs.iter().map(|sizes| sizes.each_ref().map(a_row)).collect());
-    for ((name, _), [short, long]) in SIZED.iter().zip(times) {
+    let times = in_turns(|| inputs.iter().map(|(_, sizes)| sizes.each_ref().map(a_row)).collect());
+    for ((name, _), [short, long]) in inputs.iter().zip(times) {
         println!("{name} {:.2}", long / short);
     }
 }

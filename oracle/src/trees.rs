@@ -8,18 +8,18 @@ use crate::prelude::{Delimiter, Group, Span, TokenStream, TokenTree};
 pub fn trees(
     rows: &[Row],
     span: impl Fn(usize) -> Span,
-    mut leaf: impl FnMut(u8, &str, Span) -> TokenTree,
+    mut leaf: impl FnMut(&Row, Span) -> TokenTree,
 ) -> Vec<TokenTree> {
     let mut stack: Vec<(usize, Vec<TokenTree>)> = vec![(0, Vec::new())];
-    for (n, (kind, text)) in rows.iter().enumerate() {
-        let tree = match kind {
+    for (n, row) in rows.iter().enumerate() {
+        let tree = match row.kind {
             b'o' => {
                 stack.push((n, Vec::new()));
                 continue;
             }
             b'c' => {
                 let (open, inside) = stack.pop().expect("checked");
-                let delimiter = match text.as_str() {
+                let delimiter = match row.text.as_str() {
                     ")" => Delimiter::Parenthesis,
                     "]" => Delimiter::Bracket,
                     "}" => Delimiter::Brace,
@@ -29,7 +29,7 @@ pub fn trees(
                 group.set_span(span(open));
                 TokenTree::Group(group)
             }
-            _ => leaf(*kind, text, span(n)),
+            _ => leaf(row, span(n)),
         };
         stack.last_mut().expect("checked").1.push(tree);
     }

@@ -1,5 +1,11 @@
 //! Safe functions over the proved reader of token lists. Nothing is allocated, but for the vector that `tagged` returns, and
 //! nothing global is kept; a call needs at most 16,384 bytes of stack (`include/kusthrila.h` says how that was measured).
+//!
+//! A list is a text: a line of names, `kind text` or `kind joint text`, then a line for each row, as `p :` or, with the second
+//! names, `p 1 :`. The column between kind and text is the row's mark: 1 for a punctuation that is joint, that is, the next one
+//! (after `'` the name) follows it at once, else 0; kinds other than `p` have 0. With the names `kind text`, `'` is joint and no
+//! other punctuation is. Every function takes lists with either names. Marks change no role, refusal, place, listing, value or
+//! entry; only what the writers of generics write has marks.
 
 pub mod refusal;
 pub mod role;
@@ -39,13 +45,13 @@ pub const MOST_ROWS: usize = 4096;
 /// No listing is longer: `MOST` in `crates/describe/specs/Listing.antt`, of which the law `fits` is proved.
 pub const MOST_LISTING: usize = 147_473;
 
-/// No list that `impl_generics` or `type_generics` writes is longer: `MOST` in `crates/writing/specs/Answer.antt`, of which the
-/// laws are proved in `crates/writing/proofs/Lengths.antt`.
-pub const MOST_GENERICS: usize = 98_304;
+/// No list that `impl_generics` or `type_generics` writes is longer, with either names: `MOST` in
+/// `crates/writing/specs/Answer.antt`, of which the laws are proved in `crates/writing/proofs/Lengths.antt`.
+pub const MOST_GENERICS: usize = 114_688;
 
 /// How many bytes of output `impl_generics_with_additional` needs at most, by the lengths of the two texts.
 pub const fn most_added(lifetimes: usize, types: usize) -> usize {
-    MOST_GENERICS.saturating_add(lifetimes.saturating_mul(12)).saturating_add(types.saturating_mul(8))
+    MOST_GENERICS.saturating_add(lifetimes.saturating_mul(18)).saturating_add(types.saturating_mul(12))
 }
 
 /// A scratch must have as many bytes.
@@ -122,7 +128,8 @@ pub fn listing<'a>(list: &[u8], out: &'a mut [u8]) -> Result<&'a [u8], Refusal> 
 }
 
 /// Writes the generics as they stand behind `impl`, without defaults, as a token list at the start of `out` and returns that part.
-/// After a refusal `out` is as it was.
+/// After a refusal `out` is as it was. What is written has the names of the list that was read. With marks, a copied bound or const
+/// type keeps its own, but that every `'` goes out joint; the rows that the writer makes itself are not joint, but for `'`.
 pub fn impl_generics<'a>(list: &[u8], out: &'a mut [u8]) -> Result<&'a [u8], Refusal> {
     // SAFETY: both are slices, `out` is borrowed alone, and the call writes nothing past it.
     let code = unsafe { kusthrila_impl_generics(list.as_ptr(), list.len(), out.as_mut_ptr(), out.len()) };
@@ -178,8 +185,9 @@ pub fn tagged<'a>(list: &'a [u8], prefix: &[u8], roles: &mut [u8]) -> Result<Opt
     if answer(code)? == 0 {
         return Ok(None);
     }
-    // Row n is line n + 1 after the line of names: its kind, one space, its text.
-    let texts = list.split(|byte| *byte == b'\n').skip(1).map(|line| line.get(2..).unwrap_or_default());
+    // Row n is line n + 1 after the line of names: its kind, its joint mark where the names have it, its text.
+    let before = if list.starts_with(b"kind joint text\n") { 4 } else { 2 };
+    let texts = list.split(|byte| *byte == b'\n').skip(1).map(|line| line.get(before..).unwrap_or_default());
     let (mut entries, mut key) = (Vec::new(), &list[..0]);
     for (text, role) in texts.zip(roles.iter()) {
         match *role {
@@ -324,6 +332,83 @@ mod tests {
         let comma = b"kind text\no [\ni p\no (\ni k\np =\nl 1\ni b\nc )\nc ]\n";
         assert_eq!(tagged(comma, b"p", &mut roles), refused(refusal::NO_ENTRY_COMMA, Place::Row(6)));
         assert_eq!(roles, [NO_ROLE; 11]);
+    }
+
+    // The list with marks of a list without: 0 in every row but those that are named.
+    fn marked(list: &[u8], joint: &[usize]) -> Vec<u8> {
+        let rows = list.strip_prefix(b"kind text\n").unwrap().split_inclusive(|byte| *byte == b'\n');
+        let mut made = b"kind joint text\n".to_vec();
+        for (n, row) in rows.enumerate() {
+            made.extend_from_slice(&row[..2]);
+            made.extend_from_slice(if joint.contains(&n) { b"1 " } else { b"0 " });
+            made.extend_from_slice(&row[2..]);
+        }
+        made
+    }
+
+    #[test]
+    fn reads_alike_with_marks() {
+        let list = b"kind text\ni enum\ni E\no {\ni A\np =\np -\nl 007\np ,\ni B\np =\nl 0x1F\nc }\n";
+        let puncts = [4, 5, 7, 9];
+        let (mut roles, mut out, mut scratch) = ([7u8; 16], [7u8; 128], [7u8; SCRATCH]);
+        assert_eq!(read(list, &mut roles), Ok(Kind::Enum));
+        let listed = listing(list, &mut out).unwrap().to_vec();
+        for joint in [&[][..], &puncts[..1], &puncts[1..], &puncts[..]] {
+            let list = marked(list, joint);
+            let mut again = [7u8; 16];
+            assert_eq!(check(&list), Ok(12));
+            assert_eq!(read(&list, &mut again), Ok(Kind::Enum));
+            assert_eq!(again, roles);
+            assert_eq!(listing(&list, &mut out), Ok(&listed[..]));
+            assert_eq!(value(&list, 0, &mut scratch), Ok(Some(&b"-7"[..])));
+            assert_eq!(value(&list, 1, &mut scratch), Ok(Some(&b"0x1F"[..])));
+        }
+        let list = b"kind text\no [\ni p\no (\ni skip\np ,\ni name\np =\nl \"a b\"\nc )\nc ]\n";
+        let entries = vec![Entry::Tag(b"skip"), Entry::Property(b"name", b"\"a b\"")];
+        assert_eq!(tagged(&marked(list, &[4, 6]), b"p", &mut roles), Ok(Some(entries)));
+        // The place of a refusal stays.
+        let list = b"kind text\ni struct\ni A\no {\ni a\np :\ni u8\np >\nc }\n";
+        let refused = Err(Refusal { number: refusal::UNMATCHED_ANGLE, place: Place::Row(6) });
+        assert_eq!(read(list, &mut roles), refused);
+        assert_eq!(read(&marked(list, &[4, 6]), &mut roles), refused);
+    }
+
+    #[test]
+    fn refuses_wrong_marks() {
+        let refused = |number, place| Err(Refusal { number, place });
+        assert_eq!(check(b"kind joint text\n"), Ok(0));
+        assert_eq!(check(b"kind joint text\np 1 :\np 0 :\nl 0 0 1\no 0 0\nc 0 0\n"), Ok(5));
+        for row in ["i 1 A", "l 1 1", "o 1 (", "c 1 )", "p 2 :", "p :", "p  :", "p 1:", "p 0 0 :", "p 11 :", "i A", "i 0 "] {
+            let list = format!("kind joint text\ni 0 struct\n{row}\n");
+            assert_eq!(check(list.as_bytes()), refused(refusal::ROW_FORM, Place::Row(1)), "{row}");
+        }
+        assert_eq!(check(b"kind text\np 1 :\n"), refused(refusal::ROW_FORM, Place::Row(0)));
+        let third = ["kind joint  text", "kind joint", "kind joint text ", "kind text joint", "joint kind text", "kind Joint text"];
+        for names in third {
+            let list = format!("{names}\ni 0 struct\n");
+            assert_eq!(check(list.as_bytes()), refused(refusal::LINE_OF_NAMES, Place::End), "{names}");
+        }
+        assert_eq!(check(b"kind joint text"), refused(refusal::LINE_OF_NAMES, Place::End));
+    }
+
+    #[test]
+    fn writes_marks() {
+        // `struct A < ' a : ' b , T : x : : y , const N > ;`: the first `:` of `::` is joint, all punctuation that is not copied is,
+        // and no `'` is.
+        let list = b"kind joint text\ni 0 struct\ni 0 A\np 1 <\np 0 '\ni 0 a\np 1 :\np 0 '\ni 0 b\np 1 ,\ni 0 T\np 1 :\n\
+            i 0 x\np 1 :\np 0 :\ni 0 y\np 1 ,\ni 0 const\ni 0 N\np 1 >\np 1 ;\n";
+        let mut out = [7u8; 512];
+        let written = b"kind joint text\np 0 <\np 1 '\ni 0 a\np 0 :\np 1 '\ni 0 b\np 0 ,\ni 0 T\np 0 :\n\
+            i 0 x\np 1 :\np 0 :\ni 0 y\np 0 ,\ni 0 const\ni 0 N\np 0 :\np 0 >\n";
+        assert_eq!(impl_generics(list, &mut out), Ok(&written[..]));
+        assert_eq!(out[written.len()..], [7; 512][written.len()..]);
+        let names = b"kind joint text\np 0 <\np 1 '\ni 0 a\np 0 ,\ni 0 T\np 0 ,\ni 0 N\np 0 >\n";
+        assert_eq!(type_generics(list, &mut out), Ok(&names[..]));
+        let angled = b"kind joint text\ni 0 struct\ni 0 A\np 0 <\np 0 >\np 0 ;\n";
+        let added = b"kind joint text\np 0 <\np 1 '\ni 0 x\np 0 ,\ni 0 Y\np 0 >\n";
+        assert_eq!(impl_generics_with_additional(angled, b"x", b"Y", &mut out), Ok(&added[..]));
+        let plain = b"kind joint text\ni 0 struct\ni 0 A\np 0 ;\n";
+        assert_eq!(impl_generics(plain, &mut out), Ok(&b"kind joint text\n"[..]));
     }
 
     // What `same_name` is to answer, said with the standard library.

@@ -1,10 +1,10 @@
-//! The refusals' numbers. 9, 10 and 30 are none. README.md says where each one's place is, and which comes first.
+//! The refusals' numbers. 9 and 10 are none. README.md says where each one's place is, and which comes first.
 
 /// More than 65,536 bytes.
 pub const TOO_LONG: u8 = 1;
-/// The first line is not `kind text`.
+/// The first line is neither `kind text` nor `kind joint text`.
 pub const LINE_OF_NAMES: u8 = 2;
-/// A row's form, its text's length or its LF is wrong.
+/// A row's form (its mark too), its text's length or its LF is wrong.
 pub const ROW_FORM: u8 = 3;
 /// A further row begins after 4,096.
 pub const TOO_MANY_ROWS: u8 = 4;

@@ -8,10 +8,12 @@ use native.Mathlib.Omega.{arith}
 use borrow.Author.Tests.{lt-ltb, le-ltb, le-leb}
 use lib.ListN.{length}
 use lib.Seq.{slice, sets}
+use Rattle.token_list.specs.Layout.{marked, firstRow}
 use Rattle.token_list.specs.Check as list
 use lib.Dec.{ltb}
 use Rattle.token_list.specs.Place.{OneRefusal}
 use Rattle.token_list.specs.Stream.{at, rowStart}
+use Rattle.token_list.proofs.Columns.{offset-low}
 use Rattle.token_list.proofs.Starts.{next-start}
 use Rattle.reading.specs.Answer.{framed, readNumber}
 use Rattle.reading.specs.Place.{start, valueRow}
@@ -77,7 +79,7 @@ module _ {s : List ℕ} {v : ValueAt} (x : Point) (w : declaration.Value) (k : V
         place = here ∙ ap (λ (n : ℕ). places.InList (textStart s n) (textEnd s n)) same ∙ sym (ap (placeOf s) a);
         text = inside ∙ sym (ap valueText a);
         range = (
-          omega (arith, token .start),
+          omega (arith, token .start, offset-low (marked s)),
           omega (arith, token .start, token .end .text),
           omega (arith, token .end .within, short),
         );
@@ -125,7 +127,7 @@ module _ (s : List ℕ) (k n : ℕ) where
   value-short e h = ap framedBy e ∙ chosen _ _ _ (lt-ltb n 20 h)
 
   pub value-read : {r : ℕ} → list.check s ≡ list.Answer.passed r → 20 ≤ n →
-      answer s k n ≡ itemAnswer (start s) k (item 0 (at s 10 .here))
+      answer s k n ≡ itemAnswer (start s) k (item 0 (at s (firstRow s) .here))
   unfolding answer
   value-read e h = ap framedBy e ∙ passed-over _ _ _ (le-ltb n 20 h)
 
@@ -161,7 +163,7 @@ module _ (s : List ℕ) (n : ℕ) where
   listing-checked e = ap fittedBy e
 
   pub listing-read : {r : ℕ} → list.check s ≡ list.Answer.passed r →
-      listing.answer s n ≡ outputs.fitted n (listing.itemAnswer (item 0 (at s 10 .here)))
+      listing.answer s n ≡ outputs.fitted n (listing.itemAnswer (item 0 (at s (firstRow s) .here)))
   unfolding listing.answer listing.fullAnswer
   listing-read e = ap fittedBy e
 

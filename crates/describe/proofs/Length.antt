@@ -8,6 +8,7 @@ use borrow.Author.Tests.{leb-true}
 use lib.Dec.{leb}
 use lib.ListN.{length, take, length-append}
 use lib.Seq.{length-take-le}
+use Rattle.token_list.specs.Layout.{firstRow}
 use Rattle.token_list.specs.Check as list
 use Rattle.token_list.specs.Place.{OneRefusal}
 use Rattle.reading.specs.Answer.{readNumber}
@@ -129,14 +130,15 @@ within (wrote text) r = r
 within (refused n p) r = tt
 
 module _ (s : List ℕ) where
-  by-item : {n : ℕ} → list.check s ≡ list.Answer.passed n → (t : Took Declaration) → item 0 (at s 10 .here) ≡ t →
+  by-item : {n : ℕ} → list.check s ≡ list.Answer.passed n → (t : Took Declaration) → item 0 (at s (firstRow s) .here)
+      ≡ t →
       Right (itemAnswer t)
   by-item {n} e (took d rs us) f =
       let b = bounds.bounds s e in
-      let c : itemCost d ≤ 147456 = omega (arith, item-cost 0 (at s 10 .here) f, passed-list s n e .size) in
+      let c : itemCost d ≤ 147456 = omega (arith, item-cost 0 (at s (firstRow s) .here) f, passed-list s n e .size) in
       omega (arith, listing-length d (omega arith))
   by-item e (stopped w n p) f = λ q. true≢false
-      (sym (refusal-number (item-conserved (at s 10 .here) f)) ∙ ap ownNumber q)
+      (sym (refusal-number (item-conserved (at s (firstRow s) .here) f)) ∙ ap ownNumber q)
 
   right : Right (fullAnswer s)
   unfolding fullAnswer

@@ -5,3 +5,4 @@ pub mod Answers
 pub mod Costs
 pub mod Lined
 pub mod Length
+pub mod Marks

@@ -7,7 +7,7 @@ use lib.Dec.{leb, eqb}
 use lib.Seq.{slice}
 use mathlib.Core.Bool.{Bool, true, false, cond}
 use Rattle.token_list.specs.Byte.{BRACE}
-use Rattle.token_list.specs.Layout.{TEXT-OFFSET, MAX-BYTES}
+use Rattle.token_list.specs.Layout.{marked, textOffset, MAX-BYTES}
 use Rattle.token_list.specs.Stream.{rowStart}
 use Rattle.token_list.specs.declared.check.Cursor.{Cursor}
 use Rattle.reading.specs.Declaration as declaration
@@ -45,7 +45,7 @@ partOf s x (places.Refused r) = []
 
 -- where the text of a row stands in a list
 abbrev pub textStart : List ℕ → ℕ → ℕ
-textStart s row = rowStart s row + TEXT-OFFSET
+textStart s row = rowStart s row + textOffset (marked s)
 
 abbrev pub textEnd : List ℕ → ℕ → ℕ
 textEnd s row = rowStart s (row + 1) - 1

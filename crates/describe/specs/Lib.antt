@@ -1,5 +1,7 @@
--- What the describe crate's contracts say. Value and Listing state the texts, from document 01; Contract ties the
+-- What the describe crate's contracts say. Value and Listing state the texts, from document 01; Marks
+-- that marks change nothing of them; Contract ties the
 -- code's answers to them.
 pub mod Value
 pub mod Listing
+pub mod Marks
 pub mod Contract

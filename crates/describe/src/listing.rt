@@ -27,7 +27,7 @@ use token_list::check::Cursor;
 use token_list::check::END;
 use token_list::check::Refusal;
 use token_list::check::check;
-use token_list::layout::FIRST_ROW;
+use token_list::check::start;
 use token_list::layout::MAX_ROWS;
 use token_list::stream::Peeked;
 use token_list::stream::peek;
@@ -36,10 +36,10 @@ ghost use mathlib.Core.Path.{_≡_};
 ghost use mathlib.Core.List.{List};
 ghost use Prim.Native.Nat.{ℕ};
 ghost use lib.ListN.{length};
-ghost use Rattle.token_list.specs.Layout.{FIRST-ROW};
+ghost use Rattle.token_list.specs.Layout.{firstRow};
 ghost use Rattle.token_list.specs.Stream.{at};
 ghost use Rattle.token_list.specs.Place.{OneRefusal};
-ghost use Rattle.token_list.specs.Contract.{InList};
+ghost use Rattle.token_list.specs.Contract.{InList, startOf};
 ghost use Rattle.output.specs.Contract.{Put};
 ghost use Rattle.output.specs.Answer.{wrote, refused, fitted};
 ghost use Rattle.output.specs.Written.{WrittenAs};
@@ -264,14 +264,12 @@ fn fit_listing(s: &[u8], d: ItemAt, roles: &mut [u8], out: &mut [u8]) -> Written
 
 // The listing of a list that passes the check.
 fn read_listing(s: &[u8], out: &mut [u8], roles: &mut [u8]) -> Written
-    requires { ⌜ InList (now s) (record { at = FIRST-ROW; row = 0 }) ⌝ }
+    requires { ⌜ InList (now s) (startOf (now s)) ⌝ }
     ensures { λ r. ⌜ WrittenAs (now (out .entry)) (now (out .exit))
-        (fitted (length (now (out .entry))) (itemAnswer (item 0 (at (now (s .entry)) FIRST-ROW .here)))) r ⌝ }
+        (fitted (length (now (out .entry)))
+        (itemAnswer (item 0 (at (now (s .entry)) (firstRow (now (s .entry))) .here)))) r ⌝ }
 {
-    let c = Cursor {
-        at: FIRST_ROW,
-        row: 0,
-    };
+    let c = start(s);
     match item(s, c, roles) {
         ItemStep::Refused(r) => Written::Refused(r),
         ItemStep::At(d) => fit_listing(s, d, roles, out),

@@ -14,7 +14,7 @@ use token_list::check::Cursor;
 use token_list::check::END;
 use token_list::check::Refusal;
 use token_list::check::check;
-use token_list::layout::FIRST_ROW;
+use token_list::check::start;
 use token_list::layout::MAX_ROWS;
 use token_list::stream::Peeked;
 use token_list::stream::peek;
@@ -24,10 +24,10 @@ ghost use mathlib.Core.List.{List};
 ghost use Prim.Native.Nat.{ℕ, _≤_};
 ghost use lib.ListN.{length};
 ghost use lib.Seq.{slice};
-ghost use Rattle.token_list.specs.Layout.{FIRST-ROW, MAX-BYTES};
+ghost use Rattle.token_list.specs.Layout.{firstRow, MAX-BYTES};
 ghost use Rattle.token_list.specs.Stream.{at};
 ghost use Rattle.token_list.specs.Place.{OneRefusal};
-ghost use Rattle.token_list.specs.Contract.{InList};
+ghost use Rattle.token_list.specs.Contract.{InList, startOf};
 ghost use Rattle.output.specs.Contract.{Put};
 ghost use Rattle.reading.specs.Token.{MAX-I64, negatable, worth};
 ghost use Rattle.reading.specs.Declaration.{Value, Variant, Body};
@@ -159,16 +159,14 @@ fn put_value(s: &[u8], v: ValueAt, scratch: &mut [u8]) -> ValuePlace
 
 // The value in a list that passes the check.
 fn read_value(s: &[u8], position: usize, scratch: &mut [u8], roles: &mut [u8]) -> ValuePlace
-    requires { ⌜ InList (now s) (record { at = FIRST-ROW; row = 0 }) ⌝ }
+    requires { ⌜ InList (now s) (startOf (now s)) ⌝ }
     requires { ⌜ SCRATCH-BYTES ≤ length (now scratch) ⌝ }
     requires { ⌜ length (now s) ≤ MAX-BYTES ⌝ }
     ensures { λ r. ⌜ Placed (now (s .entry)) (now (scratch .entry)) (now (scratch .exit))
-        (itemAnswer (start (now (s .entry))) position (item 0 (at (now (s .entry)) FIRST-ROW .here))) r ⌝ }
+        (itemAnswer (start (now (s .entry))) position
+        (item 0 (at (now (s .entry)) (firstRow (now (s .entry))) .here))) r ⌝ }
 {
-    let c = Cursor {
-        at: FIRST_ROW,
-        row: 0,
-    };
+    let c = start(s);
     match item(s, c, roles) {
         ItemStep::Refused(r) => ValuePlace::Refused(r),
         ItemStep::At(d) => {

@@ -8,6 +8,7 @@ use native.Mathlib.Decide.{decLe}
 use borrow.Author.Tests.{eq-eqb, ne-eqb, le-leb, lt-leb, leb-true, eqb-true, eqb-false}
 use lib.Dec.{leb, ltb, eqb}
 use lib.ListN.{length, take, drop, length-append, length-take, length-drop}
+use Rattle.token_list.specs.Layout.{marked, firstRow}
 use Rattle.token_list.specs.Byte.{LF}
 use Rattle.token_list.specs.Text.{printable}
 use Rattle.token_list.specs.Check as list
@@ -22,7 +23,8 @@ use Rattle.output.specs.Text.{decimal, refusalText}
 use Rattle.output.proofs.Texts.{decimal-within, decimal-few}
 use Rattle.explanation.specs.Row.{shownByte, shown, blank, column}
 use Rattle.explanation.specs.Words.{first, ROLES, MEANINGS, roleWords, meaning}
-use Rattle.explanation.specs.Explanation.{roleLine, roleRows, near, sign, nearLine, nearOfFirst, nearRows}
+use Rattle.explanation.specs.Explanation.{ROW-BYTES, namesLine, roleLine, roleRows, near, sign, nearLine}
+use Rattle.explanation.specs.Explanation.{nearOfFirst, nearRows}
 use Rattle.explanation.specs.Explanation.{explanation, MOST}
 
 -- ## A row's parts
@@ -76,9 +78,9 @@ total (b ∷ bs) = length b + total bs
 line-few : (n r : ℕ) (b : List ℕ) → n < 10000 → length (roleLine n r b) ≤ 39 + 4 * length b
 unfolding roleLine
 line-few n r b h =
-    let t = take 257 b in
+    let t = take ROW-BYTES b in
     let number = column-few n 4 (decimal-within 3 n h) in
-    let text : length t ≤ length b = omega (arith, length-take 257 b) in
+    let text : length t ≤ length b = omega (arith, length-take ROW-BYTES b) in
     simp length-append (omega (arith, number, role-few r, shown-few t, text))
 
 rows-few : (n : ℕ) (rs : List ℕ) (bs : List (List ℕ)) → n + length rs ≤ 10000 →
@@ -178,19 +180,24 @@ module _ (p c : ℕ) (small : c < 2 ^ 64) where
 -- ## An explanation
 
 pub near-text-few : (s : List ℕ) (p : ℕ) → length s < 2 ^ 64 →
-    length (nearRows p (length (bytesFrom s 10)) 0 (bytesFrom s 10)) ≤ 5240
+    length (nearRows p (length (bytesFrom s (firstRow s))) 0 (bytesFrom s (firstRow s))) ≤ 5240
 near-text-few s p h =
-    let rows = few (drop 10 s) .rows in
-    near-few p (length (bytesFrom s 10)) (omega (arith, rows, length-drop 10 s)) (bytesFrom s 10) refl
+    let rows = few (drop (firstRow s) s) .rows in
+    near-few p (length (bytesFrom s (firstRow s))) (omega (arith, rows, length-drop (firstRow s) s)) (bytesFrom s
+    (firstRow s)) refl
+
+names-few : (m : Bool) → length (namesLine m) ≤ 64
+names-few true = omega arith
+names-few false = omega arith
 
 pub explained-few : (s : List ℕ) (n : ℕ) (d : Declaration) (rs : List ℕ) → answer s n ≡ declared d rs →
     length (explanation s (declared d rs)) ≤ MOST
 explained-few s n d rs e =
     let count = few-roles s n d rs e in
     let size = by-answer s n d rs (λ (qs : List ℕ). length s ≤ 65536) (λ k c f qs us i. bounds s c .bytes) e in
-    let rows = rows-few 0 rs (bytesFrom s 10) (omega (arith, count)) in
-    let bytes = few (drop 10 s) .bytes in
-    simp length-append (omega (arith, count, size, rows, bytes, length-drop 10 s))
+    let rows = rows-few 0 rs (bytesFrom s (firstRow s)) (omega (arith, count)) in
+    let bytes = few (drop (firstRow s) s) .bytes in
+    simp length-append (omega (arith, names-few (marked s), count, size, rows, bytes, length-drop (firstRow s) s))
 
 pub refused-few : (s : List ℕ) (n p : ℕ) → length (refusalText n p) ≤ 64 → length s < 2 ^ 64 →
     length (explanation s (refused n p)) ≤ MOST

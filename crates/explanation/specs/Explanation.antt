@@ -6,7 +6,7 @@ use Prim.Native.Nat.{ℕ, suc, _+_, _-_, _*_}
 use lib.Dec.{leb, eqb}
 use lib.ListN.{length, take}
 use Rattle.token_list.specs.Byte.{bytes, LF}
-use Rattle.token_list.specs.Layout.{FIRST-ROW, TEXT-OFFSET, MAX-TEXT, MAX-BYTES, MAX-ROWS}
+use Rattle.token_list.specs.Layout.{names, marked, firstRow, textOffset, MAX-TEXT, MAX-BYTES, MAX-ROWS}
 use Rattle.token_list.specs.Check.{END}
 use Rattle.token_list.specs.Reader.{bytesFrom}
 use Rattle.reading.specs.Answer.{Answer, declared, refused}
@@ -16,10 +16,14 @@ use Rattle.explanation.specs.Words.{roleWords, meaning}
 
 -- ## A list that is read
 
--- a row's number, its role in words, its kind, its text
+-- no row of a list that is read has more bytes
+abbrev pub ROW-BYTES : ℕ
+ROW-BYTES = textOffset true + MAX-TEXT
+
+-- a row's number, its role in words, and the row as it stands: its kind, with marks its mark, its text
 unfoldable pub roleLine : ℕ → ℕ → List ℕ → List ℕ
 roleLine n role b =
-    column n ++ (bytes "  " ++ (roleWords role ++ (shown (take (TEXT-OFFSET + MAX-TEXT) b) ++ LF ∷ [])))
+    column n ++ (bytes "  " ++ (roleWords role ++ (shown (take ROW-BYTES b) ++ LF ∷ [])))
 
 -- of the first of some rows
 abbrev pub roleOfFirst : ℕ → ℕ → List (List ℕ) → List ℕ
@@ -31,9 +35,9 @@ roleRows n [] bs = []
 roleRows n (r ∷ rs) [] = []
 roleRows n (r ∷ rs) (b ∷ bs) = roleLine n r b ++ roleRows (suc n) rs bs
 
--- the line of names
-abbrev pub NAMES : List ℕ
-NAMES = bytes " row  role                         kind text\n"
+-- the line of names, with the list's own
+abbrev pub namesLine : Bool → List ℕ
+namesLine m = bytes " row  role                         " ++ names m
 
 -- ## A list that is refused
 
@@ -63,9 +67,9 @@ nearRows place count n (b ∷ bs) = nearOfFirst place count n (b ∷ bs) ++ near
 -- ## The whole
 
 abbrev pub explanation : List ℕ → Answer → List ℕ
-explanation s (declared d rs) = NAMES ++ roleRows 0 rs (bytesFrom s FIRST-ROW)
+explanation s (declared d rs) = namesLine (marked s) ++ roleRows 0 rs (bytesFrom s (firstRow s))
 explanation s (refused n p) =
-    let rows = bytesFrom s FIRST-ROW in
+    let rows = bytesFrom s (firstRow s) in
     refusalText n p ++ (meaning n ++ (LF ∷ [] ++ nearRows p (length rows) 0 rows))
 
 -- no explanation has more bytes: 4 for each byte of a list, 40 for each row, and the line of names

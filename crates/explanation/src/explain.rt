@@ -8,13 +8,28 @@ use output::put::put_refusal;
 use report::roles::Roles;
 use report::roles::read_roles;
 use token_list::check::Refusal;
+use token_list::layout::is_marked;
 ghost use mathlib.Core.Path.{_≡_};
 ghost use Prim.Native.Nat.{ℕ, _≤_};
 ghost use lib.ListN.{length};
 ghost use Rattle.token_list.specs.Place.{OneRefusal};
 ghost use Rattle.reading.specs.Answer.{refused, answer, buffer, readNumber};
-ghost use Rattle.output.specs.Contract.{Printed};
-ghost use Rattle.explanation.specs.Explanation.{explanation, MOST};
+ghost use Rattle.output.specs.Contract.{Put, Printed};
+ghost use Rattle.explanation.specs.Explanation.{namesLine, explanation, MOST};
+
+// The line of names, with the list's own.
+fn put_names(out: &mut [u8], marked: bool) -> usize
+    ensures { λ r. ⌜ Put (now (out .entry)) (now (out .exit)) 0 r (namesLine marked) ⌝ }
+{
+    if marked {
+        return put_bytes(
+            out,
+            0,
+            b" row  role                         kind joint text\n",
+        );
+    }
+    put_bytes(out, 0, b" row  role                         kind text\n")
+}
 
 // The refusal, what it means, and the rows near its place.
 fn put_refused(out: &mut [u8], list: &[u8], refusal: Refusal) -> usize
@@ -41,7 +56,7 @@ pub fn report_explanation(list: &[u8], roles: &mut [u8], out: &mut [u8]) -> usiz
     match read_roles(list, roles) {
         Roles::Refused(r) => put_refused(out, list, r),
         Roles::Rows(n) => {
-            let names = put_bytes(out, 0, b" row  role                         kind text\n");
+            let names = put_names(out, is_marked(list));
             put_roles(out, names, list, &roles[..n])
         }
     }

@@ -5,31 +5,31 @@ use crate::words::put_role;
 use output::put::put_byte;
 use output::put::put_bytes;
 use token_list::check::END;
-use token_list::layout::FIRST_ROW;
+use token_list::layout::first_row;
 use token_list::reader::Shown;
 use token_list::reader::next_at;
 use token_list::reader::peek_at;
 ghost use mathlib.Core.Path.{_≡_};
 ghost use Prim.Native.Nat.{_≤_};
 ghost use lib.ListN.{length};
-ghost use Rattle.token_list.specs.Layout.{FIRST-ROW};
+ghost use Rattle.token_list.specs.Layout.{firstRow};
 ghost use Rattle.token_list.specs.Reader.{bytesFrom};
 ghost use Rattle.output.specs.Contract.{Put};
 ghost use Rattle.explanation.specs.Explanation.{roleLine, roleOfFirst, roleRows, sign, near, nearLine};
 ghost use Rattle.explanation.specs.Explanation.{nearOfFirst, nearRows};
 
 // A well-formed row has at most so many bytes.
-pub const MAX_ROW_BYTES: usize = 257;
+pub const MAX_ROW_BYTES: usize = 259;
 
 // How many bytes of a row are shown where a list is refused.
 pub const CUT: usize = 255;
 
 // How many rows begin in the list.
 pub fn count_rows(list: &[u8]) -> usize
-    ensures { λ r. ⌜ r ≡ length (bytesFrom (now (list .entry)) FIRST-ROW) ⌝ }
+    ensures { λ r. ⌜ r ≡ length (bytesFrom (now (list .entry)) (firstRow (now (list .entry)))) ⌝ }
 {
     let mut row = 0;
-    let mut at = FIRST_ROW;
+    let mut at = first_row(list);
     while at < list.len() {
         let c = next_at(list, row, at);
         row = c.row;
@@ -63,11 +63,11 @@ fn put_role_of(out: &mut [u8], at: usize, list: &[u8], from: usize, n: usize, ro
 // A line for each role and the row that it is of.
 pub fn put_roles(out: &mut [u8], at: usize, list: &[u8], roles: &[u8]) -> usize
     ensures { λ r. ⌜ Put (now (out .entry)) (now (out .exit)) at r
-        (roleRows 0 (now (roles .entry)) (bytesFrom (now (list .entry)) FIRST-ROW)) ⌝ }
+        (roleRows 0 (now (roles .entry)) (bytesFrom (now (list .entry)) (firstRow (now (list .entry))))) ⌝ }
 {
     let mut i = 0;
     let mut row = 0;
-    let mut from = FIRST_ROW;
+    let mut from = first_row(list);
     let mut end = at;
     while i < roles.len() {
         end = put_role_of(out, end, list, from, i, roles[i]);
@@ -141,13 +141,13 @@ fn put_near_of(
 // The rows near a place.
 pub fn put_near(out: &mut [u8], at: usize, list: &[u8], place: usize) -> usize
     ensures { λ r. ⌜ Put (now (out .entry)) (now (out .exit)) at r
-        (nearRows place (length (bytesFrom (now (list .entry)) FIRST-ROW)) 0
-        (bytesFrom (now (list .entry)) FIRST-ROW)) ⌝ }
+        (nearRows place (length (bytesFrom (now (list .entry)) (firstRow (now (list .entry))))) 0
+        (bytesFrom (now (list .entry)) (firstRow (now (list .entry))))) ⌝ }
 {
     let count = count_rows(list);
     let mut i = 0;
     let mut row = 0;
-    let mut from = FIRST_ROW;
+    let mut from = first_row(list);
     let mut end = at;
     while i < count {
         end = put_near_of(out, end, list, from, i, place, count);

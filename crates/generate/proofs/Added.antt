@@ -19,13 +19,13 @@ use Rattle.token_list.specs.Byte.{COMMA}
 use Rattle.token_list.specs.Row.{Row}
 use Rattle.reading.specs.Declaration.{Parameter}
 use Rattle.output.specs.Contract.{FAR}
-use Rattle.output.proofs.Texts.{nothing, kept}
+use Rattle.output.proofs.Texts.{kept}
 use Rattle.writing.specs.Rows.{ident, punct, lifetimeRows}
 use Rattle.writing.specs.Generics.{parameterRows, parted}
 use Rattle.writing.proofs.Written.{parted-append}
 use Rattle.generate.specs.Contract.{Appended, NameEnd, added}
 use Rattle.generate.specs.declared.stream_builder.StreamBuilder.{StreamBuilder}
-use Rattle.generate.proofs.Builds.{then}
+use Rattle.generate.proofs.Builds.{then, unchanged}
 
 pub no-names : (t : List ℕ) (i : ℕ) → length t ≤ i → namesOf (drop i t) ≡ []
 no-names t i h = ap namesOf (drop-of-length-le t {i = i} h)
@@ -110,7 +110,7 @@ pub record Adding (all : List Parameter) (first : Bool) (k l : List ℕ) (b r : 
 pub adding-start : (all : List Parameter) (first : Bool) (k : List ℕ) (b : StreamBuilder) → length k < FAR
     → Adding all first k k b b first all
 adding-start all first k b h =
-    record { rows = []; appended = record { rows = omega arith; put = nothing k (b .bytes) h }; rest = refl }
+    record { rows = []; appended = unchanged h; rest = refl }
 
 module _ {all : List Parameter} {first leading : Bool} {k l : List ℕ} {b c : StreamBuilder} where
   pub adding-more : {p : Parameter} {others : List Parameter} {m : List ℕ} {d : StreamBuilder}

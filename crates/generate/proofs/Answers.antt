@@ -24,13 +24,14 @@ use Rattle.reading.specs.Declaration.{Parameter, Generics, without, Declaration
 use Rattle.reading.specs.Took.{Took, took}
 use Rattle.writing.specs.Rows.{punct}
 use Rattle.writing.specs.Names.{lineNames, namesOf}
-use Rattle.writing.specs.Generics.{parted, angledRows, genericsRows, addedLifetime, addedType}
+use Rattle.writing.specs.Generics.{parted, angledRows, sentParameter, genericsRows, addedLifetime, addedType}
 use Rattle.writing.specs.Answer.{Writer, implGenerics, typeGenerics, withAdditional, text, itemAnswer, answer}
 use Rattle.writing.specs.Answer.{fullAnswer, MOST, mostAdded, Fits}
 use Rattle.writing.proofs.Written.{stillFirst, parted-append}
 use Rattle.writing.proofs.Refusals.{write-refusal}
 use Rattle.writing.proofs.Lengths.{type-fits, additional-fits, added-most}
-use Rattle.generate.specs.Contract.{Appended, Built, shaped, parametersBy, writer, Answered, Reported}
+use Rattle.generate.specs.Contract.{Appended, Built, shaped, goesOut, parametersBy, writer, Answered}
+use Rattle.generate.specs.Contract.{Reported}
 use Rattle.generate.specs.declared.stream_builder.StreamBuilder.{StreamBuilder}
 use Rattle.generate.proofs.Builds.{then, further-built}
 
@@ -47,42 +48,53 @@ first-still (b ∷ bs) = go (eqb b LF) (lines bs) ∙ sym (ne-eqb (suc (length b
     go false (tail (x ∷ xs)) = refl
     go false (line l ls) = refl
 
+shaped-sent : (names : Bool) (ps : List Parameter) → map (goesOut names) ps ≡ map (shaped names) (map sentParameter ps)
+shaped-sent names [] = refl
+shaped-sent names (p ∷ ps) = ap (λ (qs : List Parameter). goesOut names p ∷ qs) (shaped-sent names ps)
+
 pub angled : {k l m o q : List ℕ} {b c d e r : StreamBuilder} {first : Bool} (names : Bool) (ls ts : List ℕ)
     (ps : List Parameter) → first ≡ eqb (length ls) 0 → Appended k l b c (punct LESS ∷ [])
     → Appended l m c d (parted true (map addedLifetime (namesOf ls)))
-    → Appended m o d e (parted first (map (shaped names) ps ++ map addedType (namesOf ts)))
-    → Appended o q e r (punct GREATER ∷ []) → Appended k q b r (angledRows (parametersBy names ls ts ps))
+    → Appended m o d e (parted first (map (goesOut names) ps ++ map addedType (namesOf ts)))
+    → Appended o q e r (punct GREATER ∷ [])
+    → Appended k q b r (angledRows (parametersBy names ls ts (map sentParameter ps)))
 angled {k} {q = q} {b} {r = r} {first = first} names ls ts ps f less lifetimes others greater =
     let front = map addedLifetime (namesOf ls) in
-    let back = map (shaped names) ps ++ map addedType (namesOf ts) in
+    let back = map (goesOut names) ps ++ map addedType (namesOf ts) in
     let still : first ≡ stillFirst true front = f ∙ sym (first-still ls) in
     let rows : parted true front ++ parted first back ≡ parted true (front ++ back) =
     ap (λ (x : Bool). parted true front ++ parted x back) still ∙ sym (parted-append true front back) in
-    subst (λ (rs : List Row). Appended k q b r (punct LESS ∷ rs ++ punct GREATER ∷ [])) rows
+    let sent = ap (λ (qs : List Parameter). parted true (front ++ (qs ++ map addedType (namesOf ts))))
+    (shaped-sent names ps) in
+    subst (λ (rs : List Row). Appended k q b r (punct LESS ∷ rs ++ punct GREATER ∷ [])) (rows ∙ sent)
     (then less (then (then lifetimes others) greater))
 
 -- ## Generics
 
 -- none stand there
-pub none-built : {k l : List ℕ} {r : StreamBuilder} (f : List Parameter → List Parameter) {g : Generics} → g ≡ without
-    → Built k l r [] → Built k l r (genericsRows f g)
-none-built {k} {l} {r} f e h = subst (λ (g : Generics). Built k l r (genericsRows f g)) (sym e) h
+pub none-built : {v w : Bool} {k l : List ℕ} {r : StreamBuilder} (f : List Parameter → List Parameter) {g : Generics}
+    → v ≡ w → g ≡ without → Built v k l r [] → Built w k l r (genericsRows f g)
+none-built {v} {k = k} {l = l} {r = r} f {g} w e h =
+    subst (λ (x : Bool). Built x k l r (genericsRows f g)) w
+    (subst (λ (g : Generics). Built v k l r (genericsRows f g)) (sym e) h)
 
-pub some-built : {k l m : List ℕ} {b r : StreamBuilder} (f : List Parameter → List Parameter) {g : Generics}
-    (ps : List Parameter) → g ≡ Generics.angled ps → Built k l b [] → Appended l m b r (angledRows (f ps))
-    → Built k m r (genericsRows f g)
-some-built {k} {m = m} {r = r} f ps e h a =
-    subst (λ (g : Generics). Built k m r (genericsRows f g)) (sym e) (further-built h a)
+pub some-built : {v w : Bool} {k l m : List ℕ} {b r : StreamBuilder} (f : List Parameter → List Parameter)
+    {g : Generics}
+    (ps : List Parameter) → v ≡ w → g ≡ Generics.angled ps → Built v k l b []
+    → Appended l m b r (angledRows (f (map sentParameter ps))) → Built w k m r (genericsRows f g)
+some-built {v} {k = k} {m = m} {r = r} f {g} ps w e h a =
+    subst (λ (x : Bool). Built x k m r (genericsRows f g)) w
+    (subst (λ (g : Generics). Built v k m r (genericsRows f g)) (sym e) (further-built h a))
 
 -- ## A declaration that was read
 
-module _ (w : Writer) (n : ℕ) {d : Declaration} {rs : List ℕ} {us : Trees} {t : Took Declaration}
+module _ (m : Bool) (w : Writer) (n : ℕ) {d : Declaration} {rs : List ℕ} {us : Trees} {t : Took Declaration}
     (e : t ≡ took d rs us) where
-  pub right-answer : w .right ≡ true → fitted n (itemAnswer w t) ≡ fitted n (Answer.wrote (text w d))
-  right-answer r = ap (λ (t : Took Declaration). fitted n (itemAnswer w t)) e ∙ ap (fitted n) (chosen _ _ _ r)
+  pub right-answer : w .right ≡ true → fitted n (itemAnswer m w t) ≡ fitted n (Answer.wrote (text m w d))
+  right-answer r = ap (λ (t : Took Declaration). fitted n (itemAnswer m w t)) e ∙ ap (fitted n) (chosen _ _ _ r)
 
-  pub wrong-answer : w .right ≡ false → fitted n (itemAnswer w t) ≡ Answer.refused 30 list.END
-  wrong-answer r = ap (λ (t : Took Declaration). fitted n (itemAnswer w t)) e ∙ ap (fitted n) (passed-over _ _ _ r)
+  pub wrong-answer : w .right ≡ false → fitted n (itemAnswer m w t) ≡ Answer.refused 30 list.END
+  wrong-answer r = ap (λ (t : Took Declaration). fitted n (itemAnswer m w t)) e ∙ ap (fitted n) (passed-over _ _ _ r)
 
 -- ## The three writers
 

@@ -7,11 +7,11 @@ use native.Mathlib.Omega.{arith}
 use lib.ListN.{length}
 use Rattle.token_list.specs.Stream.{Trees, end, leaf, group}
 use Rattle.output.specs.Contract.{FAR}
-use Rattle.output.proofs.Texts.{nothing}
 use Rattle.writing.specs.Rows.{runRows}
 use Rattle.writing.specs.Generics.{constraints, bounds}
 use Rattle.generate.specs.Contract.{Appended, constrained}
 use Rattle.generate.specs.declared.stream_builder.StreamBuilder.{StreamBuilder}
+use Rattle.generate.proofs.Builds.{unchanged}
 
 module _ {k l : List ℕ} {b r : StreamBuilder} (ts : Trees) where
   pub always : {x : Bool} → x ≡ true → Appended k l b r (constraints ts) → Appended k l b r (constrained x ts)
@@ -28,7 +28,7 @@ filled (group d ts us) n a = a
 
 empty : {k : List ℕ} {b : StreamBuilder} (ts : Trees) → length (runRows ts) ≤ 0 → length k < FAR
     → Appended k k b b (bounds ts)
-empty {k} {b} end n h = record { rows = omega arith; put = nothing k (b .bytes) h }
+empty end n h = unchanged h
 empty (leaf q us) n h = absurd (omega arith)
 empty (group d ts us) n h = absurd (omega arith)
 

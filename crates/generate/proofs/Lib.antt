@@ -1,5 +1,6 @@
 -- Laws on what a StreamBuilder adds, which proofs cite.
 pub mod Builds
+pub mod Copying
 pub mod Added
 pub mod Constrained
 pub mod Parameters

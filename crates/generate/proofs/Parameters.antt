@@ -13,7 +13,6 @@ use Rattle.token_list.specs.Contract.{InList}
 use Rattle.token_list.specs.declared.check.Cursor.{Cursor}
 use Rattle.token_list.specs.declared.stream.Token.{Token}
 use Rattle.output.specs.Contract.{FAR}
-use Rattle.output.proofs.Texts.{nothing}
 use Rattle.reading.specs.Role as role
 use Rattle.reading.specs.Token.{parameterStops}
 use Rattle.reading.specs.Declaration.{Parameter, lifetime, constant, type}
@@ -34,14 +33,15 @@ use Rattle.parse.specs.declared.generics.ParameterStep.{ParameterStep}
 use Rattle.parse.specs.declared.generics.ParameterStep.the-variants as steps
 use Rattle.parse.proofs.Meeting.{say}
 use Rattle.parse.proofs.Inside.{meets-tells, inside-more, inside-done, inside-refused, forward}
-use Rattle.writing.specs.Rows.{ident, lifetimeRows}
-use Rattle.writing.specs.Generics.{parameterRows, parted}
+use Rattle.writing.specs.Rows.{ident, lifetimeRows, sent}
+use Rattle.writing.specs.Generics.{parameterRows, sentParameter, named, parted}
 use Rattle.writing.proofs.Read as read
 use Rattle.writing.proofs.Copied.{copied}
 use Rattle.generate.specs.Contract.{Appended, constrained, constraintsOf, isConst, RunIn, NameIn, ParameterIn}
-use Rattle.generate.specs.Contract.{nameRows, constRows, shaped}
+use Rattle.generate.specs.Contract.{nameRows, constRows, goesOut}
 use Rattle.generate.specs.declared.stream_builder.StreamBuilder.{StreamBuilder}
 use Rattle.generate.proofs.Builds.{then}
+use Rattle.generate.proofs.Copying.{run-between}
 use Rattle.generate.proofs.Added.{Adding, adding-start, adding-more, adding-last}
 
 -- ## Rows of one parameter
@@ -61,32 +61,37 @@ module _ {s k l : List ℕ} {b r : StreamBuilder} {kind : ParameterKind} {name :
 
 -- the word of a const, the name, and the constraints
 parts : (a : Parameter)
-    → (constRows (isConst (parameterKind a)) ++ nameRows a) ++ constrained (isConst (parameterKind a)) (boundOf a)
-    ≡ parameterRows a
+    → (constRows (isConst (parameterKind a)) ++ nameRows a) ++ constrained (isConst (parameterKind a)) (sent
+    (boundOf a))
+    ≡ parameterRows (sentParameter a)
 parts (lifetime n b) = refl
 parts (constant n t) = refl
 parts (type n b d) = refl
 
 pub by-parts : {k l m o : List ℕ} {b c d r : StreamBuilder} {s : List ℕ} {p : ParameterAt} {const : Bool}
     (a : Parameter) → ParameterIn s p a → const ≡ isConst (p .kind) → Appended k l b c (constRows const)
-    → Appended l m c d (nameRows a) → Appended m o d r (constrained const (boundOf a))
-    → Appended k o b r (parameterRows a)
+    → Appended l m c d (nameRows a) → Appended m o d r (constrained const (sent (boundOf a)))
+    → Appended k o b r (parameterRows (sentParameter a))
 by-parts {k} {o = o} {b} {r = r} a i e x y z =
     let same = e ∙ ap isConst (i .name .told .kind) in
     subst (λ (rs : List Row). Appended k o b r rs)
-    (ap (λ (q : Bool). (constRows q ++ nameRows a) ++ constrained q (boundOf a)) same ∙ parts a) (then (then x y) z)
+    (ap (λ (q : Bool). (constRows q ++ nameRows a) ++ constrained q (sent (boundOf a))) same ∙ parts a) (then
+    (then x y) z)
+
+-- a name goes out without a run
+named-sent : (a : Parameter) → named a ≡ named (sentParameter a)
+named-sent (lifetime n b) = refl
+named-sent (constant n t) = refl
+named-sent (type n b d) = refl
 
 module _ {k l : List ℕ} {b r : StreamBuilder} {names : Bool} (a : Parameter) where
-  pub as-name : names ≡ true → Appended k l b r (nameRows a) → Appended k l b r (parameterRows (shaped names a))
-  as-name e h = rw e h
+  pub as-name : names ≡ true → Appended k l b r (nameRows a) → Appended k l b r (parameterRows (goesOut names a))
+  as-name e h =
+      rw e (subst (λ (p : Parameter). Appended k l b r (parameterRows p)) (named-sent a) h)
 
-  pub as-it-stands : names ≡ false → Appended k l b r (parameterRows a)
-      → Appended k l b r (parameterRows (shaped names a))
+  pub as-it-stands : names ≡ false → Appended k l b r (parameterRows (sentParameter a))
+      → Appended k l b r (parameterRows (goesOut names a))
   as-it-stands e h = rw e h
-
--- no rows
-pub unchanged : {k : List ℕ} {b : StreamBuilder} → length k < FAR → Appended k k b b []
-unchanged {k} {b} h = record { rows = omega arith; put = nothing k (b .bytes) h }
 
 -- ## What the record of a parameter tells, in a list that passes the check
 
@@ -106,21 +111,12 @@ module _ {s : List ℕ} {n : ℕ} (passes : check s ≡ passed n) where
       let row = ap (λ (y : Point). y .row) past in
       let c = copied s (r .from) (r .to) ts (inside .rest) passes (from .inList) (to .inList) (q .0)
       (omega (arith, row, q .1)) in
-      record {
-        part = record { forth = c .forth; rows = omega (arith, c .rows); within = to .inList .within };
-        rows = c .rows;
-        bytes = c .bytes;
-      }
+      run-between c (from .inList) (to .inList)
 
   -- an empty part at a cursor
   empty-in : {d : Cursor} → InList s d → RunIn s (record { from = d; to = d }) end
   empty-in {d} i =
-      let c = copied s d d end (stream s d) passes i i refl (omega arith) in
-      record {
-        part = record { forth = omega arith; rows = omega arith; within = i .within };
-        rows = c .rows;
-        bytes = c .bytes;
-      }
+      run-between (copied s d d end (stream s d) passes i i refl (omega arith)) i i
 
   constraints-in : (x : Point) (bound default : Trees) (m : RunPart) (r : Run) {d : Cursor} → InList s d
       → ParameterRunAt s x bound default m r → RunIn s (constraintsOf m r d) bound

@@ -1,12 +1,16 @@
 -- What ties a StreamBuilder's counts and the output to the rows that were added.
 use mathlib.Core.Path.{_≡_}
 use mathlib.Core.List.{List, [], _∷_, _++_, map}
-use mathlib.Core.Bool.{Bool, true, false, cond, _&&_}
-use Prim.Native.Nat.{ℕ, _+_, _≤_}
-use lib.ListN.{length, drop}
+use mathlib.Core.Bool.{Bool, true, false, cond, _&&_, _||_}
+use Prim.Native.Nat.{ℕ, _+_, _-_, _≤_, _<_}
+use lib.Dec.{eqb}
+use lib.ListN.{length, take, drop}
 use lib.Seq.{slice}
+use Rattle.token_list.specs.Byte.{QUOTE}
+use Rattle.token_list.specs.Layout.{PUNCT, NAMES-DIFFER, marked}
 use Rattle.token_list.specs.Row.{Row, written}
-use Rattle.token_list.specs.Stream.{Trees}
+use Rattle.token_list.specs.Stream.{Trees, rowsAt}
+use Rattle.token_list.specs.Contract.{RightRows}
 use Rattle.token_list.specs.Place.{OneRefusal}
 use Rattle.token_list.specs.declared.check.Cursor.{Cursor}
 use Rattle.token_list.specs.declared.stream.Token.{Token}
@@ -14,10 +18,11 @@ use Rattle.output.specs.Contract.{further, Put, Printed}
 use Rattle.output.specs.Answer.{refused, answerText}
 use Rattle.output.specs.Written.{WrittenAs}
 use Rattle.output.specs.declared.written.Written.{Written}
-use Rattle.writing.specs.Rows.{ident, runRows, listOf}
+use Rattle.writing.specs.Rows.{ident, runRows, sentRow, sent, listOf}
 use Rattle.writing.specs.Names.{namesOf, rightNames, nameLine, quoted}
 use Rattle.writing.specs.Answer.{Writer, fullAnswer, answer, writeNumber}
-use Rattle.writing.specs.Generics.{constraints, bounds, parameterRows, named, addedLifetime, addedType}
+use Rattle.writing.specs.Generics.{constraints, bounds, parameterRows, sentParameter, named, addedLifetime}
+use Rattle.writing.specs.Generics.{addedType}
 use Rattle.reading.specs.Token.{CONST}
 use Rattle.reading.specs.Declaration.{Parameter}
 use Rattle.parse.specs.Contract.{ParameterOf, boundOf}
@@ -31,30 +36,43 @@ use Rattle.generate.specs.declared.parameter.ConstraintsAt.{ConstraintsA
 use Rattle.generate.specs.declared.stream_builder.StreamBuilder.{StreamBuilder}
 use Rattle.generate.specs.declared.names.Gathered.{Gathered}
 
-abbrev pub row : ℕ → List ℕ → Row
-row k t = record { kind = k; text = t }
+abbrev pub row : ℕ → Bool → List ℕ → Row
+row k j t = record { kind = k; joint = j; text = t }
 
--- an output was `before` and is `after`: the list of the rows rs stands from its start on, as far as there is room
-pub record Built (before after : List ℕ) (r : StreamBuilder) (rs : List Row) : Type 0 where
+-- the mark with which a token goes out, by its kind, its mark and its first byte
+abbrev pub sentMark : ℕ → Bool → ℕ → Bool
+sentMark k j b = j || eqb k PUNCT && eqb b QUOTE
+
+-- an output was `before` and is `after`: the list of the rows rs, with marks or without, stands from its start on, as
+-- far as there is room
+pub record Built (m : Bool) (before after : List ℕ) (r : StreamBuilder) (rs : List Row) : Type 0 where
+  pub marked : r .marked ≡ m
   pub rows : r .rows ≡ further 0 (length rs)
-  pub put : Put before after 0 (r .bytes) (listOf rs)
+  pub put : Put before after 0 (r .bytes) (listOf m rs)
 
 -- the rows rs stand behind those of the builder b
 pub record Appended (before after : List ℕ) (b r : StreamBuilder) (rs : List Row) : Type 0 where
+  pub marked : r .marked ≡ b .marked
   pub rows : r .rows ≡ further (b .rows) (length rs)
-  pub put : Put before after (b .bytes) (r .bytes) (written rs)
+  pub put : Put before after (b .bytes) (r .bytes) (written (b .marked) rs)
 
--- a part of the list s
+-- the rows of the list s from a cursor up to another
+abbrev pub between : List ℕ → Cursor → Cursor → List Row
+between s from to = take (to .row - from .row) (rowsAt s (from .at))
+
+-- they are a part of the list
 pub record Part (s : List ℕ) (from to : Cursor) : Type 0 where
   pub forth : from .at ≤ to .at
   pub rows : from .row ≤ to .row
   pub within : to .at ≤ length s
+  pub long : NAMES-DIFFER < length s
+  pub enough : to .row - from .row ≤ length (rowsAt s (from .at))
+  pub bytes : slice (from .at) (to .at) s ≡ written (marked s) (between s from to)
+  pub rightRows : RightRows s (from .at)
 
--- whichever rows a part of the list s is the lines of, they are appended
+-- they are appended as they go out
 abbrev pub Extended : (s : List ℕ) (from to : Cursor) (before after : List ℕ) (b r : StreamBuilder) → Type 0
-Extended s from to before after b r =
-    (rs : List Row) → slice (from .at) (to .at) s ≡ written rs → from .row + length rs ≡ to .row
-    → Appended before after b r rs
+Extended s from to before after b r = Appended before after b r (map sentRow (between s from to))
 
 -- the first name of the text t from `from` on ends at e; the next ones begin after the LF there
 pub record NameEnd (t : List ℕ) (from e : ℕ) : Type 0 where
@@ -67,12 +85,11 @@ abbrev pub added : Bool → List ℕ → Parameter
 added true t = addedLifetime t
 added false t = addedType t
 
--- whichever run a part of the list s is the lines of, the rows that f makes of it are appended
+-- whichever run the rows between two cursors are, the rows that f makes of it as it goes out are appended
 abbrev pub RunWritten : (s : List ℕ) (from to : Cursor) (before after : List ℕ) (b r : StreamBuilder)
     → (Trees → List Row) → Type 0
 RunWritten s from to before after b r f =
-    (ts : Trees) → slice (from .at) (to .at) s ≡ written (runRows ts) → from .row + length (runRows ts) ≡ to .row
-    → Appended before after b r (f ts)
+    (ts : Trees) → between s from to ≡ runRows ts → Appended before after b r (f (sent ts))
 
 -- `:` and a run: always, as a const has it, or where it is not empty
 abbrev pub constrained : Bool → Trees → List Row
@@ -97,11 +114,10 @@ isConst kinds.Lifetime = false
 isConst kinds.Const = true
 isConst kinds.Type = false
 
--- the bytes between two cursors are the lines of a run
+-- the rows between two cursors are a run
 pub record RunIn (s : List ℕ) (at : ConstraintsAt) (ts : Trees) : Type 0 where
   pub part : Part s (at .from) (at .to)
-  pub rows : at .from .row + length (runRows ts) ≡ at .to .row
-  pub bytes : slice (at .from .at) (at .to .at) s ≡ written (runRows ts)
+  pub rows : between s (at .from) (at .to) ≡ runRows ts
 
 -- the kind and the name of a parameter
 pub record NameIn (s : List ℕ) (kind : ParameterKind) (name : Token) (a : Parameter) : Type 0 where
@@ -125,6 +141,10 @@ constRows false = []
 abbrev pub shaped : Bool → Parameter → Parameter
 shaped true a = named a
 shaped false a = a
+
+-- the same as it goes out
+abbrev pub goesOut : Bool → Parameter → Parameter
+goesOut names a = shaped names (sentParameter a)
 
 -- ## The three writers
 

@@ -17,13 +17,14 @@ use token_list::check::Cursor;
 use token_list::check::END;
 use token_list::check::Refusal;
 use token_list::check::check;
-use token_list::layout::FIRST_ROW;
+use token_list::check::start;
+use token_list::layout::is_marked;
 use token_list::stream::punct_at;
 ghost use mathlib.Core.Path.{_≡_};
 ghost use mathlib.Core.List.{List, _++_, map};
 ghost use Prim.Native.Nat.{ℕ};
 ghost use lib.ListN.{length};
-ghost use Rattle.token_list.specs.Layout.{FIRST-ROW};
+ghost use Rattle.token_list.specs.Layout.{marked, firstRow};
 ghost use Rattle.token_list.specs.Check as list;
 ghost use Rattle.token_list.specs.Stream.{at};
 ghost use Rattle.token_list.specs.Contract.{InList};
@@ -34,10 +35,10 @@ ghost use Rattle.reading.specs.Reading.{every, parameter, generics, item};
 ghost use Rattle.parse.specs.Contract.{InsideAt};
 ghost use Rattle.writing.specs.Rows.{listOf};
 ghost use Rattle.writing.specs.Names.{namesOf};
-ghost use Rattle.writing.specs.Generics.{parted, angledRows, genericsRows, addedType};
+ghost use Rattle.writing.specs.Generics.{parted, angledRows, sentParameter, genericsRows, addedType};
 ghost use Rattle.writing.specs.Answer.{implGenerics, typeGenerics, withAdditional, itemAnswer, answer, MOST, mostAdded};
 ghost use Rattle.generate.specs.Contract.{Appended, Built};
-ghost use Rattle.generate.specs.Contract.{shaped, parametersBy};
+ghost use Rattle.generate.specs.Contract.{goesOut, parametersBy};
 ghost use Rattle.generate.specs.Contract.{rightTexts, writer, Answered, Reported};
 
 // The parameters that are read from `from` on, then the added types; `angle` is the row of the `<`.
@@ -56,7 +57,7 @@ fn add_parameters(
     requires { ⌜ InList (now s) from ⌝ }
     ensures { λ r. ⌜ ((ps : List Parameter) → InsideAt (every (parameter angle)) (now (s .entry)) from ps →
         Appended (now (out .entry)) (now (out .exit)) b r
-        (parted first (map (shaped names) ps ++ map addedType (namesOf (now (types .entry)))))) ⌝ }
+        (parted first (map (goesOut names) ps ++ map addedType (namesOf (now (types .entry)))))) ⌝ }
 {
     let mut builder = b;
     let mut leading = first;
@@ -94,7 +95,7 @@ fn put_angled(
     requires { ⌜ InList (now s) from ⌝ }
     ensures { λ r. ⌜ ((ps : List Parameter) → InsideAt (every (parameter angle)) (now (s .entry)) from ps →
         Appended (now (out .entry)) (now (out .exit)) b r
-        (angledRows (parametersBy names (now (lifetimes .entry)) (now (types .entry)) ps))) ⌝ }
+        (angledRows (parametersBy names (now (lifetimes .entry)) (now (types .entry)) (map sentParameter ps)))) ⌝ }
 {
     let open = b.punct(out, b'<');
     let added = add_names(open, out, lifetimes, true, true);
@@ -116,10 +117,10 @@ fn put_generics(
     requires { ⌜ ((n : ℕ) × (list.check (now s) ≡ list.passed n)) ⌝ }
     requires { ⌜ InList (now s) c ⌝ }
     ensures { λ r. ⌜ ((g : Generics) → InsideAt generics (now (s .entry)) c g →
-        Built (now (out .entry)) (now (out .exit)) r
+        Built (marked (now (s .entry))) (now (out .entry)) (now (out .exit)) r
         (genericsRows (parametersBy names (now (lifetimes .entry)) (now (types .entry))) g)) ⌝ }
 {
-    let b = StreamBuilder::new(out);
+    let b = StreamBuilder::new(out, is_marked(s));
     if !stands_punct(s, c, b'<') {
         return b;
     }
@@ -143,7 +144,8 @@ fn fit_generics(
     requires { ⌜ InList (now s) c ⌝ }
     ensures { λ r. ⌜ ((g : Generics) → InsideAt generics (now (s .entry)) c g →
         WrittenAs (now (out .entry)) (now (out .exit)) (fitted (length (now (out .entry)))
-        (wrote (listOf (genericsRows (parametersBy names (now (lifetimes .entry)) (now (types .entry))) g)))) r) ⌝ }
+        (wrote (listOf (marked (now (s .entry)))
+        (genericsRows (parametersBy names (now (lifetimes .entry)) (now (types .entry))) g)))) r) ⌝ }
 {
     let mut nowhere = [0u8; 1];
     let needed = put_generics(s, c, roles, names, lifetimes, types, &mut nowhere);
@@ -178,13 +180,10 @@ fn read_generics(
 ) -> Written
     requires { ⌜ ((n : ℕ) × (list.check (now s) ≡ list.passed n)) ⌝ }
     ensures { λ r. ⌜ WrittenAs (now (out .entry)) (now (out .exit)) (fitted (length (now (out .entry)))
-        (itemAnswer (writer names (now (lifetimes .entry)) (now (types .entry)))
-        (item 0 (at (now (s .entry)) FIRST-ROW .here)))) r ⌝ }
+        (itemAnswer (marked (now (s .entry))) (writer names (now (lifetimes .entry)) (now (types .entry)))
+        (item 0 (at (now (s .entry)) (firstRow (now (s .entry))) .here)))) r ⌝ }
 {
-    let first = Cursor {
-        at: FIRST_ROW,
-        row: 0,
-    };
+    let first = start(s);
     match item(s, first, roles) {
         ItemStep::Refused(r) => Written::Refused(r),
         ItemStep::At(d) => {

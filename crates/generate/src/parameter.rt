@@ -10,9 +10,9 @@ use token_list::stream::Token;
 ghost use mathlib.Core.Path.{_≡_};
 ghost use mathlib.Core.List.{[], _∷_};
 ghost use Rattle.reading.specs.Declaration.{Parameter};
-ghost use Rattle.writing.specs.Generics.{constraints, parameterRows, parted};
+ghost use Rattle.writing.specs.Generics.{constraints, parameterRows, sentParameter, parted};
 ghost use Rattle.generate.specs.Contract.{Appended, Part, RunWritten, constrained, constraintsOf, isConst};
-ghost use Rattle.generate.specs.Contract.{ParameterIn, NameIn, nameRows, constRows, shaped};
+ghost use Rattle.generate.specs.Contract.{ParameterIn, NameIn, nameRows, constRows, goesOut};
 
 // Where constraints stand in the list that was read.
 pub struct ConstraintsAt {
@@ -120,7 +120,7 @@ fn append_to_result_with_constraints(
 ) -> StreamBuilder
     requires { ⌜ ((a : Parameter) × ParameterIn (now s) p a) ⌝ }
     ensures { λ r. ⌜ ((a : Parameter) → ParameterIn (now (s .entry)) p a →
-        Appended (now (out .entry)) (now (out .exit)) b r (parameterRows a)) ⌝ }
+        Appended (now (out .entry)) (now (out .exit)) b r (parameterRows (sentParameter a))) ⌝ }
 {
     let kind = p.kind;
     let name = p.name;
@@ -146,7 +146,7 @@ fn append_parameter(
 ) -> StreamBuilder
     requires { ⌜ ((a : Parameter) × ParameterIn (now s) p a) ⌝ }
     ensures { λ r. ⌜ ((a : Parameter) → ParameterIn (now (s .entry)) p a →
-        Appended (now (out .entry)) (now (out .exit)) b r (parameterRows (shaped names a))) ⌝ }
+        Appended (now (out .entry)) (now (out .exit)) b r (parameterRows (goesOut names a))) ⌝ }
 {
     if names {
         let kind = p.kind;
@@ -167,7 +167,7 @@ pub fn add_parameter(
 ) -> StreamBuilder
     requires { ⌜ ((a : Parameter) × ParameterIn (now s) p a) ⌝ }
     ensures { λ r. ⌜ ((a : Parameter) → ParameterIn (now (s .entry)) p a →
-        Appended (now (out .entry)) (now (out .exit)) b r (parted first (shaped names a ∷ []))) ⌝ }
+        Appended (now (out .entry)) (now (out .exit)) b r (parted first (goesOut names a ∷ []))) ⌝ }
 {
     if first {
         return append_parameter(b, out, s, p, names);

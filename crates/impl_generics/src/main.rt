@@ -26,10 +26,10 @@ fn name_buffer() -> [u8; NAMES]
 }
 
 // As many bytes as the longest output may have: mostAdded in writing/specs/Answer.antt, of two full buffers of names.
-fn output() -> [u8; 180224]
-    ensures { λ r. ⌜ 180224 ≡ length r ⌝ }
+fn output() -> [u8; 237568]
+    ensures { λ r. ⌜ 237568 ≡ length r ⌝ }
 {
-    [0; 180224]
+    [0; 237568]
 }
 
 // `'`, a name of 255 bytes, and one byte more. Of a longer argument nothing is taken: as that argument, an empty one is

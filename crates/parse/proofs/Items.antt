@@ -1,17 +1,20 @@
 -- Laws on the item and on the whole answer.
-use mathlib.Core.Path.{_≡_, refl, ap, _∙_, sym, subst⁻¹}
+use mathlib.Core.Path.{_≡_, refl, ap, _∙_, sym, subst, subst⁻¹}
 use mathlib.Core.List.{List, _++_, append-nil}
 use Prim.Native.Nat.{ℕ, _+_, _-_, _≤_, _<_}
 use native.Mathlib.Omega.{arith}
 use borrow.Author.Tests.{lt-ltb, le-ltb}
-use lib.ListN.{length, replicate, length-append, length-replicate, length-take, drop-of-length-le}
+use lib.ListN.{length, replicate, length-append, length-replicate, drop-of-length-le}
 use lib.Seq.{sets, sets-eq, length-sets}
+use Rattle.token_list.specs.Layout.{names, marked, firstRow}
+use Rattle.token_list.specs.Text.{same}
 use Rattle.token_list.specs.Check as list
 use Rattle.token_list.specs.Stream.{size, at}
-use Rattle.token_list.specs.Contract.{InList}
+use Rattle.token_list.specs.Contract.{InList, startOf}
 use Rattle.token_list.specs.declared.check.Cursor.{Cursor}
 use Rattle.token_list.specs.declared.check.Refusal.{Refusal}
-use Rattle.token_list.proofs.Texts.{chosen, passed-over}
+use Rattle.token_list.proofs.Texts.{chosen, passed-over, same-self}
+use Rattle.token_list.proofs.Columns.{names-within}
 use Rattle.token_list.proofs.Passed.{passed-list}
 use Rattle.token_list.proofs.Starts.{first-start}
 use Rattle.reading.specs.Declaration.{Declaration}
@@ -19,7 +22,7 @@ use Rattle.reading.specs.Took.{Took}
 use Rattle.reading.specs.Reading.{item}
 use Rattle.reading.specs.Answer.{Answer, declared, refused, itemAnswer, answer, buffer, accepts}
 use Rattle.parse.specs.Contract.{Meets, stands, refuses, on, no, parsedOf, parsedBy, kindOf, ParsedAs, Answered}
-use Rattle.parse.specs.Contract.{accepted, stream, first, itemShown, itemSaid, partsShown}
+use Rattle.parse.specs.Contract.{accepted, stream, itemShown, itemSaid, partsShown}
 use Rattle.parse.specs.declared.data_type.DataType.{DataType}
 use Rattle.parse.specs.declared.data_type.DataType.the-variants as kinds
 use Rattle.parse.specs.declared.item.ItemAt.{ItemAt}
@@ -91,19 +94,30 @@ module _ (s : List ℕ) (k : ℕ) where
   answer-short rows e h = rw e (chosen _ _ _ (lt-ltb _ _ h))
 
   pub answer-read : (rows : ℕ) → list.check s ≡ list.Answer.passed rows → rows ≤ k →
-      answer s k ≡ itemAnswer (item 0 (at s 10 .here))
+      answer s k ≡ itemAnswer (item 0 (at s (firstRow s) .here))
   unfolding answer
   answer-read rows e h = rw e (passed-over _ _ _ (le-ltb _ _ h))
 
-pub first-in : (s : List ℕ) (rows : ℕ) → list.check s ≡ list.passed rows → InList s first
+pub first-in : (s : List ℕ) (rows : ℕ) → list.check s ≡ list.passed rows → InList s (startOf s)
 first-in s rows e =
     let p = passed-list s rows e in
     record {
       starts = first-start s;
       counted = omega arith;
-      within = omega (arith, length-take 10 s, ap length (p .names));
+      within = names-within s (ap (λ (t : List ℕ). same t (names (marked s))) (p .names) ∙ same-self (names
+          (marked s)));
       rightRows = p .rightRows;
     }
+
+-- the same of a cursor that is told to be the first
+pub start-in : {s : List ℕ} {c : Cursor} {rows : ℕ} → c ≡ startOf s → list.check s ≡ list.passed rows → InList s c
+start-in {s} {rows = rows} e p = subst⁻¹ (InList s) e (first-in s rows p)
+
+pub from-start : {s b0 b1 : List ℕ} {c : Cursor} (r : ItemStep) → c ≡ startOf s
+    → Meets s c b0 b1 (itemShown s c r) (itemSaid r) (item (c .row) (stream s c))
+    → Meets s (startOf s) b0 b1 (itemShown s (startOf s) r) (itemSaid r) (item 0 (at s (firstRow s) .here))
+from-start {s} {b0} {b1} r e m =
+    subst (λ (c : Cursor). Meets s c b0 b1 (itemShown s c r) (itemSaid r) (item (c .row) (stream s c))) e m
 
 -- an item's parts, and where it ends
 pub item-ends : {s : List ℕ} {c : Cursor} {b0 b1 : List ℕ} (r : ItemStep) →
@@ -127,31 +141,33 @@ answered-refused s b0 {b1} r w e q =
     })
 
 parsed-as : (s : List ℕ) (i : ItemAt) (k : DataType) (d : Declaration) (rs : List ℕ) → i .kind ≡ k →
-    itemShown s first (itemSteps.At i) d → ParsedAs s (parsedBy k i) (declared d rs)
+    itemShown s (startOf s) (itemSteps.At i) d → ParsedAs s (parsedBy k i) (declared d rs)
 parsed-as s i kinds.Struct d rs e o = (o .0 .kind ∙ ap kindOf e, o)
 parsed-as s i kinds.Enum d rs e o = (o .0 .kind ∙ ap kindOf e, o)
 
 module _ (s : List ℕ) (rows : ℕ) (e : list.check s ≡ list.passed rows) (b0 : List ℕ) (room : rows ≤ length b0) where
   pub read-refused : {b1 b2 : List ℕ} {sh : Declaration → Type 0} {p : Parse} (r : Refusal) →
-      Meets s first b0 b1 sh (no (r .number) (r .place)) (item 0 (at s 10 .here))
+      Meets s (startOf s) b0 b1 sh (no (r .number) (r .place)) (item 0 (at s (firstRow s) .here))
       → p ≡ parses.Refused r → b2 ≡ replicate (length b0) 255 → Answered s p b0 b2
   read-refused {b1} {sh = sh} r m w q = answered-refused s b0 r w (answer-read s (length b0) rows e room ∙ go m) q
     where
-      go : {t : Took Declaration} → Meets s first b0 b1 sh (no (r .number) (r .place)) t →
+      go : {t : Took Declaration} → Meets s (startOf s) b0 b1 sh (no (r .number) (r .place)) t →
           itemAnswer t ≡ refused (r .number) (r .place)
       go (refuses qs q) = refl
 
   pub read-accepted : {b1 b2 : List ℕ} {p : Parse} (i : ItemAt) →
-      Meets s first b0 b1 (itemShown s first (itemSteps.At i)) (on (i .next)) (item 0 (at s 10 .here))
+      Meets s (startOf s) b0 b1 (itemShown s (startOf s) (itemSteps.At i)) (on (i .next)) (item 0 (at s
+      (firstRow s) .here))
       → b2 ≡ sets (sets b1 (i .next .row) (replicate (rows - i .next .row) 0)) rows
       (replicate (length b1 - rows) 255) → p ≡ parsedOf i → Answered s p b0 b2
   read-accepted {b1} {b2} i m q w = subst⁻¹ (λ (p : Parse). Answered s p b0 b2) w (go refl m)
     where
-      go : {t : Took Declaration} → item 0 (at s 10 .here) ≡ t →
-          Meets s first b0 b1 (itemShown s first (itemSteps.At i)) (on (i .next)) t → Answered s (parsedOf i) b0 b2
+      go : {t : Took Declaration} → item 0 (at s (firstRow s) .here) ≡ t →
+          Meets s (startOf s) b0 b1 (itemShown s (startOf s) (itemSteps.At i)) (on (i .next)) t → Answered s
+          (parsedOf i) b0 b2
       go f (stands {a = d} {rs = rs} {us = us} mv o) =
           let a = answer-read s (length b0) rows e room ∙ ap itemAnswer f in
-          let c = conserved (item-conserved (at s 10 .here) f) in
+          let c = conserved (item-conserved (at s (firstRow s) .here) f) in
           let n : i .next .row ≡ length rs = omega (arith, mv .row) in
           record {
             answer = subst⁻¹ (ParsedAs s (parsedOf i)) a

@@ -6,7 +6,7 @@ use Prim.Native.Nat.{ℕ, _+_}
 use lib.ListN.{length}
 use Rattle.token_list.specs.Byte.{COMMA}
 use Rattle.token_list.specs.Stream.{Trees, head, at}
-use Rattle.token_list.specs.Layout.{FIRST-ROW}
+use Rattle.token_list.specs.Contract.{startOf}
 use Rattle.token_list.specs.Place.{OneRefusal}
 use Rattle.token_list.specs.declared.check.Cursor.{Cursor}
 use Rattle.token_list.specs.declared.stream.Token.{Token}
@@ -314,17 +314,13 @@ accepted (parses.Struct i) = true
 accepted (parses.Enum i) = true
 accepted (parses.Refused r) = false
 
--- where the rows of a list begin
-abbrev pub first : Cursor
-first = record { at = FIRST-ROW; row = 0 }
-
 -- the answer, by its own enum: the declaration's kind, name and counts and where its parts stand, or the refusal's
 -- number and place
 abbrev pub ParsedAs : List ℕ → Parse → answers.Answer → Type 0
 ParsedAs s (parses.Struct i) (answers.declared d rs) =
-    (d .kind ≡ declaration.struct) × ItemIn s first i d
+    (d .kind ≡ declaration.struct) × ItemIn s (startOf s) i d
 ParsedAs s (parses.Enum i) (answers.declared d rs) =
-    (d .kind ≡ declaration.enum) × ItemIn s first i d
+    (d .kind ≡ declaration.enum) × ItemIn s (startOf s) i d
 ParsedAs s (parses.Refused r) (answers.declared d rs) = ⊥
 ParsedAs s (parses.Struct i) (answers.refused n p) = ⊥
 ParsedAs s (parses.Enum i) (answers.refused n p) = ⊥

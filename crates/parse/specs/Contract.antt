@@ -17,5 +17,5 @@ pub use Rattle.parse.specs.Bodies.{namedSaid, namedShown, unnamedSaid, u
 pub use Rattle.parse.specs.Bodies.{FieldsOf, fieldsSaid, FieldsIn, fieldsShown, ValueOf, valueSaid, ValueIn}
 pub use Rattle.parse.specs.Bodies.{valueShown, variantValue, variantNameShown, variantSaid, variantShown}
 pub use Rattle.parse.specs.Bodies.{bodyShown, partsAfter, itemSaid, ItemIn, itemShown, partsShown, parsedBy}
-pub use Rattle.parse.specs.Bodies.{parsedOf, accepted, first, ParsedAs, Prefix, PrefixOf, UnnamedFieldOf}
+pub use Rattle.parse.specs.Bodies.{parsedOf, accepted, ParsedAs, Prefix, PrefixOf, UnnamedFieldOf}
 pub use Rattle.parse.specs.Bodies.{VariantOf, VariantPlaces, ItemOf, ItemPlaces, HeadOf, Answered}

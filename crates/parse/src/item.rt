@@ -20,7 +20,7 @@ use token_list::check::Cursor;
 use token_list::check::END;
 use token_list::check::Refusal;
 use token_list::check::check;
-use token_list::layout::FIRST_ROW;
+use token_list::check::start;
 ghost use mathlib.Core.Path.{_≡_};
 ghost use Prim.Native.Nat.{_-_, _≤_};
 ghost use lib.ListN.{length, replicate};
@@ -155,10 +155,7 @@ fn read(s: &[u8], roles: &mut [u8], rows: usize) -> Parse
     requires { ⌜ rows ≤ length (now roles) ⌝ }
     ensures { λ r. ⌜ Answered (now (s .entry)) r (now (roles .entry)) (now (roles .exit)) ⌝ }
 {
-    let first = Cursor {
-        at: FIRST_ROW,
-        row: 0,
-    };
+    let first = start(s);
     match item(s, first, roles) {
         ItemStep::Refused(r) => refuse(roles, r),
         ItemStep::At(i) => {

@@ -4,7 +4,7 @@ use mathlib.Core.Bool.{Bool, true, not, _&&_, _||_, or-true}
 use mathlib.Core.List.{List, [], _∷_}
 use Prim.Native.Nat.{ℕ}
 use Rattle.token_list.specs.Byte.{bytes}
-use Rattle.token_list.specs.Layout.{FIRST-ROW}
+use Rattle.token_list.specs.Layout.{marked, firstRow}
 use Rattle.token_list.specs.Check.{check}
 use Rattle.token_list.specs.Row.{formOf}
 use Rattle.token_list.specs.Stream.{Trees, before, at}
@@ -17,18 +17,18 @@ use Rattle.reading.specs.Grammar as g
 use Rattle.reading.specs.Grammar.{Difference, Obeys, LeftOver, nothing}
 
 pub paper : allAgree examples ≡ true
-unfolding answer check formOf before at negatable
+unfolding answer check formOf before at negatable marked firstRow
 paper = refl
 
 -- ## The Reference's productions admit what they should: with no difference allowed, two of the examples
 -- have their roles
 
 abbrev stream : List ℕ → Trees
-stream s = at s FIRST-ROW .here
+stream s = at s (firstRow s) .here
 
 pub valve : Obeys nothing (stream (bytes VALVE))
     (4 ∷ 6 ∷ 7 ∷ 14 ∷ 15 ∷ 10 ∷ 16 ∷ 10 ∷ 15 ∷ 14 ∷ 18 ∷ 14 ∷ 10 ∷ 15 ∷ 10 ∷ 16 ∷ 16 ∷ 14 ∷ [])
-unfolding before at negatable keyword
+unfolding before at negatable keyword marked firstRow
 valve =
     g.Obeys.obeys
     (g.Item.enum (g.Attributes.none refl) (g.Visibility.plain refl refl)
@@ -49,7 +49,7 @@ valve =
 
 pub arrow : Obeys nothing (stream (bytes ARROW))
     (6 ∷ 7 ∷ 8 ∷ 9 ∷ 10 ∷ 11 ∷ 11 ∷ 11 ∷ 11 ∷ 11 ∷ 11 ∷ 8 ∷ 14 ∷ 18 ∷ 14 ∷ 0 ∷ [])
-unfolding before at keyword
+unfolding before at keyword marked firstRow
 arrow =
     g.Obeys.obeys
     (g.Item.struct (g.Attributes.none refl) (g.Visibility.none refl)
@@ -78,13 +78,13 @@ pub scopes : (scopeForm (stream (bytes "kind text\ni crate\n"))
     && scopeForm (stream (bytes "kind text\ni in\ni super\np :\np :\ni a\n"))
     && not (scopeForm (stream (bytes "kind text\ni crate\np :\np :\ni X\n"))
     || scopeForm (stream (bytes "kind text\ni in\n")))) ≡ true
-unfolding before at scopeForm keyword
+unfolding before at scopeForm keyword marked firstRow
 scopes = refl
 
 -- `where u8 : X ;` after a tuple struct's body, where that difference is allowed
 pub tuple-where : (allowed : Difference → Bool) → allowed g.tuple-where ≡ true
     → LeftOver allowed true (stream (bytes "kind text\ni where\ni u8\np :\ni X\np ;\n"))
-unfolding before at
+unfolding before at marked firstRow
 tuple-where allowed e =
     g.LeftOver.clause e refl
     (g.Run.token refl (g.Run.token refl (g.Run.token refl (g.Run.token refl

@@ -3,10 +3,12 @@ pub mod Frame
 pub mod Rounds
 pub mod Conserved
 pub mod Places
+pub mod Marks
 pub mod SoundTokens
 pub mod GrammarSound
 pub mod CompleteTokens
 pub mod GrammarComplete
 pub mod Promise
 pub mod GrammarWider
+pub mod GrammarMarks
 pub mod Examples

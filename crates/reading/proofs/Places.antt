@@ -7,6 +7,7 @@ use Prim.Native.Nat.{ℕ}
 use native.Mathlib.Omega.{arith}
 use borrow.Author.Tests.{leb-true, le-leb}
 use lib.Dec.{leb, ltb}
+use Rattle.token_list.specs.Layout.{firstRow}
 use Rattle.token_list.specs.Text.{between}
 use Rattle.token_list.specs.Check as list
 use Rattle.token_list.specs.Check.{END}
@@ -40,13 +41,13 @@ module _ (s : List ℕ) where
   short-read = record { one = refl; stands = inl refl }
 
   pub item-read : (rows : ℕ) {w : Cause} (n p : ℕ) → list.check s ≡ list.Answer.passed rows →
-      r.item 0 (at s 10 .here) ≡ stopped w n p →
+      r.item 0 (at s (firstRow s) .here) ≡ stopped w n p →
       OneRefusal readNumber s n p
   item-read rows {w} n p e q =
-      let told = item-conserved (at s 10 .here) q in
+      let told = item-conserved (at s (firstRow s) .here) q in
       record { one = or-second (between 1 8 n) (refusal-number told); stands = standing (refusal-place told) }
     where
-      standing : {p : ℕ} → PlaceBelow (size (at s 10 .here)) p → (p ≡ END) ⊎ RowOf s p
+      standing : {p : ℕ} → PlaceBelow (size (at s (firstRow s) .here)) p → (p ≡ END) ⊎ RowOf s p
       standing at-end = inl refl
       standing (at-row l) = let k = bounds s e in let m = passed-list s rows e .size in
           inr (record { begins = omega (arith, m, k .begun, l); low = omega (arith, m, k .rows, l) })

@@ -8,6 +8,7 @@ use native.Mathlib.Omega.{arith}
 use borrow.Author.Tests.{ltb-true, ltb-false}
 use lib.Dec.{ltb}
 use lib.ListN.{length, replicate, length-append, length-replicate}
+use Rattle.token_list.specs.Layout.{firstRow}
 use Rattle.token_list.specs.Check as list
 use Rattle.token_list.specs.Stream.{Trees, size, at}
 use Rattle.token_list.proofs.Passed.{passed-list}
@@ -110,7 +111,7 @@ module _ (s : List ℕ) (n : ℕ) where
   refusing m p = assigns-none one-each obeys-unique refl refl
 
   by-item : (k : ℕ) → list.check s ≡ list.Answer.passed k → k ≤ n → (t : Took Declaration) →
-      item 0 (at s 10 .here) ≡ t → SingleAssignment s n (accepts (itemAnswer t)) (buffer n (itemAnswer t))
+      item 0 (at s (firstRow s) .here) ≡ t → SingleAssignment s n (accepts (itemAnswer t)) (buffer n (itemAnswer t))
   by-item k e l (took d rs us) i =
       assigns-one one-each obeys-unique k (rs ++ replicate (size us) role.left-over) e l (obeys-sound i) refl refl
   by-item k e l (stopped w m p) i =

@@ -5,7 +5,7 @@ use mathlib.Core.List.{List, [], _∷_, _++_}
 use Prim.Native.Nat.{ℕ, _-_}
 use lib.Dec.{ltb}
 use lib.ListN.{length, replicate}
-use Rattle.token_list.specs.Layout.{FIRST-ROW}
+use Rattle.token_list.specs.Layout.{firstRow}
 use Rattle.token_list.specs.Text.{between}
 use Rattle.token_list.specs.Check as list
 use Rattle.token_list.specs.Stream.{Trees, size, at}
@@ -19,7 +19,7 @@ use Rattle.reading.specs.Reading.{item}
 abbrev pub framed : {A : Type 0} → (ℕ → ℕ → A) → (ℕ → Bool) → (Took Declaration → A) → List ℕ → list.Answer → A
 framed refused short made s (list.Answer.refused n p) = refused n p
 framed refused short made s (list.Answer.passed rows) =
-    cond (short rows) (refused 8 list.END) (made (item 0 (at s FIRST-ROW .here)))
+    cond (short rows) (refused 8 list.END) (made (item 0 (at s (firstRow s) .here)))
 
 pub data Answer : Type 0 where
   -- the declaration, and the role of each row

@@ -1,5 +1,7 @@
 -- What a declaration is to the reader (document 01 and the Rust Reference 1.63): the Reference's keywords and simple
--- paths, the roles, the role grammar, the reading, the whole answer, and the promise that each row has one role.
+-- paths, the roles, the role grammar, the reading, the whole answer, the promise that each row has one role, and the
+-- promise that
+-- marks change nothing.
 pub mod Keyword
 pub mod Role
 pub mod Token
@@ -11,4 +13,5 @@ pub mod Reading
 pub mod Place
 pub mod Answer
 pub mod Promise
+pub mod Marks
 pub mod Examples

@@ -4,7 +4,7 @@ use mathlib.Core.Bool.{Bool, false, cond, _||_}
 use mathlib.Core.List.{List}
 use Prim.Native.Nat.{ℕ, zero, suc, _+_}
 use Rattle.token_list.specs.Byte.{QUOTE}
-use Rattle.token_list.specs.Layout.{FIRST-ROW}
+use Rattle.token_list.specs.Layout.{firstRow}
 use Rattle.token_list.specs.Row.{Row}
 use Rattle.token_list.specs.Stream.{Trees, end, leaf, group, at}
 use Rattle.reading.specs.Role as role
@@ -34,7 +34,7 @@ pastToken x = tokenEnd (x .row) (x .stream)
 
 -- the first row of a list
 abbrev pub start : List ℕ → Point
-start s = record { row = 0; stream = at s FIRST-ROW .here }
+start s = record { row = 0; stream = at s (firstRow s) .here }
 
 -- the inside of a group that stands at a point
 abbrev pub insideOf : ℕ → Trees → Point

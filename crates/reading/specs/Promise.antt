@@ -19,7 +19,7 @@ use mathlib.Core.List.{List, _++_}
 use Prim.Native.Nat.{ℕ, _-_, _≤_}
 use lib.Dec.{ltb}
 use lib.ListN.{length, replicate}
-use Rattle.token_list.specs.Layout.{FIRST-ROW}
+use Rattle.token_list.specs.Layout.{firstRow}
 use Rattle.token_list.specs.Text.{all}
 use Rattle.token_list.specs.Check.{check, passed}
 use Rattle.token_list.specs.Stream.{at}
@@ -50,7 +50,7 @@ pub record Assigns (isRole : ℕ → Bool) (Obeying : List ℕ → Type 0) (s : 
 
 -- an assignment of roles to the rows of a list, after its line of names, that obeys document 01's grammar
 abbrev pub Assignment : List ℕ → List ℕ → Type 0
-Assignment s roles = Obeys everything (at s FIRST-ROW .here) roles
+Assignment s roles = Obeys everything (at s (firstRow s) .here) roles
 
 abbrev pub SingleAssignment : List ℕ → ℕ → Bool → List ℕ → Type 0
 SingleAssignment s room accepted buffer = Assigns (λ r. ltb r role.count) (Assignment s) s room accepted buffer

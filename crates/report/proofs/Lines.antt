@@ -9,6 +9,7 @@ use borrow.Author.Tests.{ltb-true, eq-eqb, ne-eqb}
 use lib.Dec.{ltb, eqb}
 use lib.ListN.{length, getD, take, drop, replicate, length-append, drop-of-length-le}
 use lib.Seq.{take-at}
+use Rattle.token_list.specs.Layout.{firstRow}
 use Rattle.token_list.specs.Text.{all}
 use Rattle.token_list.specs.Check as list
 use Rattle.token_list.specs.Stream.{Trees, size, at}
@@ -95,9 +96,10 @@ module _ (s : List ℕ) (n : ℕ) (d : Declaration) (rs : List ℕ) where
   -- what holds of the roles of every item holds of the answer's
   module _ (P : List ℕ → Type 0)
       (of-item : (k : ℕ) → list.check s ≡ list.Answer.passed k → (f : Declaration) (qs : List ℕ) (us : Trees) →
-      item 0 (at s 10 .here) ≡ took f qs us
+      item 0 (at s (firstRow s) .here) ≡ took f qs us
       → P (qs ++ replicate (size us) left-over)) where
-    by-item : (k : ℕ) → list.check s ≡ list.Answer.passed k → (t : Took Declaration) → item 0 (at s 10 .here) ≡ t →
+    by-item : (k : ℕ) → list.check s ≡ list.Answer.passed k → (t : Took Declaration) → item 0 (at s
+        (firstRow s) .here) ≡ t →
         itemAnswer t ≡ declared d rs → P rs
     by-item k c (took f qs us) i e =
         let q : qs ++ replicate (size us) left-over ≡ rs = cc in subst P q (of-item k c f qs us i)
@@ -110,14 +112,14 @@ module _ (s : List ℕ) (n : ℕ) (d : Declaration) (rs : List ℕ) where
         (λ m p c e. absurd (never e)) (λ k c h e. absurd (never e)) (λ k c h. by-item k c)
 
   named : answer s n ≡ declared d rs → Named rs
-  named = by-answer Named (λ k c f qs us i. obeys-each {ts = at s 10 .here} _ (obeys-sound i) .named)
+  named = by-answer Named (λ k c f qs us i. obeys-each {ts = at s (firstRow s) .here} _ (obeys-sound i) .named)
 
   -- one for each row
   pub few-roles : answer s n ≡ declared d rs → length rs ≤ 4096
   few-roles =
       by-answer (λ (qs : List ℕ). length qs ≤ 4096)
       (λ k c f qs us i.
-      let e = obeys-each {ts = at s 10 .here} _ (obeys-sound i) in
+      let e = obeys-each {ts = at s (firstRow s) .here} _ (obeys-sound i) in
       omega (arith, e .counted, passed-list s k c .size, bounds s c .rows))
 
   pub roles-few : answer s n ≡ declared d rs → length (NAMES ++ roleLines 0 rs) ≤ 65536

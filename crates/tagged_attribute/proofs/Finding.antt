@@ -6,7 +6,7 @@ use Prim.Native.Nat.{ℕ, _+_}
 use native.Mathlib.Omega.{arith}
 use Rattle.token_list.specs.Check.{END}
 use Rattle.token_list.specs.Stream.{Trees, end, leaf, group, size, head, at, firstKind}
-use Rattle.token_list.specs.Contract.{InList, LeafAt, GroupAt, Looked, rowOf, skipped}
+use Rattle.token_list.specs.Contract.{startOf, InList, LeafAt, GroupAt, Looked, rowOf, skipped}
 use Rattle.token_list.specs.declared.check.Cursor.{Cursor}
 use Rattle.token_list.specs.declared.stream.Token.{Token}
 use Rattle.token_list.specs.declared.stream.Glance.{Glance}
@@ -39,9 +39,9 @@ something end h = absurd (h refl)
 something (leaf q us) h = refl
 something (group d ts us) h = refl
 
-module _ (s : List ℕ) (c : Cursor) (start : (c .at ≡ 10) × (c .row ≡ 0)) where
+module _ (s : List ℕ) (c : Cursor) (start : c ≡ startOf s) where
   here : listed s ≡ stream s c
-  here = ap (λ (a : ℕ). at s a .here) (sym (start .0))
+  here = ap (λ (x : Cursor). at s (x .at) .here) (sym start)
 
   pub no-rows : stream s c ≡ end → (prefix : List ℕ) → tagged prefix (listed s) ≡ refused 31 END
   no-rows e prefix = ap (tagged prefix) (here ∙ e)
@@ -66,7 +66,7 @@ module _ (s : List ℕ) (c : Cursor) (start : (c .at ≡ 10) × (c .row ≡ 0)) 
       pub outside : (l .kind ≡ 0 → ⊥) → (prefix : List ℕ) → tagged prefix (listed s) ≡ refused 31 (e .row)
       outside h prefix =
           let row : groupSize (stream s d) ≡ e .row =
-          ap groupSize (stream-past s c d t p) ∙ omega (arith, past .0 .row, start .1) in
+          ap groupSize (stream-past s c d t p) ∙ omega (arith, past .0 .row, ap (λ (x : Cursor). x .row) start) in
           ap (tagged prefix) all-rows
           ∙ passed-over _ _ _ (something (stream s e) (λ z. h (look .kind ∙ z)))
           ∙ ap (refused 31) row
@@ -75,7 +75,7 @@ module _ (s : List ℕ) (c : Cursor) (start : (c .at ≡ 10) × (c .row ≡ 0)) 
       alone h =
           record {
             inList = past-in-of s c d t p i (g .token);
-            row = ap (λ (x : Cursor). x .row) p ∙ omega (arith, start .1);
+            row = ap (λ (x : Cursor). x .row) p ∙ omega (arith, ap (λ (x : Cursor). x .row) start);
             same = λ prefix. ap (tagged prefix) all-rows ∙ chosen _ _ _ (ap isEnd (look .none h));
           }
 

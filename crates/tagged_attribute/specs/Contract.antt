@@ -5,7 +5,7 @@ use mathlib.Core.List.{List, [], _∷_, _++_}
 use Prim.Native.Nat.{ℕ, _+_, _-_, _≤_, _<_}
 use lib.ListN.{length}
 use lib.Seq.{sets, slice}
-use Rattle.token_list.specs.Layout.{FIRST-ROW}
+use Rattle.token_list.specs.Layout.{firstRow}
 use Rattle.token_list.specs.Check.{check, passed}
 use Rattle.token_list.specs.Stream.{Trees, at}
 use Rattle.token_list.specs.Place.{OneRefusal}
@@ -123,7 +123,7 @@ EnteredAs s c b0 b1 (entereds.Refused r) = entriesAt s c ≡ refused (r .number)
 
 -- the stream of all rows
 abbrev pub listed : List ℕ → Trees
-listed s = at s FIRST-ROW .here
+listed s = at s (firstRow s) .here
 
 -- the list passed the check
 abbrev pub Passed : List ℕ → Type 0

@@ -14,7 +14,7 @@ use token_list::check::Cursor;
 use token_list::check::END;
 use token_list::check::Refusal;
 use token_list::check::check;
-use token_list::layout::FIRST_ROW;
+use token_list::check::start;
 use token_list::stream::Peeked;
 use token_list::stream::look;
 use token_list::stream::peek;
@@ -24,9 +24,9 @@ ghost use mathlib.Core.List.{[]};
 ghost use Prim.Native.Nat.{ℕ, _+_, _-_, _^_, _<_, _≤_};
 ghost use lib.ListN.{length, replicate};
 ghost use lib.Seq.{sets};
-ghost use Rattle.token_list.specs.Layout.{FIRST-ROW};
+ghost use Rattle.token_list.specs.Layout.{firstRow};
 ghost use Rattle.token_list.specs.Check as list;
-ghost use Rattle.token_list.specs.Contract.{InList};
+ghost use Rattle.token_list.specs.Contract.{InList, startOf};
 ghost use Rattle.reading.specs.Role.{none as no-role};
 ghost use Rattle.parse.specs.Contract.{stream};
 ghost use Rattle.tagged_reading.specs.Role.{others};
@@ -149,7 +149,7 @@ fn entries(s: &[u8], from: Cursor, roles: &mut [u8]) -> Entered
 // The inside of the one group that the list is.
 fn one_group(s: &[u8], first: Cursor) -> Step
     requires { ⌜ InList (now s) first ⌝ }
-    requires { ⌜ (first .at ≡ FIRST-ROW) × (first .row ≡ 0) ⌝ }
+    requires { ⌜ first ≡ startOf (now s) ⌝ }
     ensures { λ r. ⌜ AloneAs (now (s .entry)) r ⌝ }
 {
     match peek(s, first) {
@@ -205,10 +205,7 @@ fn find(s: &[u8], prefix: &[u8]) -> Found
     requires { ⌜ Passed (now s) ⌝ }
     ensures { λ r. ⌜ FoundAs (now (s .entry)) (tagged (now (prefix .entry)) (listed (now (s .entry)))) r ⌝ }
 {
-    let first = Cursor {
-        at: FIRST_ROW,
-        row: 0,
-    };
+    let first = start(s);
     match one_group(s, first) {
         Step::Refused(r) => Found::Refused(r),
         Step::At(inside) => entries_of(s, prefix, inside),

@@ -4,7 +4,7 @@ use mathlib.Core.Bool.{true}
 use mathlib.Core.List.{[], _∷_}
 use Rattle.token_list.specs.Byte.{bytes}
 use Rattle.token_list.specs.Check.{check}
-use Rattle.token_list.specs.Layout.{FIRST-ROW}
+use Rattle.token_list.specs.Layout.{marked, firstRow}
 use Rattle.token_list.specs.Row.{formOf}
 use Rattle.token_list.specs.Stream.{before, at}
 use Rattle.reading.specs.Keyword.{keyword}
@@ -14,13 +14,13 @@ use Rattle.tagged_reading.specs.Grammar as g
 use Rattle.tagged_reading.specs.Grammar.{Obeys, nothing}
 
 pub settled : allAgree examples ≡ true
-unfolding answer check formOf before at
+unfolding answer check formOf before at marked firstRow
 settled = refl
 
 -- with no difference allowed
-pub plain : Obeys nothing (bytes "p") (at (bytes ENTRIES) FIRST-ROW .here)
+pub plain : Obeys nothing (bytes "p") (at (bytes ENTRIES) (firstRow (bytes ENTRIES)) .here)
     (23 ∷ 23 ∷ 23 ∷ 20 ∷ 23 ∷ 21 ∷ 23 ∷ 22 ∷ 23 ∷ 20 ∷ 23 ∷ 23 ∷ [])
-unfolding before at keyword
+unfolding before at keyword marked firstRow
 plain =
     g.Obeys.obeys refl
     (g.Attribute.attribute refl refl refl

@@ -3,4 +3,5 @@ pub mod Told
 pub mod Complete
 pub mod Promise
 pub mod Wider
+pub mod Marks
 pub mod Examples

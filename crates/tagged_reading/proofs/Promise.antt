@@ -8,6 +8,7 @@ use native.Mathlib.Omega.{arith}
 use borrow.Author.Tests.{ltb-true, ltb-false, leb-true, le-leb}
 use lib.Dec.{ltb, leb}
 use lib.ListN.{replicate}
+use Rattle.token_list.specs.Layout.{firstRow}
 use Rattle.token_list.specs.Text.{between}
 use Rattle.token_list.specs.Check as list
 use Rattle.token_list.specs.Place.{RowOf, OneRefusal}
@@ -60,7 +61,7 @@ or-second false e = e
 
 module _ (prefix s : List ℕ) where
   abbrev stream : Trees
-  stream = at s 10 .here
+  stream = at s (firstRow s) .here
 
   one-each : (k : ℕ) → list.check s ≡ list.Answer.passed k → (roles : List ℕ) → Assignment prefix s roles →
       OneEach isRole k roles

@@ -4,7 +4,7 @@ use mathlib.Core.List.{List, _++_}
 use Prim.Native.Nat.{ℕ, _-_}
 use lib.Dec.{ltb, eqb}
 use lib.ListN.{length, replicate}
-use Rattle.token_list.specs.Layout.{FIRST-ROW}
+use Rattle.token_list.specs.Layout.{firstRow}
 use Rattle.token_list.specs.Text.{between}
 use Rattle.token_list.specs.Check as list
 use Rattle.token_list.specs.Stream.{at}
@@ -15,7 +15,7 @@ use Rattle.tagged_reading.specs.Reading.{Answer, none, read, refused, ta
 abbrev pub framed : List ℕ → List ℕ → ℕ → list.Answer → Answer
 framed prefix s n (list.Answer.refused m p) = refused m p
 framed prefix s n (list.Answer.passed rows) =
-    cond (ltb n rows) (refused 8 list.END) (tagged prefix (at s FIRST-ROW .here))
+    cond (ltb n rows) (refused 8 list.END) (tagged prefix (at s (firstRow s) .here))
 
 -- for a prefix, a list s and a role buffer of n bytes
 unfoldable pub answer : List ℕ → List ℕ → ℕ → Answer

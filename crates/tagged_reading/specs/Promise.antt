@@ -2,7 +2,7 @@
 use mathlib.Core.Bool.{Bool}
 use mathlib.Core.List.{List}
 use Prim.Native.Nat.{ℕ}
-use Rattle.token_list.specs.Layout.{FIRST-ROW}
+use Rattle.token_list.specs.Layout.{firstRow}
 use Rattle.token_list.specs.Stream.{at}
 use Rattle.reading.specs.Promise.{Assigns}
 use Rattle.tagged_reading.specs.Role.{isRole}
@@ -10,7 +10,7 @@ use Rattle.tagged_reading.specs.Grammar.{Obeys, everything}
 
 -- an assignment of roles to the rows of a list that obeys document 01's grammar for this prefix
 abbrev pub Assignment : List ℕ → List ℕ → List ℕ → Type 0
-Assignment prefix s roles = Obeys everything prefix (at s FIRST-ROW .here) roles
+Assignment prefix s roles = Obeys everything prefix (at s (firstRow s) .here) roles
 
 -- of a prefix, a list s and a role buffer of `room` bytes: whether entries are read, and the buffer's final bytes
 abbrev pub TaggedAssignment : List ℕ → List ℕ → ℕ → Bool → List ℕ → Type 0

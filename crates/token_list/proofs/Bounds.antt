@@ -3,16 +3,17 @@
 use mathlib.Core.Path.{_≡_, refl, ap, _∙_, sym, subst}
 use mathlib.Core.Logic.{inl, inr}
 use mathlib.Core.Bool.{Bool, true, false, cond}
-use mathlib.Core.List.{List, [], _∷_}
+use mathlib.Core.List.{List, [], _∷_, _++_}
 use Prim.Native.Nat.{ℕ, _+_, _≤_, _<_}
 use native.Mathlib.Omega.{arith}
 use borrow.Author.Tests.{eqb-true, eqb-false, leb-true, leb-false, ltb-false}
 use lib.Dec.{eqb, leb, ltb}
-use lib.ListN.{length, take, drop, length-append, length-drop}
-use Rattle.token_list.specs.Text.{LF, same, closer}
+use lib.ListN.{length, drop, length-append, length-drop}
+use Rattle.token_list.specs.Text.{LF, closer}
+use Rattle.token_list.specs.Layout.{marked, firstRow}
 use Rattle.token_list.specs.Row.{Row, Lines, tail, line, lines, written, begun, Form, plain, opens, closed, wrong}
-use Rattle.token_list.specs.Row.{form}
-use Rattle.token_list.specs.Check.{Answer, passed, refused, END, Open, step, walk, NAMES, check}
+use Rattle.token_list.specs.Row.{form, markColumn}
+use Rattle.token_list.specs.Check.{Answer, passed, refused, END, Open, step, walk, named, check}
 use Rattle.token_list.specs.Place.{OneRefusal, checkNumber}
 use Rattle.token_list.specs.Contract.{checked, CheckedAs}
 use Rattle.token_list.specs.declared.check.Checked.{Checked}
@@ -30,8 +31,8 @@ texts (group d ts us) = texts ts + texts us
 pub record Bounded (s : List ℕ) (n : ℕ) : Type 0 where
   pub bytes : length s ≤ 65536
   pub rows : n ≤ 4096
-  pub begun : begun (lines (drop 10 s)) ≡ n
-  pub texts : texts (at s 10 .here) ≤ length s
+  pub begun : begun (lines (drop (firstRow s) s)) ≡ n
+  pub texts : texts (at s (firstRow s) .here) ≤ length s
 
 -- ## Rows, and the numbers and places of refusals
 
@@ -73,27 +74,27 @@ begin-limited {b} r a h l k = go (leb 4096 r) refl
     go true e = low {p = 4096} refl (omega (arith, leb-true 4096 r e)) (omega arith)
     go false e = k (omega (arith, leb-false 4096 r e))
 
-walk-limited : {b : ℕ} (ls : Lines) (r : ℕ) (gs : List Open) → r ≤ 4096 → Below r gs → r + begun ls ≡ b →
-    Limited b (walk r gs ls)
-walk-limited (tail []) r [] h o e = few {n = r} (omega arith) h
-walk-limited (tail []) r (g ∷ gs) h o e = low {p = g .row} refl (omega (arith, o .0)) (omega (arith, o .0))
-walk-limited (tail (x ∷ xs)) r gs h o e = begin-limited r _ h (omega arith) (λ i. low {p = r} refl (omega arith) h)
-walk-limited (line l ls) r gs h o e =
+walk-limited : {b : ℕ} (m : Bool) (ls : Lines) (r : ℕ) (gs : List Open) → r ≤ 4096 → Below r gs → r + begun ls ≡ b →
+    Limited b (walk m r gs ls)
+walk-limited m (tail []) r [] h o e = few {n = r} (omega arith) h
+walk-limited m (tail []) r (g ∷ gs) h o e = low {p = g .row} refl (omega (arith, o .0)) (omega (arith, o .0))
+walk-limited m (tail (x ∷ xs)) r gs h o e = begin-limited r _ h (omega arith) (λ i. low {p = r} refl (omega arith) h)
+walk-limited m (line l ls) r gs h o e =
     begin-limited r _ h (omega arith)
-    (λ i. step-limited r gs (form l) (λ hs. walk (r + 1) hs ls) (omega arith) h o
-    (λ hs p. walk-limited ls (r + 1) hs (omega arith) p (omega arith)))
+    (λ i. step-limited r gs (form m l) (λ hs. walk m (r + 1) hs ls) (omega arith) h o
+    (λ hs p. walk-limited m ls (r + 1) hs (omega arith) p (omega arith)))
 
-check-limited : (s : List ℕ) → Limited (begun (lines (drop 10 s))) (check s)
+check-limited : (s : List ℕ) → Limited (begun (lines (drop (firstRow s) s))) (check s)
 unfolding check
 check-limited s =
     choice (ltb 65536 (length s)) (ended refl)
-    (choice (same (take 10 s) NAMES) (walk-limited (lines (drop 10 s)) 0 [] (omega arith) tt (omega arith))
+    (choice (named s) (walk-limited (marked s) (lines (drop (firstRow s) s)) 0 [] (omega arith) tt (omega arith))
     (ended refl))
 
 pub check-refusal : (s : List ℕ) (n p : ℕ) → check s ≡ refused n p → OneRefusal checkNumber s n p
 check-refusal s n p e = go refl (rw e at (check-limited s))
   where
-    go : {a : Answer} → a ≡ refused n p → Limited (begun (lines (drop 10 s))) a → OneRefusal checkNumber s n p
+    go : {a : Answer} → a ≡ refused n p → Limited (begun (lines (drop (firstRow s) s))) a → OneRefusal checkNumber s n p
     go q (few h k) = let z : _≡_ {A = ℕ} 0 1 = cc in absurd (omega arith)
     go q (ended {n = m} k) =
         let number : m ≡ n = cc in
@@ -125,24 +126,29 @@ unfolding around
 around-parts [] = refl
 around-parts (t ∷ ts) = refl
 
-streams-texts : (rs : List Row) → texts (streams rs .here) + around (streams rs .outer) ≤ length (written rs)
+streams-texts : (m : Bool) (rs : List Row) → texts (streams rs .here) + around (streams rs .outer) ≤ length
+    (written m rs)
 unfolding around
-streams-texts [] = omega arith
-streams-texts (r ∷ rs) = kind (streams-texts rs) (eqb (r .kind) 111) (eqb (r .kind) 99) refl refl
+streams-texts m [] = omega arith
+streams-texts m (r ∷ rs) = kind (streams-texts m rs) (eqb (r .kind) 111) (eqb (r .kind) 99) refl refl
   where
     total : Streams → ℕ
     total st = texts (st .here) + around (st .outer)
 
-    long : length (written (r ∷ rs)) ≡ length (r .text) + length (written rs) + 3
-    long = omega (arith, length-append (r .text) (LF ∷ written rs))
+    long : length (r .text) + length (written m rs) + 3 ≤ length (written m (r ∷ rs))
+    long = omega (
+      arith,
+      length-append (markColumn m (r .joint)) (r .text ++ LF ∷ written m rs),
+      length-append (r .text) (LF ∷ written m rs),
+    )
 
     within : {st : Streams} → before r (streams rs) ≡ st → total st ≤ length (r .text) + total (streams rs) →
-        total (streams rs) ≤ length (written rs)
-        → total (before r (streams rs)) ≤ length (written (r ∷ rs))
+        total (streams rs) ≤ length (written m rs)
+        → total (before r (streams rs)) ≤ length (written m (r ∷ rs))
     within e h ih = let same = ap total e in omega (arith, long)
 
-    kind : total (streams rs) ≤ length (written rs) → (o c : Bool) → eqb (r .kind) 111 ≡ o → eqb (r .kind) 99 ≡ c →
-        total (before r (streams rs)) ≤ length (written (r ∷ rs))
+    kind : total (streams rs) ≤ length (written m rs) → (o c : Bool) → eqb (r .kind) 111 ≡ o → eqb (r .kind) 99 ≡ c →
+        total (before r (streams rs)) ≤ length (written m (r ∷ rs))
     kind ih true c a b = within (before-open r (streams rs) (eqb-true _ _ a))
         (omega (arith, around-parts (streams rs .outer))) ih
     kind ih false true a b = within (before-close r (streams rs) (eqb-true _ _ b)) (omega arith) ih
@@ -165,7 +171,12 @@ bounds s {n} e =
       bytes = short s e;
       rows = go (rw e at (check-limited s)) .1;
       begun = go (rw e at (check-limited s)) .0;
-      texts = omega (arith, streams-texts (rowsAt s 10), ap length (passed-list s n e .written), length-drop 10 s);
+      texts = omega (
+        arith,
+        streams-texts (marked s) (rowsAt s (firstRow s)),
+        ap length (passed-list s n e .written),
+        length-drop (firstRow s) s,
+      );
     }
   where
     go : {b : ℕ} → Limited b (passed n) → (b ≡ n) × (n ≤ 4096)

@@ -3,12 +3,14 @@ pub mod Table
 pub mod Texts
 pub mod Pairs
 pub mod Lines
-pub mod Starts
 pub mod Forms
+pub mod Columns
+pub mod Starts
 pub mod Walks
 pub mod Rows
 pub mod Streams
 pub mod Passed
+pub mod Marks
 pub mod Bounds
 pub mod Stores
 pub mod Readers

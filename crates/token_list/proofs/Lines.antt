@@ -4,11 +4,12 @@ use mathlib.Core.Bool.{Bool, true, false, false≢true}
 use mathlib.Core.List.{List, [], _∷_, _++_, append-assoc, append-nil}
 use Prim.Native.Nat.{ℕ, _+_, _≤_, _<_}
 use native.Mathlib.Omega.{arith}
-use borrow.Author.Tests.{eq-eqb, ne-eqb}
+use borrow.Author.Tests.{eq-eqb, ne-eqb, eqb-true}
+use lib.Dec.{eqb}
 use lib.ListN.{length, getD, drop, drop-of-length-le}
 use lib.Seq.{slice, slice-empty, take-all}
 use Rattle.token_list.specs.Text.{LF, namePart, printable}
-use Rattle.token_list.specs.Row.{Lines, tail, line, lines, front}
+use Rattle.token_list.specs.Row.{Lines, tail, line, lines, front, byte}
 use Rattle.token_list.specs.Contract.{inText}
 use Rattle.token_list.proofs.Texts.{drop-next, slice-more, slice-next}
 
@@ -62,18 +63,20 @@ pub in-text-no-lf : (names : Bool) (b : ℕ) → inText names b ≡ true → b �
 in-text-no-lf true b e q = false≢true (sym (ap namePart q) ∙ e)
 in-text-no-lf false b e q = false≢true (sym (ap printable q) ∙ e)
 
--- a line whose first two bytes are no LF
-pub line-from : (s : List ℕ) (i e : ℕ) → i + 2 ≤ e → e ≤ length s → (getD s i 0 ≡ LF → ⊥) → (getD s (i + 1) 0 ≡ LF → ⊥)
-    → lines (drop (i + 2) s) ≡ line (slice (i + 2) e s) (lines (drop (e + 1) s)) → lines (drop i s) ≡ line (slice i e s)
-    (lines (drop (e + 1) s))
-line-from s i e h k p q l =
-    let two : i + 1 + 1 ≡ i + 2 = omega arith in
-    lines-byte s i (omega arith) p
-    ∙ ap (front (getD s i 0)) (lines-byte s (i + 1) (omega arith) q)
-    ∙ ap (λ (n : ℕ). front (getD s i 0) (front (getD s (i + 1) 0) (lines (drop n s)))) two
-    ∙ ap (λ (x : Lines). front (getD s i 0) (front (getD s (i + 1) 0) x)) l
-    ∙ sym
-    (ap (λ (x : List ℕ). line x (lines (drop (e + 1) s)))
-    (slice-next s i e (omega arith) k
-    ∙ ap (λ (x : List ℕ). getD s i 0 ∷ x) (slice-next s (i + 1) e (omega arith) k ∙
-    ap (λ (n : ℕ). getD s (i + 1) 0 ∷ slice n e s) two)))
+-- ## Lines as bytes again
+
+abbrev pub joined : Lines → List ℕ
+joined (tail t) = t
+joined (line l ls) = l ++ LF ∷ joined ls
+
+joined-front : (b : ℕ) (ls : Lines) → joined (front b ls) ≡ b ∷ joined ls
+joined-front b (tail t) = refl
+joined-front b (line l ls) = refl
+
+joined-byte : (t : Bool) (b : ℕ) (ls : Lines) → eqb b LF ≡ t → joined (byte t b ls) ≡ b ∷ joined ls
+joined-byte true b ls e = ap (λ (x : ℕ). x ∷ joined ls) (sym (eqb-true b LF e))
+joined-byte false b ls e = joined-front b ls
+
+pub joined-lines : (bs : List ℕ) → joined (lines bs) ≡ bs
+joined-lines [] = refl
+joined-lines (b ∷ bs) = joined-byte (eqb b LF) b (lines bs) refl ∙ ap (λ (t : List ℕ). b ∷ t) (joined-lines bs)

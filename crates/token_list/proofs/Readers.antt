@@ -5,9 +5,9 @@ use Prim.Native.Nat.{ℕ, _+_, _≤_, _<_}
 use native.Mathlib.Omega.{arith}
 use lib.ListN.{length, getD, take, drop, length-drop, drop-of-length-le}
 use lib.Seq.{slice, length-slice, take-length, drop-drop, drop-length}
-use Rattle.token_list.specs.Layout.{FIRST-ROW}
+use Rattle.token_list.specs.Layout.{firstRow}
 use Rattle.token_list.specs.Row.{Lines, tail, lines}
-use Rattle.token_list.specs.Contract.{LineEnd}
+use Rattle.token_list.specs.Contract.{LineEnd, startOf}
 use Rattle.token_list.specs.Reader.{rowBytes, bytesFrom, AtRow, shownOf, onward, shownBytes, Shows, GoesOn}
 use Rattle.token_list.specs.declared.check.Cursor.{Cursor}
 use Rattle.token_list.specs.declared.reader.Shown.{Shown}
@@ -64,8 +64,8 @@ module _ (s : List ℕ) (c : Cursor) where
         rest = rest;
         row = λ h. record {
           counted = omega (arith, h .counted);
-          rows = rest ∙ ap (drop 1) (h .rows) ∙ drop-drop 1 (c .row) (bytesFrom s FIRST-ROW)
-              ∙ ap (λ (n : ℕ). drop n (bytesFrom s FIRST-ROW)) (sym row);
+          rows = rest ∙ ap (drop 1) (h .rows) ∙ drop-drop 1 (c .row) (bytesFrom s (firstRow s))
+              ∙ ap (λ (n : ℕ). drop n (bytesFrom s (firstRow s))) (sym row);
         };
       }
 
@@ -102,5 +102,5 @@ module _ (s : List ℕ) (c : Cursor) where
       refl (omega (arith, l .start))
 
 -- a reader of a list at its first row
-pub at-first : (s : List ℕ) → AtRow s (record { at = FIRST-ROW; row = 0 })
+pub at-first : (s : List ℕ) → AtRow s (startOf s)
 at-first s = record { counted = omega arith; rows = refl }

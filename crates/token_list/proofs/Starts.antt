@@ -9,9 +9,12 @@ use lib.Dec.{eqb}
 use lib.ListN.{length, drop}
 use lib.Seq.{slice, length-slice, drop-drop}
 use Rattle.token_list.specs.Text.{LF}
+use Rattle.token_list.specs.Layout.{NAMES-DIFFER, firstRow}
 use Rattle.token_list.specs.Row.{Lines, tail, line, lines, front, byte, bytesBefore}
 use Rattle.token_list.specs.Stream.{rowStart}
-use Rattle.token_list.specs.Contract.{RowEnd}
+use Rattle.token_list.specs.Contract.{RowEnd, InList}
+use Rattle.token_list.specs.declared.check.Cursor.{Cursor}
+use Rattle.token_list.proofs.Columns.{first-row-low}
 
 -- the lines from row r on
 abbrev pub linesFrom : ℕ → Lines → Lines
@@ -70,14 +73,23 @@ before-next (suc r) (line k ks) l ms e = omega (arith, before-next r ks l ms e)
 pub next-start : (s : List ℕ) (r i e : ℕ) → i ≡ rowStart s r → RowEnd s i e → e + 1 ≡ rowStart s (r + 1)
 unfolding rowStart
 next-start s r i e h l =
-    let before = bytesBefore r (lines (drop 10 s)) in
-    let here : linesFrom r (lines (drop 10 s)) ≡ lines (drop i s) =
-    sym (lines-from r (drop 10 s)) ∙ ap lines (drop-drop before 10 s) ∙ ap (λ (k : ℕ). lines (drop k s)) (sym h) in
-    let next = before-next r (lines (drop 10 s)) (slice i e s) _ (here ∙ l .line .found (l .within)) in
-    let up = ap (λ (k : ℕ). bytesBefore k (lines (drop 10 s))) (add-one r) in
-    omega (arith, next, up, h, length-slice i e s (omega (arith, l .within)), l .text)
+    let before = bytesBefore r (lines (drop (firstRow s) s)) in
+    let here : linesFrom r (lines (drop (firstRow s) s)) ≡ lines (drop i s) =
+    sym (lines-from r (drop (firstRow s) s)) ∙ ap lines (drop-drop before (firstRow s) s) ∙ ap (λ (k : ℕ). lines
+    (drop k s)) (sym h) in
+    let next = before-next r (lines (drop (firstRow s) s)) (slice i e s) _ (here ∙ l .line .found (l .within)) in
+    let up = ap (λ (k : ℕ). bytesBefore k (lines (drop (firstRow s) s))) (add-one r) in
+    omega (arith, next, up, h, length-slice i e s (omega (arith, l .within)), l .long)
 
 -- row 0 starts after the line of names
-pub first-start : (s : List ℕ) → 10 ≡ rowStart s 0
+pub first-start : (s : List ℕ) → firstRow s ≡ rowStart s 0
 unfolding rowStart
 first-start s = omega arith
+
+-- every row starts after it, so the list has the byte that tells its names
+pub start-low : (s : List ℕ) (r : ℕ) → 10 ≤ rowStart s r
+unfolding rowStart
+start-low s r = omega (arith, first-row-low s)
+
+pub list-long : {s : List ℕ} {c : Cursor} → InList s c → NAMES-DIFFER < length s
+list-long {s} {c} i = omega (arith, i .starts, i .within, start-low s (c .row))

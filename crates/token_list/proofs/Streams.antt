@@ -8,30 +8,20 @@ use borrow.Author.Tests.{eq-eqb, ne-eqb, eqb-true, eqb-false, leb-true, leb-fals
 use lib.Dec.{leb, eqb}
 use lib.ListN.{length, getD, drop}
 use lib.Seq.{slice, drop-nil}
-use Rattle.token_list.specs.Row.{Row, line, rows, first}
+use Rattle.token_list.specs.Layout.{marked, textOffset}
+use Rattle.token_list.specs.Row.{Row, first, markOf}
 use Rattle.token_list.specs.Stream.{Trees, end, leaf, group, Streams, head, others, before, streams, size}
 use Rattle.token_list.specs.Stream.{firstKind, firstByte, follows, allClosed, rowsAt, at, rowStart}
 use Rattle.token_list.specs.Contract.{RowEnd, RightRows, InList, Looked, TokenAt, LeafAt, GroupAt, Skipped}
-use Rattle.token_list.specs.Contract.{skipped, deeper}
+use Rattle.token_list.specs.Contract.{skipped, deeper, rowOf}
 use Rattle.token_list.specs.declared.check.Cursor.{Cursor}
 use Rattle.token_list.specs.declared.stream.Token.{Token}
 use Rattle.token_list.proofs.Texts.{and-parts, chosen, passed-over, slice-next}
 use Rattle.token_list.proofs.Starts.{next-start}
 use Rattle.token_list.proofs.Rows.{rows-none, FirstRow, first-row, first-kind, first-at, some-kind}
-use Rattle.token_list.proofs.Rows.{right-rows-next, punct-end}
+use Rattle.token_list.proofs.Rows.{rowAt, row-at, right-rows-next, punct-end}
 
 -- ## The row at an offset
-
-pub row-at : (s : List ℕ) (i e : ℕ) → RowEnd s i e → rowsAt s i ≡ record {
-  kind = getD s i 0;
-  text = slice (i + 2) e s;
-} ∷ rowsAt s (e + 1)
-row-at s i e l =
-    let h = l .within in
-    let k = l .text in
-    let two : i + 1 + 1 ≡ i + 2 = omega arith in
-    ap rows (l .line .found h) ∙ rw
-    (slice-next s i e (omega arith) (omega arith), slice-next s (i + 1) e (omega arith) (omega arith), two)
 
 pub at-none : (s : List ℕ) (i : ℕ) → rowsAt s i ≡ [] → at s i ≡ record { here = end; outer = [] }
 unfolding at
@@ -89,7 +79,7 @@ module _ (s : List ℕ) (c : Cursor) (inList : InList s c) where
   look-none e = record { kind = sym (ap firstKind e); first = sym (ap firstByte e); none = λ q. e }
 
   pub look-here : c .at < length s → (getD s (c .at) 0 ≡ 99 → ⊥) →
-      Looked s (c .at) (record { kind = getD s (c .at) 0; first = getD s (c .at + 2) 0 })
+      Looked s (c .at) (record { kind = getD s (c .at) 0; first = getD s (c .at + textOffset (marked s)) 0 })
   unfolding at
   look-here h x = go (eqb (f .row .kind) 111) refl
     where
@@ -99,11 +89,11 @@ module _ (s : List ℕ) (c : Cursor) (inList : InList s c) where
       k : f .row .kind ≡ getD s (c .at) 0
       k = first-kind s (c .at) f
 
-      m : first (f .row .text) ≡ getD s (c .at + 2) 0
+      m : first (f .row .text) ≡ getD s (c .at + textOffset (marked s)) 0
       m = ap first (f .texts) ∙ first-at s (c .at) f
 
       go : (b : Bool) → eqb (f .row .kind) 111 ≡ b → Looked s (c .at)
-          (record { kind = getD s (c .at) 0; first = getD s (c .at + 2) 0 })
+          (record { kind = getD s (c .at) 0; first = getD s (c .at + textOffset (marked s)) 0 })
       go true e =
           let b = ap (λ (t : Streams). t .here) (ap streams (f .here) ∙
           before-open (f .row) (streams (f .rest)) (eqb-true _ _ e)) in
@@ -121,54 +111,81 @@ module _ (s : List ℕ) (c : Cursor) (inList : InList s c) where
             none = λ q. absurd (some-kind s (c .at) f (k ∙ q));
           }
 
-module _ (s : List ℕ) (c : Cursor) (inList : InList s c) (e : ℕ) (l : RowEnd s (c .at) e) where
-  abbrev theRow : Row
-  theRow = record { kind = getD s (c .at) 0; text = slice (c .at + 2) e s }
+-- the token of the row from i to e
+abbrev pub tokenFrom : List ℕ → ℕ → ℕ → Token
+tokenFrom s i e =
+    record {
+      kind = getD s i 0;
+      joint = markOf (marked s) (drop i s);
+      first = getD s (i + textOffset (marked s)) 0;
+      start = i + textOffset (marked s);
+      end = e;
+      next = e + 1;
+    }
 
-  the-row : rowsAt s (c .at) ≡ theRow ∷ rowsAt s (e + 1)
-  the-row = row-at s (c .at) e l
+pub token-at : (s : List ℕ) (i e : ℕ) → RightRows s i → RowEnd s i e → TokenAt s i (tokenFrom s i e)
+token-at s i e w l =
+    record {
+      kind = refl;
+      joint = refl;
+      start = refl;
+      end = l;
+      text = omega (arith, l .text);
+      next = refl;
+      within = omega (arith, l .within);
+      first = ap first (sym (slice-next s (i + textOffset (marked s)) e (l .text) (omega (arith, l .within))));
+      rightRows = right-rows-next s i e l w;
+    }
 
-  row-closed : allClosed (theRow ∷ rowsAt s (e + 1)) ≡ true
-  row-closed = sym (ap allClosed the-row) ∙ inList .rightRows .closed
+-- the same of a token by its parts, with n bytes before its text
+pub token-of : (s : List ℕ) (i e : ℕ) (t : Token) → RightRows s i → RowEnd s i e → (n : ℕ) →
+    n ≡ textOffset (marked s) → t .joint ≡ markOf (marked s) (drop i s) → t .kind ≡ getD s i 0 →
+    t .first ≡ getD s (i + n) 0 → t .start ≡ i + n → t .end ≡ e → t .next ≡ e + 1 → TokenAt s i t
+token-of s i e t w l n off joint kind byte start last next =
+    subst (TokenAt s i)
+    (λ x. record {
+      kind = sym kind x;
+      joint = sym joint x;
+      first = sym (byte ∙ ap (λ (k : ℕ). getD s (i + k) 0) off) x;
+      start = sym (start ∙ ap (λ (k : ℕ). i + k) off) x;
+      end = sym last x;
+      next = sym next x;
+    })
+    (token-at s i e w l)
 
-  stepped : at s (c .at) ≡ before theRow (at s (e + 1))
-  stepped = at-row s (c .at) (e + 1) theRow the-row
+-- what a token is in the streams
+module _ (s : List ℕ) (i : ℕ) (w : RightRows s i) (t : Token) (k : TokenAt s i t) where
+  pub the-row : rowsAt s i ≡ rowOf s t ∷ rowsAt s (t .next)
+  the-row =
+      row-at s i (t .end) (k .end)
+      ∙ (λ x. record {
+        kind = sym (k .kind) x;
+        joint = sym (k .joint) x;
+        text = slice (sym (k .start) x) (t .end) s;
+      } ∷ rowsAt s (sym (k .next) x))
 
-  abbrev theToken : Token
-  theToken = record { kind = getD s (c .at) 0; first = getD s (c .at + 2) 0; start = c .at + 2; end = e; next = e + 1 }
+  row-closed : allClosed (rowOf s t ∷ rowsAt s (t .next)) ≡ true
+  row-closed = sym (ap allClosed the-row) ∙ w .closed
 
-  first-byte : getD s (c .at + 2) 0 ≡ first (slice (c .at + 2) e s)
-  first-byte = ap first (sym (slice-next s (c .at + 2) e (omega (arith, l .text)) (omega (arith, l .within))))
+  stepped : at s i ≡ before (rowOf s t) (at s (t .next))
+  stepped = at-row s i (t .next) (rowOf s t) the-row
 
-  token-at : TokenAt s (c .at) theToken
-  token-at =
-      record {
-        kind = refl;
-        start = refl;
-        end = l;
-        text = omega (arith, l .text);
-        next = refl;
-        within = omega (arith, l .within);
-        first = first-byte;
-        rightRows = right-rows-next s (c .at) e (omega (arith, l .text)) (l .within) (inList .rightRows) the-row;
-      }
-
-  pub leaf-here : (getD s (c .at) 0 ≡ 111 → ⊥) → (getD s (c .at) 0 ≡ 99 → ⊥) → LeafAt s (c .at) theToken
+  pub leaf-here : (t .kind ≡ 111 → ⊥) → (t .kind ≡ 99 → ⊥) → LeafAt s i t
   leaf-here o q =
-      let b = stepped ∙ before-leaf theRow (at s (e + 1)) o q in
-      record { token = token-at; here = ap (λ (t : Streams). t .here) b; outer = ap (λ (t : Streams). t .outer) b }
+      let b = stepped ∙ before-leaf (rowOf s t) (at s (t .next)) o q in
+      record { token = k; here = ap (λ (t : Streams). t .here) b; outer = ap (λ (t : Streams). t .outer) b }
 
-  pub group-here : getD s (c .at) 0 ≡ 111 → GroupAt s (c .at) theToken
+  pub group-here : t .kind ≡ 111 → GroupAt s i t
   unfolding at
   group-here o =
-      let b = stepped ∙ before-open theRow (at s (e + 1)) o in
-      let ts = at s (e + 1) .outer in
+      let b = stepped ∙ before-open (rowOf s t) (at s (t .next)) o in
+      let ts = at s (t .next) .outer in
       record {
-        token = token-at;
+        token = k;
         after = head ts;
         here =
-            ap (λ (t : Streams). t .here) b ∙ ap (λ (d : ℕ). group d (at s (e + 1) .here) (head ts)) (sym first-byte);
-        outer = followed ts (closed-open theRow (rowsAt s (e + 1)) row-closed o) ∙
+            ap (λ (t : Streams). t .here) b ∙ ap (λ (d : ℕ). group d (at s (t .next) .here) (head ts)) (sym (k .first));
+        outer = followed ts (closed-open (rowOf s t) (rowsAt s (t .next)) row-closed o) ∙
             ap (λ (us : List Trees). head ts ∷ us) (sym (ap (λ (t : Streams). t .outer) b));
       }
 
@@ -189,16 +206,17 @@ module _ (s : List ℕ) (c : Cursor) (inList : InList s c) (p : firstKind (at s 
       go true e = absurd (omega (arith, p, ap firstKind (close-here s c inList punct-within (eqb-true _ _ e))))
       go false e = look-here s c inList punct-within (eqb-false _ _ e) .kind ∙ p
 
-  abbrev pub punctToken : ℕ → ℕ → Token
-  punctToken k e = record { kind = k; first = getD s (c .at + 2) 0; start = c .at + 2; end = e; next = e + 1 }
-
-  pub punct-here : LeafAt s (c .at) (punctToken 112 (c .at + 2 + 1))
-  punct-here =
-      let ends = punct-end s (c .at) (inList .rightRows) punct-within punct-kind in
-      let three : c .at + 3 ≡ c .at + 2 + 1 = omega arith in
-      subst (LeafAt s (c .at)) (λ i. punctToken (punct-kind i) (three i))
-      (leaf-here s c inList (c .at + 3) ends (λ e. absurd (omega (arith, punct-kind, e)))
-      (λ e. absurd (omega (arith, punct-kind, e))))
+  -- its text is one byte
+  pub punct-here : (t : Token) (n : ℕ) → n ≡ textOffset (marked s) → t .joint ≡ markOf (marked s) (drop (c .at) s) →
+      t .kind ≡ 112 → t .first ≡ getD s (c .at + n) 0 → t .start ≡ c .at + n → t .end ≡ c .at + n + 1 →
+      t .next ≡ c .at + n + 1 + 1 → LeafAt s (c .at) t
+  punct-here t n off joint kind byte start last next =
+      let w = inList .rightRows in
+      let to = ap (λ (k : ℕ). c .at + k + 1) off in
+      leaf-here s (c .at) w t
+      (token-of s (c .at) _ t w (punct-end s (c .at) w punct-within punct-kind) n off joint (kind ∙ sym punct-kind) byte
+      start (last ∙ to) (next ∙ ap (λ (k : ℕ). k + 1) to))
+      (λ q. absurd (omega (arith, kind, q))) (λ q. absurd (omega (arith, kind, q)))
 
 -- ## The way past a group
 
@@ -238,7 +256,7 @@ inside-start s c i =
 module _ (s : List ℕ) (c : Cursor) (i row : ℕ) where
   module _ (k e : ℕ) (n : Inside s c i row (suc k)) (l : RowEnd s i e) where
     abbrev theStep : Row
-    theStep = record { kind = getD s i 0; text = slice (i + 2) e s }
+    theStep = rowAt s i e
 
     row-here : rowsAt s i ≡ theStep ∷ rowsAt s (e + 1)
     row-here = row-at s i e l
@@ -251,14 +269,14 @@ module _ (s : List ℕ) (c : Cursor) (i row : ℕ) where
         → pending d (stack (at s (e + 1))) + 1 ≡ pending (suc k) (stack (at s i)) → Inside s c (e + 1) (row + 1) d
     stepped-to d a b left rows =
         let p = l .within in
-        let q = l .text in
+        let q = l .long in
         record {
           starts = next-start s row i e (n .starts) l;
           counted = omega (arith, n .counted, q);
           deep = omega (arith, n .deep, q);
           within = omega (arith, p);
           forth = omega (arith, n .forth, q);
-          rightRows = right-rows-next s i e (omega (arith, q)) p (n .rightRows) row-here;
+          rightRows = right-rows-next s i e l (n .rightRows);
           left = left;
           rows = omega (arith, n .rows, rows);
         }

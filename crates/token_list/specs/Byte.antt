@@ -21,6 +21,9 @@ UNDERSCORE = code "_"
 abbrev pub ZERO : ℕ
 ZERO = code "0"
 
+abbrev pub ONE : ℕ
+ONE = code "1"
+
 -- ## Punctuation
 
 abbrev pub HASH : ℕ

@@ -5,11 +5,11 @@ use mathlib.Core.List.{List, [], _∷_}
 use Prim.Native.Nat.{ℕ, _+_}
 use lib.Dec.{leb, ltb, eqb}
 use lib.ListN.{length, take, drop}
-use Rattle.token_list.specs.Byte.{bytes}
-use Rattle.token_list.specs.Layout.{OPEN, CLOSE, FIRST-ROW, MAX-BYTES, MAX-ROWS, MAX-TEXT, MAX-DEPTH}
+use Rattle.token_list.specs.Layout.{OPEN, CLOSE, names, marked, firstRow, MAX-BYTES, MAX-ROWS, MAX-TEXT}
+use Rattle.token_list.specs.Layout.{MAX-DEPTH}
 use Rattle.token_list.specs.Text.{same, closer}
 use Rattle.token_list.specs.Row.{Lines, tail, line, lines, Form, plain, opens, closed, wrong, form, formOf, first}
-use Rattle.token_list.specs.Row.{Row}
+use Rattle.token_list.specs.Row.{Row, rightMark}
 
 pub data Answer : Type 0 where
   -- the number of rows
@@ -43,20 +43,21 @@ step r gs plain go = go gs
 step r gs (opens d) go = cond (leb MAX-DEPTH (length gs)) (refused 6 r) (go (record { delimiter = d; row = r } ∷ gs))
 step r gs (closed d) go = close r d gs go
 
--- the lines from row r on
-abbrev pub walk : ℕ → List Open → Lines → Answer
-walk r gs (tail []) = ended r gs
-walk r gs (tail (b ∷ bs)) = cond (leb MAX-ROWS r) (refused 4 MAX-ROWS) (refused 3 r)
-walk r gs (line l ls) = cond (leb MAX-ROWS r) (refused 4 MAX-ROWS) (step r gs (form l) (λ hs. walk (r + 1) hs ls))
+-- the lines from row r on, with marks or without
+abbrev pub walk : Bool → ℕ → List Open → Lines → Answer
+walk m r gs (tail []) = ended r gs
+walk m r gs (tail (b ∷ bs)) = cond (leb MAX-ROWS r) (refused 4 MAX-ROWS) (refused 3 r)
+walk m r gs (line l ls) =
+    cond (leb MAX-ROWS r) (refused 4 MAX-ROWS) (step r gs (form m l) (λ hs. walk m (r + 1) hs ls))
 
--- the line of names
-abbrev pub NAMES : List ℕ
-NAMES = bytes "kind text\n"
+-- a list has one of the two lines of names
+abbrev pub named : List ℕ → Bool
+named s = same (take (firstRow s) s) (names (marked s))
 
 unfoldable pub check : List ℕ → Answer
 check s =
     cond (ltb MAX-BYTES (length s)) (refused 1 END)
-    (cond (same (take FIRST-ROW s) NAMES) (walk 0 [] (lines (drop FIRST-ROW s))) (refused 2 END))
+    (cond (named s) (walk (marked s) 0 [] (lines (drop (firstRow s) s))) (refused 2 END))
 
 -- ## What a list that passes is, for other statements than `check`
 
@@ -67,12 +68,12 @@ isRow (opens d) = true
 isRow (closed d) = true
 isRow wrong = false
 
-abbrev pub right : Row → Bool
-right r = isRow (formOf (r .kind) (r .text)) && leb (length (r .text)) MAX-TEXT
+abbrev pub right : Bool → Row → Bool
+right m r = isRow (formOf (r .kind) (r .text)) && (leb (length (r .text)) MAX-TEXT && rightMark m r)
 
-abbrev pub allRight : List Row → Bool
-allRight [] = true
-allRight (r ∷ rs) = right r && allRight rs
+abbrev pub allRight : Bool → List Row → Bool
+allRight m [] = true
+allRight m (r ∷ rs) = right m r && allRight m rs
 
 abbrev pub closedBy : List ℕ → ℕ → Bool
 closedBy [] c = false
@@ -88,9 +89,9 @@ none (d ∷ ds) = false
 
 -- rows of a right form under the open delimiters ds, at most MAX-DEPTH of them open at once, each group closed by its
 -- own close
-abbrev pub nested : List ℕ → List Row → Bool
-nested ds [] = none ds
-nested ds (r ∷ rs) =
-    right r
-    && cond (eqb (r .kind) OPEN) (ltb (length ds) MAX-DEPTH && nested (first (r .text) ∷ ds) rs)
-    (cond (eqb (r .kind) CLOSE) (closedBy ds (first (r .text)) && nested (enclosing ds) rs) (nested ds rs))
+abbrev pub nested : Bool → List ℕ → List Row → Bool
+nested m ds [] = none ds
+nested m ds (r ∷ rs) =
+    right m r
+    && cond (eqb (r .kind) OPEN) (ltb (length ds) MAX-DEPTH && nested m (first (r .text) ∷ ds) rs)
+    (cond (eqb (r .kind) CLOSE) (closedBy ds (first (r .text)) && nested m (enclosing ds) rs) (nested m ds rs))

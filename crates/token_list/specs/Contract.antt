@@ -6,11 +6,11 @@ use Prim.Native.Nat.{ℕ, _+_, _-_, _≤_, _<_}
 use lib.Dec.{ltb, eqb}
 use lib.ListN.{length, getD, take, drop}
 use lib.Seq.{slice}
-use Rattle.token_list.specs.Byte.{SPACE, LF}
-use Rattle.token_list.specs.Layout.{PUNCT, OPEN, CLOSE, FIRST-ROW, TEXT-OFFSET, MAX-TEXT, MAX-DEPTH}
-use Rattle.token_list.specs.Row.{Lines, tail, line, lines, Form, plain, opens, closed, wrong, form, first, Row}
-use Rattle.token_list.specs.Row.{written}
-use Rattle.token_list.specs.Check.{Answer, passed, refused, Open, ended, close, walk, NAMES, check, allRight}
+use Rattle.token_list.specs.Byte.{LF}
+use Rattle.token_list.specs.Layout.{PUNCT, OPEN, CLOSE, names, marked, firstRow, textOffset, MAX-TEXT, MAX-DEPTH}
+use Rattle.token_list.specs.Row.{Lines, tail, line, lines, Form, plain, opens, closed, wrong, form, textForm}
+use Rattle.token_list.specs.Row.{markOf, first, Row, written}
+use Rattle.token_list.specs.Check.{Answer, passed, refused, Open, ended, close, walk, check, allRight}
 use Rattle.token_list.specs.Check.{nested}
 use Rattle.token_list.specs.Place.{OneRefusal, checkNumber}
 use Rattle.token_list.specs.declared.check.Cursor.{Cursor}
@@ -62,9 +62,9 @@ shape (Opens d) = opens d
 shape (Closed d) = closed d
 shape Wrong = wrong
 
--- a space, and an LF after one byte of text, stand in the line at i
+-- an LF after one byte of text at i
 abbrev pub oneByte : List ℕ → ℕ → Bool
-oneByte s i = ltb (i + 3) (length s) && (eqb (getD s (i + 1) 0) SPACE && eqb (getD s (i + 3) 0) LF)
+oneByte s i = ltb (i + 1) (length s) && eqb (getD s (i + 1) 0) LF
 
 -- the form of a row of kind p, o or c whose text is the one byte b
 abbrev pub singleForm : ℕ → ℕ → Form
@@ -74,13 +74,13 @@ singleForm k b =
     (cond (eqb k CLOSE) (cond (closing b) (closed b) wrong) wrong))
 
 -- the first line as a row, where it has an end
-abbrev pub formed : Lines → Form
-formed (tail t) = wrong
-formed (line l ls) = form l
+abbrev pub formed : (List ℕ → Form) → Lines → Form
+formed f (tail t) = wrong
+formed f (line l ls) = f l
 
--- the form of the line of s at `at`, and, where it is a row, the next line
-pub record Shaped (s : List ℕ) (at : ℕ) (r : Line) : Type 0 where
-  pub right : shape (r .shape) ≡ formed (lines (drop at s))
+-- the form of the line of s at `at`, by f, and, where it is a row, the next line
+pub record Shaped (f : List ℕ → Form) (s : List ℕ) (at : ℕ) (r : Line) : Type 0 where
+  pub right : shape (r .shape) ≡ formed f (lines (drop at s))
   pub past : (shape (r .shape) ≡ wrong → ⊥) → (at < r .next) × (r .next ≤ length s)
   pub rest : (shape (r .shape) ≡ wrong → ⊥) → (l : List ℕ) × (lines (drop at s) ≡ line l (lines (drop (r .next) s)))
 
@@ -91,14 +91,21 @@ pub record TokenLine (s : List ℕ) (names : Bool) (start : ℕ) (r : Line) : Ty
       → (e : ℕ) × TextEnd s names start e × (e < length s) × (getD s e 0 ≡ LF) × (e - start ≤ MAX-TEXT)
       × (r .next ≡ e + 1)
 
--- the same as Shaped, where the form is told
-abbrev pub ShapedUnlessWrong : List ℕ → ℕ → Line → Type 0
-ShapedUnlessWrong s at r = (shape (r .shape) ≡ wrong → ⊥) → Shaped s at r
+-- a row with marks or without, and the text alone of a row of kind k
+abbrev pub RowShaped : Bool → List ℕ → ℕ → Line → Type 0
+RowShaped m = Shaped (form m)
+
+abbrev pub TextShaped : ℕ → List ℕ → ℕ → Line → Type 0
+TextShaped k = Shaped (textForm k)
+
+-- the same, where the form is told
+abbrev pub TextShapedUnlessWrong : ℕ → List ℕ → ℕ → Line → Type 0
+TextShapedUnlessWrong k s start r = (shape (r .shape) ≡ wrong → ⊥) → TextShaped k s start r
 
 -- the bytes from i on are rows, each of a right form, and each group that opens in them is closed
 pub record RightRows (s : List ℕ) (i : ℕ) : Type 0 where
-  pub written : drop i s ≡ written (rowsAt s i)
-  pub right : allRight (rowsAt s i) ≡ true
+  pub written : drop i s ≡ written (marked s) (rowsAt s i)
+  pub right : allRight (marked s) (rowsAt s i) ≡ true
   pub closed : allClosed (rowsAt s i) ≡ true
 
 -- a cursor of the list: its offset is where its row starts, the rows before it have a byte each, and rows stand from it
@@ -113,18 +120,20 @@ pub record InList (s : List ℕ) (c : Cursor) : Type 0 where
 
 -- the row that a token stands for
 abbrev pub rowOf : List ℕ → Token → Row
-rowOf s t = record { kind = t .kind; text = slice (t .start) (t .end) s }
+rowOf s t = record { kind = t .kind; joint = t .joint; text = slice (t .start) (t .end) s }
 
 -- the row at i ends with the LF at e, after a text of a byte or more
 pub record RowEnd (s : List ℕ) (i e : ℕ) : Type 0 where
   pub line : LineEnd s i e
-  pub text : i + 3 ≤ e
+  pub text : i + textOffset (marked s) < e
+  pub long : i + 3 ≤ e
   pub within : e < length s
 
--- the token t at i: where its parts stand, its first byte of text, and the next row
+-- the token t at i: its mark, where its parts stand, its first byte of text, and the next row
 pub record TokenAt (s : List ℕ) (i : ℕ) (t : Token) : Type 0 where
   pub kind : t .kind ≡ getD s i 0
-  pub start : t .start ≡ i + TEXT-OFFSET
+  pub joint : t .joint ≡ markOf (marked s) (drop i s)
+  pub start : t .start ≡ i + textOffset (marked s)
   pub end : RowEnd s i (t .end)
   pub text : t .start ≤ t .end
   pub next : t .next ≡ t .end + 1
@@ -189,16 +198,21 @@ pub record CheckedAs (s : List ℕ) (r : Checked) : Type 0 where
   pub answer : checked r ≡ check s
   pub refusal : (n p : ℕ) → checked r ≡ refused n p → OneRefusal checkNumber s n p
 
+-- the first row of a list
+abbrev pub startOf : List ℕ → Cursor
+startOf s = record { at = firstRow s; row = 0 }
+
 -- where the list check stands
 pub record Within (s : List ℕ) (c : Cursor) : Type 0 where
   pub counted : c .row ≤ c .at
   pub within : c .at ≤ length s
 
--- what the check answers from a cursor on, under the open groups gs, where the rows of the level end as r says
-abbrev pub resumed : List ℕ → List Open → LevelEnd → Answer
-resumed s gs (End n) = ended n gs
-resumed s gs (Close d row next) = close row d gs (λ hs. walk (row + 1) hs (lines (drop next s)))
-resumed s gs (Stopped r) = refused (r .number) (r .place)
+-- what the check answers from a cursor on, with marks or without, under the open groups gs, where the rows of the
+-- level end as r says
+abbrev pub resumed : Bool → List ℕ → List Open → LevelEnd → Answer
+resumed m s gs (End n) = ended n gs
+resumed m s gs (Close d row next) = close row d gs (λ hs. walk m (row + 1) hs (lines (drop next s)))
+resumed m s gs (Stopped r) = refused (r .number) (r .place)
 
 -- the rows after the closing one
 abbrev pub closedIn : List ℕ → ℕ → LevelEnd → Type 0
@@ -207,18 +221,18 @@ closedIn s at (Close d row next) = (row < next) × (at < next) × (next ≤ leng
 closedIn s at (Stopped r) = Unit
 
 -- how the rows of a level from c on end, `levels` of MAX-DEPTH being free
-pub record Walked (s : List ℕ) (c : Cursor) (levels : ℕ) (r : LevelEnd) : Type 0 where
+pub record Walked (m : Bool) (s : List ℕ) (c : Cursor) (levels : ℕ) (r : LevelEnd) : Type 0 where
   pub right : (gs : List Open) → length gs + levels ≡ MAX-DEPTH
-      → walk (c .row) gs (lines (drop (c .at) s)) ≡ resumed s gs r
+      → walk m (c .row) gs (lines (drop (c .at) s)) ≡ resumed m s gs r
   pub past : closedIn s (c .at) r
 
 -- A list that passes the check with n rows: its line of names, then the lines of its rows, which nest; no group is open
 -- at its first row, and each that opens is closed.
 pub record PassedList (s : List ℕ) (n : ℕ) : Type 0 where
-  pub names : take FIRST-ROW s ≡ NAMES
-  pub written : drop FIRST-ROW s ≡ written (rowsAt s FIRST-ROW)
-  pub nested : nested [] (rowsAt s FIRST-ROW) ≡ true
-  pub count : length (rowsAt s FIRST-ROW) ≡ n
-  pub rightRows : RightRows s FIRST-ROW
-  pub outer : at s FIRST-ROW .outer ≡ []
-  pub size : size (at s FIRST-ROW .here) ≡ n
+  pub names : take (firstRow s) s ≡ names (marked s)
+  pub written : drop (firstRow s) s ≡ written (marked s) (rowsAt s (firstRow s))
+  pub nested : nested (marked s) [] (rowsAt s (firstRow s)) ≡ true
+  pub count : length (rowsAt s (firstRow s)) ≡ n
+  pub rightRows : RightRows s (firstRow s)
+  pub outer : at s (firstRow s) .outer ≡ []
+  pub size : size (at s (firstRow s) .here) ≡ n

@@ -1,6 +1,11 @@
--- The numbers of a token list (document 01, "The token list"): its kinds, offsets and limits.
+-- The numbers of a token list (document 01, "The token list"; document 02, card 6): its kinds, names, offsets and
+-- limits.
+use mathlib.Core.Bool.{Bool, true, false}
+use mathlib.Core.List.{List}
 use Prim.Native.Nat.{ℕ}
-use Rattle.token_list.specs.Byte.{code}
+use lib.Dec.{eqb}
+use lib.ListN.{length, getD}
+use Rattle.token_list.specs.Byte.{code, bytes}
 
 -- ## The kinds of rows
 
@@ -21,15 +26,31 @@ OPEN = code "o"
 abbrev pub CLOSE : ℕ
 CLOSE = code "c"
 
+-- ## The two lines of names
+
+-- with a column of marks, or without
+abbrev pub names : Bool → List ℕ
+names true = bytes "kind joint text\n"
+names false = bytes "kind text\n"
+
+-- the first byte in which they differ
+abbrev pub NAMES-DIFFER : ℕ
+NAMES-DIFFER = 5
+
+-- which of the two a list has, where it has one of them
+unfoldable pub marked : List ℕ → Bool
+marked s = eqb (getD s NAMES-DIFFER 0) (code "j")
+
 -- ## Offsets
 
 -- of the first row in a list, past the line of names
-abbrev pub FIRST-ROW : ℕ
-FIRST-ROW = 10
+unfoldable pub firstRow : List ℕ → ℕ
+firstRow s = length (names (marked s))
 
--- of the text in a row, past its kind and the space
-abbrev pub TEXT-OFFSET : ℕ
-TEXT-OFFSET = 2
+-- of the text in a row: past its kind and a space, and with marks its mark and a space
+abbrev pub textOffset : Bool → ℕ
+textOffset true = 4
+textOffset false = 2
 
 -- ## Limits
 

@@ -8,6 +8,7 @@ pub mod Row
 pub mod Check
 pub mod Place
 pub mod Stream
+pub mod Marks
 pub mod Pairs
 pub mod Contract
 pub mod Reader

@@ -5,7 +5,7 @@ use mathlib.Core.Bool.{Bool, true}
 use mathlib.Core.List.{List}
 use Prim.Native.Nat.{ℕ, _≤_, _<_}
 use lib.ListN.{drop}
-use Rattle.token_list.specs.Layout.{FIRST-ROW, MAX-ROWS}
+use Rattle.token_list.specs.Layout.{firstRow, MAX-ROWS}
 use Rattle.token_list.specs.Text.{between}
 use Rattle.token_list.specs.Row.{lines, begun}
 use Rattle.token_list.specs.Check.{END}
@@ -13,7 +13,7 @@ use Rattle.token_list.specs.Check.{END}
 -- A row of the list s, or one that begins in it: the malformed row that 3 names, the row after 4,096 that 4 names. In a
 -- list that passes the check just its rows begin.
 pub record RowOf (s : List ℕ) (p : ℕ) : Type 0 where
-  pub begins : p < begun (lines (drop FIRST-ROW s))
+  pub begins : p < begun (lines (drop (firstRow s) s))
   pub low : p ≤ MAX-ROWS
 
 -- a refusal of a list s with one of these numbers

@@ -5,7 +5,7 @@ use mathlib.Core.List.{List, [], _∷_}
 use Prim.Native.Nat.{ℕ, _+_, _≤_}
 use lib.ListN.{length, take, drop}
 use lib.Seq.{slice}
-use Rattle.token_list.specs.Layout.{FIRST-ROW}
+use Rattle.token_list.specs.Layout.{firstRow}
 use Rattle.token_list.specs.Row.{Lines, tail, line, lines}
 use Rattle.token_list.specs.declared.check.Cursor.{Cursor}
 use Rattle.token_list.specs.declared.reader.Reader.{Reader}
@@ -26,7 +26,7 @@ bytesFrom s i = rowBytes (lines (drop i s))
 -- are none.
 pub record AtRow (s : List ℕ) (c : Cursor) : Type 0 where
   pub counted : c .row ≤ c .at
-  pub rows : bytesFrom s (c .at) ≡ drop (c .row) (bytesFrom s FIRST-ROW)
+  pub rows : bytesFrom s (c .at) ≡ drop (c .row) (bytesFrom s (firstRow s))
 
 -- what is shown of lines that start at i: the first, from i to its LF or the list's end, or that none is left
 abbrev pub shownOf : ℕ → Lines → Shown
@@ -49,7 +49,7 @@ shownBytes s (Row a e) = slice a e s ∷ []
 pub record Shows (s : List ℕ) (i : ℕ) (r : Shown) : Type 0 where
   pub answer : r ≡ shownOf i (lines (drop i s))
   pub bytes : shownBytes s r ≡ take 1 (bytesFrom s i)
-  pub row : (n : ℕ) → AtRow s (record { at = i; row = n }) → shownBytes s r ≡ take 1 (drop n (bytesFrom s FIRST-ROW))
+  pub row : (n : ℕ) → AtRow s (record { at = i; row = n }) → shownBytes s r ≡ take 1 (drop n (bytesFrom s (firstRow s)))
 
 -- from c to the next row, or to the end
 pub record GoesOn (s : List ℕ) (c d : Cursor) : Type 0 where

@@ -6,7 +6,7 @@ use mathlib.Core.List.{List, [], _∷_}
 use Prim.Native.Nat.{ℕ, _+_}
 use lib.Dec.{eqb}
 use lib.ListN.{drop}
-use Rattle.token_list.specs.Layout.{OPEN, CLOSE, FIRST-ROW}
+use Rattle.token_list.specs.Layout.{OPEN, CLOSE, marked, firstRow}
 use Rattle.token_list.specs.Row.{Row, rows, lines, first, bytesBefore}
 
 -- What is left of a stream: nothing; a token and the rest; a group with its delimiter, its inside and the rest after
@@ -49,7 +49,7 @@ size (group d ts us) = 1 + size ts + 1 + size us
 
 -- the rows and the streams at an offset of a list
 abbrev pub rowsAt : List ℕ → ℕ → List Row
-rowsAt s i = rows (lines (drop i s))
+rowsAt s i = rows (marked s) (lines (drop i s))
 
 unfoldable pub at : List ℕ → ℕ → Streams
 at s i = streams (rowsAt s i)
@@ -78,4 +78,4 @@ allClosed (r ∷ rs) = allClosed rs && cond (eqb (r .kind) OPEN) (follows (strea
 
 -- where row r of a list starts, after the line of names
 unfoldable pub rowStart : List ℕ → ℕ → ℕ
-rowStart s r = FIRST-ROW + bytesBefore r (lines (drop FIRST-ROW s))
+rowStart s r = firstRow s + bytesBefore r (lines (drop (firstRow s) s))

@@ -1,18 +1,15 @@
 // The list check: refusals 1 to 7, in document 01's order.
-use crate::layout::FIRST_ROW;
 use crate::layout::MAX_BYTES;
 use crate::layout::MAX_DEPTH;
 use crate::layout::MAX_ROWS;
+use crate::layout::first_row;
+use crate::layout::has_names;
+use crate::layout::is_marked;
 use crate::row::Shape;
 use crate::row::closer;
 use crate::row::line_shape;
-use crate::text::text_is;
 ghost use mathlib.Core.Path.{_≡_};
-ghost use lib.ListN.{take};
-ghost use Rattle.token_list.specs.Layout.{FIRST-ROW};
-ghost use Rattle.token_list.specs.Check.{NAMES};
-ghost use Rattle.token_list.specs.Text.{same};
-ghost use Rattle.token_list.specs.Contract.{Within, Walked, CheckedAs};
+ghost use Rattle.token_list.specs.Contract.{startOf, Within, Walked, CheckedAs};
 
 // The end mark: the place of a refusal that has no row.
 pub const END: usize = 65535;
@@ -44,9 +41,9 @@ pub enum LevelEnd {
 }
 
 // Follows the rows from `from` to the end of their level; `levels` more may open.
-fn walk(s: &[u8], from: Cursor, levels: usize) -> LevelEnd
+fn walk(s: &[u8], marked: bool, from: Cursor, levels: usize) -> LevelEnd
     requires { ⌜ Within (now s) from ⌝ }
-    ensures { λ r. ⌜ Walked (now (s .entry)) from levels r ⌝ }
+    ensures { λ r. ⌜ Walked marked (now (s .entry)) from levels r ⌝ }
 {
     let mut at = from.at;
     let mut row = from.row;
@@ -57,7 +54,7 @@ fn walk(s: &[u8], from: Cursor, levels: usize) -> LevelEnd
                 place: MAX_ROWS,
             });
         }
-        let line = line_shape(s, at);
+        let line = line_shape(s, marked, at);
         let next = line.next;
         let below = row + 1;
         let shape = line.shape;
@@ -84,6 +81,7 @@ fn walk(s: &[u8], from: Cursor, levels: usize) -> LevelEnd
                 }
                 let inside = walk(
                     s,
+                    marked,
                     Cursor {
                         at: next,
                         row: below,
@@ -117,14 +115,12 @@ fn walk(s: &[u8], from: Cursor, levels: usize) -> LevelEnd
     LevelEnd::End(row)
 }
 
-// Whether the list begins with `kind text` and LF.
-fn has_names(s: &[u8]) -> bool
-    ensures { λ r. ⌜ r ≡ same (take FIRST-ROW (now (s .entry))) NAMES ⌝ }
+// Where the first row starts.
+pub fn start(s: &[u8]) -> Cursor
+    ensures { λ r. ⌜ r ≡ startOf (now (s .entry)) ⌝ }
 {
-    if s.len() < FIRST_ROW {
-        return false;
-    }
-    text_is(s, 0, FIRST_ROW, b"kind text\n")
+    let at = first_row(s);
+    Cursor { at, row: 0 }
 }
 
 // Checks a list: the number of its rows, or the first refusal.
@@ -143,11 +139,8 @@ pub fn check(s: &[u8]) -> Checked
             place: END,
         });
     }
-    let first = Cursor {
-        at: FIRST_ROW,
-        row: 0,
-    };
-    match walk(s, first, MAX_DEPTH) {
+    let marked = is_marked(s);
+    match walk(s, marked, start(s), MAX_DEPTH) {
         LevelEnd::End(rows) => Checked::Passed(rows),
         LevelEnd::Close(_, row, _) => Checked::Refused(Refusal {
             number: 5,

@@ -1,6 +1,6 @@
 // What a line of a list is as a row.
 use crate::layout::MAX_TEXT;
-use crate::layout::TEXT_OFFSET;
+use crate::layout::text_offset;
 use crate::text::all_fit;
 use crate::text::is_digit;
 use crate::text::is_name_start;
@@ -12,12 +12,12 @@ ghost use mathlib.Core.Path.{_≡_};
 ghost use mathlib.Core.Bool.{Bool, false};
 ghost use mathlib.Core.List.{[], _∷_};
 ghost use Prim.Native.Nat.{_+_, _≤_};
-ghost use lib.ListN.{length};
+ghost use lib.ListN.{length, drop};
 ghost use lib.Seq.{slice};
 ghost use Rattle.token_list.specs.Text.{name, plainName, rawName, neverRaw, literal, literalStart, closer};
-ghost use Rattle.token_list.specs.Row.{formOf};
-ghost use Rattle.token_list.specs.Contract.{LineEnd, Shaped, ShapedUnlessWrong, shape, singleForm, oneByte};
-ghost use Rattle.token_list.specs.Contract.{TokenLine};
+ghost use Rattle.token_list.specs.Row.{formOf, markFits, columnsFit};
+ghost use Rattle.token_list.specs.Contract.{LineEnd, RowShaped, TextShaped, TextShapedUnlessWrong, shape};
+ghost use Rattle.token_list.specs.Contract.{singleForm, oneByte, TokenLine};
 
 // The form of a line: a token, an opening or closing row with its delimiter, or no row.
 pub enum Shape {
@@ -247,42 +247,29 @@ fn token_line(s: &[u8], start: usize, names: bool) -> Line
     }
 }
 
-// Whether a space and a text of one byte stand in the line at `at`.
-fn one_byte(s: &[u8], at: usize) -> bool
-    ensures { λ r. ⌜ r ≡ oneByte (now (s .entry)) at ⌝ }
+// Whether an LF stands after one byte of text at `start`.
+fn one_byte(s: &[u8], start: usize) -> bool
+    ensures { λ r. ⌜ r ≡ oneByte (now (s .entry)) start ⌝ }
 {
-    if s.len() <= at {
+    if s.len() <= start {
         return false;
     }
-    if s.len() - at < 4 {
-        return false;
-    }
-    let space = at + 1;
-    let last = at + 3;
-    if s[space] != b' ' {
+    let last = start + 1;
+    if s.len() <= last {
         return false;
     }
     s[last] == b'\n'
 }
 
-// The name or literal at `at`, where one look at each byte tells it, as of most; else Wrong.
-fn quick_token(s: &[u8], at: usize) -> Line
-    ensures { λ r. ⌜ ShapedUnlessWrong (now (s .entry)) at r ⌝ }
+// The name or literal at `start`, where one look at each byte tells it, as of most; else Wrong.
+fn quick_token(s: &[u8], kind: u8, start: usize) -> Line
+    ensures { λ r. ⌜ TextShapedUnlessWrong kind (now (s .entry)) start r ⌝ }
 {
     let unknown = Line {
         shape: Shape::Wrong,
-        next: at,
+        next: start,
     };
-    if s.len() <= at {
-        return unknown;
-    }
-    if s.len() - at < 4 {
-        return unknown;
-    }
-    let kind = s[at];
-    let space = at + 1;
-    let start = at + TEXT_OFFSET;
-    if s[space] != b' ' {
+    if s.len() <= start {
         return unknown;
     }
     let b = s[start];
@@ -299,32 +286,31 @@ fn quick_token(s: &[u8], at: usize) -> Line
     unknown
 }
 
-// The form of the line at `at`, and where the next one starts.
-pub fn line_shape(s: &[u8], at: usize) -> Line
-    ensures { λ r. ⌜ Shaped (now (s .entry)) at r ⌝ }
+// The form of a row of this kind whose text starts at `start`, and where the next line starts.
+fn text_line(s: &[u8], kind: u8, start: usize) -> Line
+    ensures { λ r. ⌜ TextShaped kind (now (s .entry)) start r ⌝ }
 {
-    if one_byte(s, at) {
-        let start = at + TEXT_OFFSET;
-        let next = at + 4;
-        let shape = byte_shape(s[at], s[start]);
+    if one_byte(s, start) {
+        let next = start + 2;
+        let shape = byte_shape(kind, s[start]);
         return Line { shape, next };
     }
-    let quick = quick_token(s, at);
+    let quick = quick_token(s, kind, start);
     let shape = quick.shape;
     match shape {
         Shape::Plain => quick,
         Shape::Opens(_) => quick,
         Shape::Closed(_) => quick,
-        Shape::Wrong => long_shape(s, at),
+        Shape::Wrong => long_text(s, kind, start),
     }
 }
 
-// The same of any line but one with a text of one byte.
-fn long_shape(s: &[u8], at: usize) -> Line
-    requires { ⌜ oneByte (now s) at ≡ false ⌝ }
-    ensures { λ r. ⌜ Shaped (now (s .entry)) at r ⌝ }
+// The same of any text but one of one byte.
+fn long_text(s: &[u8], kind: u8, start: usize) -> Line
+    requires { ⌜ oneByte (now s) start ≡ false ⌝ }
+    ensures { λ r. ⌜ TextShaped kind (now (s .entry)) start r ⌝ }
 {
-    let end = line_end(s, at);
+    let end = line_end(s, start);
     if s.len() <= end {
         return Line {
             shape: Shape::Wrong,
@@ -332,27 +318,64 @@ fn long_shape(s: &[u8], at: usize) -> Line
         };
     }
     let next = end + 1;
-    if end - at < TEXT_OFFSET {
-        return Line {
-            shape: Shape::Wrong,
-            next,
-        };
-    }
-    let space = at + 1;
-    let start = at + TEXT_OFFSET;
-    if s[space] != b' ' {
-        return Line {
-            shape: Shape::Wrong,
-            next,
-        };
-    }
     if MAX_TEXT < end - start {
         return Line {
             shape: Shape::Wrong,
             next,
         };
     }
-    let kind = s[at];
     let shape = text_shape(s, kind, start, end);
     Line { shape, next }
+}
+
+// Whether j is a mark that a row of this kind may have: 0, or of punctuation 1.
+fn mark_fits(kind: u8, j: u8) -> bool
+    ensures { λ r. ⌜ r ≡ markFits kind j ⌝ }
+{
+    if j == b'0' {
+        return true;
+    }
+    if kind != b'p' {
+        return false;
+    }
+    j == b'1'
+}
+
+// Whether a kind and a space stand at `at`, and with marks a mark that fits and a space.
+fn columns_fit(s: &[u8], marked: bool, at: usize) -> bool
+    ensures { λ r. ⌜ r ≡ columnsFit marked (drop at (now (s .entry))) ⌝ }
+{
+    if s.len() <= at {
+        return false;
+    }
+    if s.len() - at < text_offset(marked) {
+        return false;
+    }
+    let space = at + 1;
+    if s[space] != b' ' {
+        return false;
+    }
+    if !marked {
+        return true;
+    }
+    let mark = at + 2;
+    if !mark_fits(s[at], s[mark]) {
+        return false;
+    }
+    let last = at + 3;
+    s[last] == b' '
+}
+
+// The form of the line at `at`, and where the next one starts.
+pub fn line_shape(s: &[u8], marked: bool, at: usize) -> Line
+    ensures { λ r. ⌜ RowShaped marked (now (s .entry)) at r ⌝ }
+{
+    if !columns_fit(s, marked, at) {
+        return Line {
+            shape: Shape::Wrong,
+            next: at,
+        };
+    }
+    let start = at + text_offset(marked);
+    text_line(s, s[at], start)
 }

@@ -1,17 +1,21 @@
 // Reading a list row by row: the token at a cursor, and the way past a group.
 use crate::check::Cursor;
-use crate::layout::TEXT_OFFSET;
+use crate::layout::has_marks;
+use crate::layout::text_offset;
 ghost use mathlib.Core.Path.{_≡_};
 ghost use Prim.Native.Nat.{_+_, _^_, _<_};
-ghost use lib.ListN.{length};
-ghost use Rattle.token_list.specs.Layout.{PUNCT};
+ghost use lib.ListN.{length, drop};
+ghost use Rattle.token_list.specs.Layout.{PUNCT, NAMES-DIFFER};
+ghost use Rattle.token_list.specs.Row.{markOf};
 ghost use Rattle.token_list.specs.Stream.{at, firstKind};
-ghost use Rattle.token_list.specs.Contract.{RightRows, RowEnd, InList, Looked, LeafAt, stands, deeper, skipped};
+ghost use Rattle.token_list.specs.Contract.{RightRows, RowEnd, InList, Looked, TokenAt, LeafAt, stands};
+ghost use Rattle.token_list.specs.Contract.{deeper, skipped};
 
-// A row: its kind, the first byte of its text (a punctuation's byte, a group's delimiter), where
-// its text starts and ends, and where the next row starts.
+// A row: its kind, its mark, the first byte of its text (a punctuation's byte, a group's delimiter),
+// where its text starts and ends, and where the next row starts.
 pub struct Token {
     pub kind: u8,
+    pub joint: bool,
     pub first: u8,
     pub start: usize,
     pub end: usize,
@@ -44,22 +48,62 @@ pub fn look(s: &[u8], c: Cursor) -> Glance
     if kind == b'c' {
         return Glance { kind: 0, first: 0 };
     }
-    let start = at + TEXT_OFFSET;
+    let start = at + text_offset(has_marks(s));
     let first = s[start];
     Glance { kind, first }
 }
 
-// Where the row at `at` ends, at its LF. Kind, space and a byte of text stand before it.
+// Where the row at `at` ends, at its LF. A byte of text stands before it.
 fn row_end(s: &[u8], at: usize) -> usize
     requires { ⌜ RightRows (now s) at ⌝ }
     requires { ⌜ at < length (now s) ⌝ }
+    requires { ⌜ NAMES-DIFFER < length (now s) ⌝ }
     ensures { λ r. ⌜ RowEnd (now (s .entry)) at r ⌝ }
 {
-    let mut i = at + 3;
+    let mut i = at + text_offset(has_marks(s)) + 1;
     while s[i] != b'\n' {
         i += 1;
     }
     i
+}
+
+// The mark of the row at `at`: its column, or where there is none, whether it is a `'`.
+fn mark(s: &[u8], marked: bool, at: usize) -> bool
+    requires { ⌜ at + 2 < length (now s) ⌝ }
+    ensures { λ r. ⌜ r ≡ markOf marked (drop at (now (s .entry))) ⌝ }
+{
+    let third = at + 2;
+    if marked {
+        return s[third] == b'1';
+    }
+    if s[at] != b'p' {
+        return false;
+    }
+    s[third] == b'\''
+}
+
+// The row at `at`, of any kind.
+pub fn token_at(s: &[u8], at: usize) -> Token
+    requires { ⌜ RightRows (now s) at ⌝ }
+    requires { ⌜ at < length (now s) ⌝ }
+    requires { ⌜ NAMES-DIFFER < length (now s) ⌝ }
+    ensures { λ r. ⌜ TokenAt (now (s .entry)) at r ⌝ }
+{
+    let kind = s[at];
+    let end = row_end(s, at);
+    let marked = has_marks(s);
+    let start = at + text_offset(marked);
+    let next = end + 1;
+    let first = s[start];
+    let joint = mark(s, marked, at);
+    Token {
+        kind,
+        joint,
+        first,
+        start,
+        end,
+        next,
+    }
 }
 
 pub fn peek(s: &[u8], c: Cursor) -> Peeked
@@ -74,17 +118,7 @@ pub fn peek(s: &[u8], c: Cursor) -> Peeked
     if kind == b'c' {
         return Peeked::Nothing;
     }
-    let end = row_end(s, at);
-    let start = at + TEXT_OFFSET;
-    let next = end + 1;
-    let first = s[start];
-    let t = Token {
-        kind,
-        first,
-        start,
-        end,
-        next,
-    };
+    let t = token_at(s, at);
     if kind == b'o' {
         Peeked::Group(t)
     } else {
@@ -99,12 +133,15 @@ pub fn punct_at(s: &[u8], c: Cursor) -> Token
     ensures { λ r. ⌜ LeafAt (now (s .entry)) (c .at) r ⌝ }
 {
     let at = c.at;
-    let start = at + TEXT_OFFSET;
+    let marked = has_marks(s);
+    let start = at + text_offset(marked);
     let first = s[start];
+    let joint = mark(s, marked, at);
     let end = start + 1;
     let next = end + 1;
     Token {
         kind: b'p',
+        joint,
         first,
         start,
         end,

@@ -13,10 +13,10 @@ fn list_buffer() -> [u8; 65537]
 }
 
 // As many bytes as the longest output may have: MOST in writing/specs/Answer.antt.
-fn output() -> [u8; 98304]
-    ensures { λ r. ⌜ 98304 ≡ length r ⌝ }
+fn output() -> [u8; 114688]
+    ensures { λ r. ⌜ 114688 ≡ length r ⌝ }
 {
-    [0; 98304]
+    [0; 114688]
 }
 
 fn main() {

@@ -8,10 +8,9 @@ use borrow.Author.Tests.{ltb-true}
 use lib.Dec.{eqb, ltb}
 use lib.ListN.{length, take, drop, length-append, length-drop}
 use lib.Seq.{slice, drop-drop, drop-at, take-at}
-use Rattle.token_list.specs.Byte.{SPACE}
-use Rattle.token_list.specs.Layout.{OPEN, CLOSE, FIRST-ROW, MAX-DEPTH}
-use Rattle.token_list.specs.Row.{Row, Lines, tail, line, lines, rows, written, bytesBefore, formOf, first}
-use Rattle.token_list.specs.Check.{check, passed, isRow, right, allRight, closedBy, enclosing, nested}
+use Rattle.token_list.specs.Layout.{OPEN, CLOSE, marked, firstRow, MAX-DEPTH}
+use Rattle.token_list.specs.Row.{Row, lines, rows, written, bytesBefore, first}
+use Rattle.token_list.specs.Check.{check, passed, right, allRight, closedBy, enclosing, nested}
 use Rattle.token_list.specs.Stream.{Trees, streams, size, rowsAt, at, rowStart}
 use Rattle.token_list.specs.Contract.{InList}
 use Rattle.token_list.specs.declared.check.Cursor.{Cursor}
@@ -21,7 +20,7 @@ use Rattle.token_list.proofs.Passed.{passed-list}
 use Rattle.writing.specs.Rows.{runRows}
 use Rattle.writing.proofs.Joined.{joined, rows-joined, rows-length, written-append}
 use Rattle.writing.proofs.Balanced.{rows-here}
-use Rattle.writing.proofs.Passes.{clear-row, lines-clear}
+use Rattle.writing.proofs.Passes.{linesOf, lines-written, rows-lines}
 
 -- ## Parts
 
@@ -30,58 +29,50 @@ part-of f t s = sym (drop-of-take f t s)
 
 -- ## The rows from a row on
 
-abbrev linesOf : List Row → Lines
-linesOf [] = tail []
-linesOf (r ∷ rs) = line (r .kind ∷ SPACE ∷ r .text) (linesOf rs)
+right-drop : (m : Bool) (n : ℕ) (rs : List Row) → allRight m rs ≡ true → allRight m (drop n rs) ≡ true
+right-drop m zero rs e = e
+right-drop m (suc n) [] e = e
+right-drop m (suc n) (r ∷ rs) e = right-drop m n rs (and-parts (right m r) (allRight m rs) e .1)
 
-lines-written : (rs : List Row) → allRight rs ≡ true → lines (written rs) ≡ linesOf rs
-lines-written [] e = refl
-lines-written (r ∷ rs) e =
-    let p = and-parts (right r) (allRight rs) e in
-    let q = and-parts (isRow (formOf (r .kind) (r .text))) _ (p .0) in
-    let l : List ℕ = r .kind ∷ SPACE ∷ r .text in
-    lines-clear l (written rs) (clear-row (r .kind) (r .text) (q .0)) ∙ ap (line l) (lines-written rs (p .1))
-
-rows-lines : (rs : List Row) → rows (linesOf rs) ≡ rs
-rows-lines [] = refl
-rows-lines (r ∷ rs) = ap (λ (qs : List Row). r ∷ qs) (rows-lines rs)
-
-lines-drop : (n : ℕ) (rs : List Row) → linesFrom n (linesOf rs) ≡ linesOf (drop n rs)
-lines-drop zero rs = refl
-lines-drop (suc n) [] = refl
-lines-drop (suc n) (r ∷ rs) = lines-drop n rs
+lines-drop : (m : Bool) (n : ℕ) (rs : List Row) → linesFrom n (linesOf m rs) ≡ linesOf m (drop n rs)
+lines-drop m zero rs = refl
+lines-drop m (suc n) [] = refl
+lines-drop m (suc n) (r ∷ rs) = lines-drop m n rs
 
 rows-from : (s : List ℕ) {n : ℕ} → check s ≡ passed n → (row : ℕ)
-    → rowsAt s (rowStart s row) ≡ drop row (rowsAt s FIRST-ROW)
+    → rowsAt s (rowStart s row) ≡ drop row (rowsAt s (firstRow s))
 unfolding rowStart
 rows-from s {n} c row =
-    let rs = rowsAt s FIRST-ROW in
+    let m = marked s in
+    let start = firstRow s in
+    let rs = rowsAt s start in
     let p = passed-list s n c in
-    let text : lines (drop FIRST-ROW s) ≡ linesOf rs = ap lines (p .written) ∙ lines-written rs (p .rightRows .right) in
-    let before = bytesBefore row (lines (drop FIRST-ROW s)) in
-    ap (λ (t : List ℕ). rows (lines t)) (sym (drop-drop before FIRST-ROW s))
-    ∙ ap rows (lines-from row (drop FIRST-ROW s) ∙ ap (linesFrom row) text ∙ lines-drop row rs)
-    ∙ rows-lines (drop row rs)
+    let right = p .rightRows .right in
+    let text : lines (drop start s) ≡ linesOf m rs = ap lines (p .written) ∙ lines-written m rs right in
+    let before = bytesBefore row (lines (drop start s)) in
+    ap (λ (t : List ℕ). rows m (lines t)) (sym (drop-drop before start s))
+    ∙ ap (rows m) (lines-from row (drop start s) ∙ ap (linesFrom row) text ∙ lines-drop m row rs)
+    ∙ rows-lines m (drop row rs) (right-drop m row rs right)
 
 -- ## They nest
 
 -- rows that nest under some groups
-record Nests (rs : List Row) : Type 0 where
+record Nests (m : Bool) (rs : List Row) : Type 0 where
   groups : List ℕ
   few : length groups ≤ MAX-DEPTH
-  nests : nested groups rs ≡ true
+  nests : nested m groups rs ≡ true
 
 closed-length : (ds : List ℕ) → length (enclosing ds) ≤ length ds
 closed-length [] = omega arith
 closed-length (d ∷ ds) = omega arith
 
-nests-next : (r : Row) (rs : List Row) → Nests (r ∷ rs) → Nests rs
-nests-next r rs n = kind (eqb (r .kind) OPEN) (eqb (r .kind) CLOSE) refl refl
+nests-next : (m : Bool) (r : Row) (rs : List Row) → Nests m (r ∷ rs) → Nests m rs
+nests-next m r rs n = kind (eqb (r .kind) OPEN) (eqb (r .kind) CLOSE) refl refl
   where
-    kind : (o c : Bool) → eqb (r .kind) OPEN ≡ o → eqb (r .kind) CLOSE ≡ c → Nests rs
+    kind : (o c : Bool) → eqb (r .kind) OPEN ≡ o → eqb (r .kind) CLOSE ≡ c → Nests m rs
     kind true c a b =
         let p = and-parts (ltb (length (n .groups)) MAX-DEPTH) _
-        (sym (chosen _ _ _ a) ∙ and-parts (right r) _ (n .nests) .1) in
+        (sym (chosen _ _ _ a) ∙ and-parts (right m r) _ (n .nests) .1) in
         record {
           groups = first (r .text) ∷ n .groups;
           few = omega (arith, ltb-true (length (n .groups)) MAX-DEPTH (p .0));
@@ -89,37 +80,39 @@ nests-next r rs n = kind (eqb (r .kind) OPEN) (eqb (r .kind) CLOSE) refl refl
         }
     kind false true a b =
         let p = and-parts (closedBy (n .groups) (first (r .text))) _
-        (sym (passed-over _ _ _ a ∙ chosen _ _ _ b) ∙ and-parts (right r) _ (n .nests) .1) in
+        (sym (passed-over _ _ _ a ∙ chosen _ _ _ b) ∙ and-parts (right m r) _ (n .nests) .1) in
         record { groups = enclosing (n .groups); few = omega (arith, n .few, closed-length (n .groups)); nests = p .1 }
     kind false false a b =
         record {
           groups = n .groups;
           few = n .few;
-          nests = sym (passed-over _ _ _ a ∙ passed-over _ _ _ b) ∙ and-parts (right r) _ (n .nests) .1;
+          nests = sym (passed-over _ _ _ a ∙ passed-over _ _ _ b) ∙ and-parts (right m r) _ (n .nests) .1;
         }
 
-nests-drop : (k : ℕ) (rs : List Row) → Nests rs → Nests (drop k rs)
-nests-drop zero rs n = n
-nests-drop (suc k) [] n = n
-nests-drop (suc k) (r ∷ rs) n = nests-drop k rs (nests-next r rs n)
+nests-drop : (m : Bool) (k : ℕ) (rs : List Row) → Nests m rs → Nests m (drop k rs)
+nests-drop m zero rs n = n
+nests-drop m (suc k) [] n = n
+nests-drop m (suc k) (r ∷ rs) n = nests-drop m k rs (nests-next m r rs n)
 
 -- ## The law: a run b at the cursor c, up to the cursor d
 
 pub record Copied (s : List ℕ) (c d : Cursor) (b : Trees) : Type 0 where
   pub forth : c .at ≤ d .at
   pub rows : c .row + length (runRows b) ≡ d .row
-  pub bytes : slice (c .at) (d .at) s ≡ written (runRows b)
+  pub bytes : slice (c .at) (d .at) s ≡ written (marked s) (runRows b)
+  pub here : rowsAt s (c .at) ≡ runRows b ++ rowsAt s (d .at)
 
 pub copied : (s : List ℕ) {n : ℕ} (c d : Cursor) (b us : Trees) → check s ≡ passed n → InList s c → InList s d
     → at s (c .at) .here ≡ joined b us → d .row ≡ c .row + size b → Copied s c d b
 unfolding at
 copied s {n} c d b us passes i j here row =
-    let R = rowsAt s FIRST-ROW in
+    let m = marked s in
+    let R = rowsAt s (firstRow s) in
     let first = ap (rowsAt s) (i .starts) ∙ rows-from s passes (c .row) in
     let second = ap (rowsAt s) (j .starts) ∙ rows-from s passes (d .row) in
-    let all : Nests R = record { groups = []; few = omega arith; nests = passed-list s n passes .nested } in
-    let m = nests-drop (c .row) R all in
-    let q = rows-here (drop (c .row) R) (m .groups) (m .few) (m .nests) in
+    let all : Nests m R = record { groups = []; few = omega arith; nests = passed-list s n passes .nested } in
+    let k = nests-drop m (c .row) R all in
+    let q = rows-here m (drop (c .row) R) (k .groups) (k .few) (k .nests) in
     let rest = runRows us ++ q .0 in
     let stream = ap (λ (rs : List Row). streams rs .here) (sym first) ∙ here in
     let split : drop (c .row) R ≡ runRows b ++ rest =
@@ -128,15 +121,16 @@ copied s {n} c d b us passes i j here row =
     let after : rowsAt s (d .at) ≡ rest =
     second ∙ ap (λ (k : ℕ). drop k R) row ∙ sym (drop-drop (size b) (c .row) R) ∙ ap (drop (size b)) split
     ∙ drop-at (runRows b) rest (size b) (rows-length b) in
-    let text : drop (c .at) s ≡ written (runRows b) ++ drop (d .at) s =
-    i .rightRows .written ∙ ap written (first ∙ split) ∙ written-append (runRows b) rest
-    ∙ ap (λ (t : List ℕ). written (runRows b) ++ t) (sym (j .rightRows .written ∙ ap written after)) in
-    let long = ap length text ∙ length-append (written (runRows b)) (drop (d .at) s) in
-    let far : length (written (runRows b)) ≡ d .at - c .at =
+    let text : drop (c .at) s ≡ written m (runRows b) ++ drop (d .at) s =
+    i .rightRows .written ∙ ap (written m) (first ∙ split) ∙ written-append m (runRows b) rest
+    ∙ ap (λ (t : List ℕ). written m (runRows b) ++ t) (sym (j .rightRows .written ∙ ap (written m) after)) in
+    let long = ap length text ∙ length-append (written m (runRows b)) (drop (d .at) s) in
+    let far : length (written m (runRows b)) ≡ d .at - c .at =
     omega (arith, long, length-drop (c .at) s, length-drop (d .at) s, i .within, j .within) in
     record {
       forth = omega (arith, long, length-drop (c .at) s, length-drop (d .at) s, i .within, j .within);
       rows = omega (arith, rows-length b, row);
       bytes = sym (part-of (c .at) (d .at) s) ∙ ap (take (d .at - c .at)) text
-          ∙ take-at (written (runRows b)) (drop (d .at) s) (d .at - c .at) far;
+          ∙ take-at (written m (runRows b)) (drop (d .at) s) (d .at - c .at) far;
+      here = first ∙ split ∙ ap (λ (rs : List Row). runRows b ++ rs) (sym after);
     }

@@ -9,7 +9,7 @@ use lib.Dec.{eqb}
 use lib.ListN.{length, length-append}
 use Rattle.token_list.specs.Byte.{SPACE, LF}
 use Rattle.token_list.specs.Layout.{OPEN, CLOSE}
-use Rattle.token_list.specs.Row.{Row, written}
+use Rattle.token_list.specs.Row.{Row, markColumn, written}
 use Rattle.token_list.specs.Stream.{Trees, end, leaf, group, Streams, before, streams, size}
 use Rattle.token_list.proofs.Texts.{and-parts}
 use Rattle.token_list.proofs.Streams.{before-close, before-open, before-leaf}
@@ -18,11 +18,15 @@ use Rattle.writing.specs.Rows.{opening, closing, runRows}
 
 -- ## Rows
 
-pub written-append : (rs qs : List Row) → written (rs ++ qs) ≡ written rs ++ written qs
-written-append [] qs = refl
-written-append (r ∷ rs) qs =
-    ap (λ (t : List ℕ). r .kind ∷ SPACE ∷ r .text ++ LF ∷ t) (written-append rs qs)
-    ∙ ap (λ (t : List ℕ). r .kind ∷ SPACE ∷ t) (sym (append-assoc (r .text) (LF ∷ written rs) (written qs)))
+pub written-append : (m : Bool) (rs qs : List Row) → written m (rs ++ qs) ≡ written m rs ++ written m qs
+written-append m [] qs = refl
+written-append m (r ∷ rs) qs =
+    let column = markColumn m (r .joint) in
+    ap (λ (t : List ℕ). r .kind ∷ SPACE ∷ column ++ (r .text ++ LF ∷ t)) (written-append m rs qs)
+    ∙ ap (λ (t : List ℕ). r .kind ∷ SPACE ∷ column ++ t)
+    (sym (append-assoc (r .text) (LF ∷ written m rs) (written m qs)))
+    ∙ ap (λ (t : List ℕ). r .kind ∷ SPACE ∷ t)
+    (sym (append-assoc column (r .text ++ LF ∷ written m rs) (written m qs)))
 
 pub rows-length : (ts : Trees) → length (runRows ts) ≡ size ts
 rows-length end = refl

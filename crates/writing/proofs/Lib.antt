@@ -6,6 +6,7 @@ pub mod Runs
 pub mod Read
 pub mod Written
 pub mod Reread
+pub mod Sent
 pub mod Declared
 pub mod ReadBack
 pub mod Lengths

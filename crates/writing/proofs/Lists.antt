@@ -5,7 +5,7 @@ use mathlib.Core.List.{List, [], _∷_, _++_, map, append-nil, append-assoc}
 use Prim.Native.Nat.{ℕ, _+_, _≤_}
 use native.Mathlib.Omega.{arith}
 use Rattle.token_list.specs.Byte.{QUOTE, COMMA, COLON, LESS, GREATER}
-use Rattle.token_list.specs.Layout.{FIRST-ROW}
+use Rattle.token_list.specs.Layout.{marked, firstRow}
 use Rattle.token_list.specs.Text as text
 use Rattle.token_list.specs.Text.{plainName, rawName, punctuation}
 use Rattle.token_list.specs.Row.{Row, plain, wrong, formOf}
@@ -17,18 +17,18 @@ use Rattle.reading.specs.Declaration.{Parameter, lifetime, constant, type, Gene
 use Rattle.reading.specs.Took.{took}
 use Rattle.reading.specs.Reading.{item}
 use Rattle.writing.specs.Rows.{ident, punct, runRows}
-use Rattle.writing.specs.Generics.{bounds, parameterRows, parted, angledRows, genericsRows, named, names}
-use Rattle.writing.specs.Generics.{addedLifetime, addedType}
+use Rattle.writing.specs.Generics.{bounds, parameterRows, parted, angledRows, sentParameter, genericsRows}
+use Rattle.writing.specs.Generics.{named, names, addedLifetime, addedType}
 use Rattle.writing.specs.Names.{namesOf, rightName, rightNames}
 use Rattle.writing.specs.Answer.{implGenerics, typeGenerics, withAdditional}
 use Rattle.writing.specs.Depth.{depth}
 use Rattle.writing.specs.IsList.{IsList}
 use Rattle.writing.specs.ReadBack.{runOf}
 use Rattle.writing.proofs.Joined.{joined, rows-joined, token}
-use Rattle.writing.proofs.Balanced.{sound, sound-tokens, nests, list-stream}
+use Rattle.writing.proofs.Balanced.{ident-mark, punct-mark, sound, sound-tokens, nests, list-stream}
 use Rattle.writing.proofs.Written.{boundsThen, parameterThen, partedThen, angledThen, allTokens, streams-angled}
 use Rattle.writing.proofs.Declared.{nameOf, AllDeclared, depth-joined, declared-of}
-use Rattle.writing.proofs.Passes.{nested-passes}
+use Rattle.writing.proofs.Passes.{nested-passes, list-marked, list-rows}
 
 -- ## The rows of the streams that are written
 
@@ -57,73 +57,91 @@ parted-rows false (p ∷ ps) us =
 -- ## Right and deep enough
 
 -- names that are right, and runs of right tokens, at most m deep
-record Fine (m : ℕ) (p : Parameter) : Type 0 where
-  name : right (ident (nameOf p)) ≡ true
-  run : sound (runOf p) ≡ true
+record Fine (marks : Bool) (m : ℕ) (p : Parameter) : Type 0 where
+  name : right marks (ident (nameOf p)) ≡ true
+  run : sound marks (runOf p) ≡ true
   deep : depth (runOf p) ≤ m
 
-data AllFine (m : ℕ) : List Parameter → Type 0 where
-  none : AllFine m []
-  also : {p : Parameter} {ps : List Parameter} → Fine m p → AllFine m ps → AllFine m (p ∷ ps)
+data AllFine (marks : Bool) (m : ℕ) : List Parameter → Type 0 where
+  none : AllFine marks m []
+  also : {p : Parameter} {ps : List Parameter} → Fine marks m p → AllFine marks m ps → AllFine marks m (p ∷ ps)
 
 -- a stream of right tokens, at most m deep
-record Good (m : ℕ) (ts : Trees) : Type 0 where
-  right : sound ts ≡ true
+record Good (marks : Bool) (m : ℕ) (ts : Trees) : Type 0 where
+  right : sound marks ts ≡ true
   deep : depth ts ≤ m
 
-good-leaf : {m : ℕ} {us : Trees} (r : Row) → (token r && right r) ≡ true → Good m us → Good m (leaf r us)
+good-leaf : {marks : Bool} {m : ℕ} {us : Trees} (r : Row) → (token r && right marks r) ≡ true → Good marks m us
+    → Good marks m (leaf r us)
 good-leaf r e g = record { right = and-both _ _ e (g .right); deep = g .deep }
 
-good-punct : {m : ℕ} {us : Trees} (b : ℕ) → punctuation b ≡ true → Good m us → Good m (leaf (punct b) us)
+good-punct : {marks : Bool} {m : ℕ} {us : Trees} (b : ℕ) → punctuation b ≡ true → Good marks m us
+    → Good marks m (leaf (punct b) us)
 unfolding formOf
-good-punct b e g = good-leaf (punct b) (and-both _ _ (ap (λ (x : Bool). isRow (cond x plain wrong)) e) refl) g
+good-punct {marks} b e g =
+    good-leaf (punct b) (and-both _ _ (ap (λ (x : Bool). isRow (cond x plain wrong)) e) (punct-mark marks b)) g
 
-good-name : {m : ℕ} {us : Trees} (n : List ℕ) → right (ident n) ≡ true → Good m us → Good m (leaf (ident n) us)
+good-name : {marks : Bool} {m : ℕ} {us : Trees} (n : List ℕ) → right marks (ident n) ≡ true → Good marks m us
+    → Good marks m (leaf (ident n) us)
 good-name n e g = good-leaf (ident n) e g
 
-sound-join : (ts us : Trees) → sound ts ≡ true → sound us ≡ true → sound (joined ts us) ≡ true
-sound-join end us e h = h
-sound-join (leaf r ts) us e h =
-    let p = and-parts (token r && right r) (sound ts) e in and-both _ _ (p .0) (sound-join ts us (p .1) h)
-sound-join (group d ts vs) us e h =
+sound-join : (marks : Bool) (ts us : Trees) → sound marks ts ≡ true → sound marks us ≡ true
+    → sound marks (joined ts us) ≡ true
+sound-join marks end us e h = h
+sound-join marks (leaf r ts) us e h =
+    let p = and-parts (token r && right marks r) (sound marks ts) e in
+    and-both _ _ (p .0) (sound-join marks ts us (p .1) h)
+sound-join marks (group d ts vs) us e h =
     let p = and-parts (text.opening d) _ e in
-    let q = and-parts (sound ts) (sound vs) (p .1) in
-    and-both _ _ (p .0) (and-both _ _ (q .0) (sound-join vs us (q .1) h))
+    let q = and-parts (sound marks ts) (sound marks vs) (p .1) in
+    and-both _ _ (p .0) (and-both _ _ (q .0) (sound-join marks vs us (q .1) h))
 
-module _ {m : ℕ} where
-  good-run : (b us : Trees) → sound b ≡ true → depth b ≤ m → Good m us → Good m (joined b us)
+module _ {marks : Bool} {m : ℕ} where
+  good-run : (b us : Trees) → sound marks b ≡ true → depth b ≤ m → Good marks m us → Good marks m (joined b us)
   good-run b us e l g = record
-      { right = sound-join b us e (g .right); deep = omega (arith, depth-joined b us, g .deep) }
+      { right = sound-join marks b us e (g .right); deep = omega (arith, depth-joined b us, g .deep) }
 
-  good-bounds : (b us : Trees) → sound b ≡ true → depth b ≤ m → Good m us → Good m (boundsThen b us)
+  good-bounds : (b us : Trees) → sound marks b ≡ true → depth b ≤ m → Good marks m us → Good marks m (boundsThen b us)
   good-bounds end us e l g = g
   good-bounds (leaf r ts) us e l g = good-punct COLON refl (good-run (leaf r ts) us e l g)
   good-bounds (group d ts vs) us e l g = good-punct COLON refl (good-run (group d ts vs) us e l g)
 
-  good-parameter : (p : Parameter) (us : Trees) → Fine m p → Good m us → Good m (parameterThen p us)
+  good-parameter : (p : Parameter) (us : Trees) → Fine marks m p → Good marks m us → Good marks m (parameterThen p us)
   unfolding formOf
   good-parameter (lifetime n b) us f g = good-punct QUOTE refl
       (good-name n (f .name) (good-bounds b us (f .run) (f .deep) g))
   good-parameter (constant n t) us f g =
-      good-name CONST refl (good-name n (f .name) (good-punct COLON refl (good-run t us (f .run) (f .deep) g)))
+      good-name CONST (ident-mark marks CONST)
+      (good-name n (f .name) (good-punct COLON refl (good-run t us (f .run) (f .deep) g)))
   good-parameter (type n b d) us f g = good-name n (f .name) (good-bounds b us (f .run) (f .deep) g)
 
-  good-parted : (first : Bool) {ps : List Parameter} (us : Trees) → AllFine m ps → Good m us
-      → Good m (partedThen first ps us)
+  good-parted : (first : Bool) {ps : List Parameter} (us : Trees) → AllFine marks m ps → Good marks m us
+      → Good marks m (partedThen first ps us)
   good-parted first us none g = g
   good-parted true us (also {p = p} {ps = ps} f fs) g =
       good-parameter p (partedThen false ps us) f (good-parted false us fs g)
   good-parted false us (also {p = p} {ps = ps} f fs) g =
       good-punct COMMA refl (good-parameter p (partedThen false ps us) f (good-parted false us fs g))
 
-  fine-tokens : {ps : List Parameter} → AllFine m ps → allTokens ps ≡ true
+  fine-tokens : {ps : List Parameter} → AllFine marks m ps → allTokens ps ≡ true
   fine-tokens none = refl
-  fine-tokens (also {p = p} f fs) = and-both _ _ (sound-tokens (runOf p) (f .run)) (fine-tokens fs)
+  fine-tokens (also {p = p} f fs) = and-both _ _ (sound-tokens marks (runOf p) (f .run)) (fine-tokens fs)
 
 -- ## The rows between angles
 
+of-nested : (s : List ℕ) (rs : List Row) → nested (marked s) [] rs ≡ true
+    → depth (streams rs .here) ≤ depth (at s (firstRow s) .here)
+    → IsList s rs
+of-nested s rs e l = record {
+  nested = e;
+  deep = l;
+  passes = nested-passes (marked s) rs e;
+  names = list-marked (marked s) rs;
+  rows = list-rows (marked s) rs e;
+}
+
 angled-list : (s : List ℕ) {n : ℕ} {ps : List Parameter} → check s ≡ passed n
-    → AllFine (depth (at s FIRST-ROW .here)) ps
+    → AllFine (marked s) (depth (at s (firstRow s) .here)) ps
     → IsList s (angledRows ps)
 angled-list s {ps = ps} c f =
     let last : Trees = leaf (punct GREATER) end in
@@ -133,68 +151,67 @@ angled-list s {ps = ps} c f =
     ap (λ (rs : List Row). punct LESS ∷ rs) (parted-rows true ps last) in
     let stream = sym (ap (λ (rs : List Row). streams rs .here) (append-nil (angledRows ps)))
     ∙ ap (λ (st : Streams). st .here) (streams-angled ps [] (fine-tokens f)) in
-    let nest = nests (angledThen ps end) [] [] (g .right) (omega (arith, g .deep, list-stream s c .deep)) refl in
-    let good = subst (λ (rs : List Row). nested [] rs ≡ true) (append-nil _ ∙ rows) nest in
-    record {
-      nested = good;
-      deep = omega (arith, ap depth stream, g .deep);
-      passes = nested-passes
-          (angledRows ps) good;
-    }
+    let nest = nests (marked s) (angledThen ps end) [] [] (g .right)
+    (omega (arith, g .deep, list-stream s c .deep)) refl in
+    let good = subst (λ (rs : List Row). nested (marked s) [] rs ≡ true) (append-nil _ ∙ rows) nest in
+    of-nested s (angledRows ps) good (omega (arith, ap depth stream, g .deep))
 
 -- ## The three writers
 
-declared-fine : {ts : Trees} {ps : List Parameter} → AllDeclared ts ps → AllFine (depth ts) ps
+declared-fine : {marks : Bool} {ts : Trees} {ps : List Parameter} → AllDeclared marks ts ps
+    → AllFine marks (depth ts) ps
 declared-fine AllDeclared.none = none
 declared-fine (AllDeclared.also d ds) =
     also (record { name = d .name; run = d .run; deep = d .deep }) (declared-fine ds)
 
-right-name : (t : List ℕ) → rightName t ≡ true → right (ident t) ≡ true
+right-name : (marks : Bool) (t : List ℕ) → rightName t ≡ true → right marks (ident t) ≡ true
 unfolding formOf
-right-name t e =
+right-name marks t e =
     let p = and-parts (plainName t) _ e in
-    and-both _ _ (ap (λ (b : Bool). isRow (cond (b || rawName t) plain wrong)) (p .0)) (p .1)
+    and-both _ _ (ap (λ (b : Bool). isRow (cond (b || rawName t) plain wrong)) (p .0))
+    (and-both _ _ (p .1) (ident-mark marks t))
 
-module _ {m : ℕ} where
-  named-fine : {ps : List Parameter} → AllFine m ps → AllFine m (names ps)
+module _ {marks : Bool} {m : ℕ} where
+  named-fine : {ps : List Parameter} → AllFine marks m ps → AllFine marks m (names ps)
   named-fine none = none
   named-fine (also {p = p} f fs) = also (one p f) (named-fine fs)
     where
-      one : (p : Parameter) → Fine m p → Fine m (named p)
+      one : (p : Parameter) → Fine marks m p → Fine marks m (named p)
       one (lifetime n b) f = record { name = f .name; run = refl; deep = omega arith }
       one (constant n t) f = record { name = f .name; run = refl; deep = omega arith }
       one (type n b d) f = record { name = f .name; run = refl; deep = omega arith }
 
-  lifetimes-fine : (ls : List (List ℕ)) {qs : List Parameter} → rightNames ls ≡ true → AllFine m qs
-      → AllFine m (map addedLifetime ls ++ qs)
+  lifetimes-fine : (ls : List (List ℕ)) {qs : List Parameter} → rightNames ls ≡ true → AllFine marks m qs
+      → AllFine marks m (map addedLifetime ls ++ qs)
   lifetimes-fine [] e f = f
   lifetimes-fine (l ∷ ls) e f =
       let p = and-parts (rightName l) (rightNames ls) e in
-      also {p = addedLifetime l} (record { name = right-name l (p .0); run = refl; deep = omega arith })
+      also {p = addedLifetime l} (record { name = right-name marks l (p .0); run = refl; deep = omega arith })
       (lifetimes-fine ls (p .1) f)
 
-  types-fine : (ts : List (List ℕ)) → rightNames ts ≡ true → AllFine m (map addedType ts)
+  types-fine : (ts : List (List ℕ)) → rightNames ts ≡ true → AllFine marks m (map addedType ts)
   types-fine [] e = none
   types-fine (t ∷ ts) e =
       let p = and-parts (rightName t) (rightNames ts) e in
-      also {p = addedType t} (record { name = right-name t (p .0); run = refl; deep = omega arith })
+      also {p = addedType t} (record { name = right-name marks t (p .0); run = refl; deep = omega arith })
       (types-fine ts (p .1))
 
-  append-fine : {ps qs : List Parameter} → AllFine m ps → AllFine m qs → AllFine m (ps ++ qs)
+  append-fine : {ps qs : List Parameter} → AllFine marks m ps → AllFine marks m qs → AllFine marks m (ps ++ qs)
   append-fine none g = g
   append-fine (also f fs) g = also f (append-fine fs g)
 
 -- ## The law, of a writer whose names are right and a list that was read
 
 module _ (s : List ℕ) {n : ℕ} {d : Declaration} {rs : List ℕ} {us : Trees} (c : check s ≡ passed n)
-    (e : item 0 (at s FIRST-ROW .here) ≡ took d rs us) where
+    (e : item 0 (at s (firstRow s) .here) ≡ took d rs us) where
   by-parameters : (f : List Parameter → List Parameter)
-      → ((m : ℕ) (ps : List Parameter) → AllFine m ps → AllFine m (f ps)) → IsList s (genericsRows f (d .generics))
+      → ((m : ℕ) (ps : List Parameter) → AllFine (marked s) m ps → AllFine (marked s) m (f ps))
+      → IsList s (genericsRows f (d .generics))
   by-parameters f k = go (d .generics) refl
     where
       go : (x : Generics) → d .generics ≡ x → IsList s (genericsRows f x)
-      go without g = record { nested = refl; deep = omega arith; passes = nested-passes [] refl }
-      go (angled ps) g = angled-list s c (k _ ps (declared-fine (declared-of s ps c e g .declared)))
+      go without g = of-nested s [] refl (omega arith)
+      go (angled ps) g = angled-list s c (k _ (map sentParameter ps) (declared-fine (declared-of s ps c e g .declared)))
 
   pub impl-list : IsList s (genericsRows (implGenerics .parameters) (d .generics))
   impl-list = by-parameters (implGenerics .parameters) (λ m ps f. f)

@@ -1,22 +1,30 @@
--- Rows that nest pass the list check, within the limits of bytes and rows.
+-- Rows that nest pass the list check, within the limits of bytes and rows, and are read as they were written.
 use mathlib.Core.Path.{_≡_, refl, ap, _∙_, sym}
-use mathlib.Core.Bool.{Bool, true, false, cond, not, _&&_, _||_, false≢true}
-use mathlib.Core.List.{List, [], _∷_, _++_}
+use mathlib.Core.Bool.{Bool, true, false, cond, not, _&&_, _||_, Bool·beq, false≢true}
+use mathlib.Core.List.{List, [], _∷_, _++_, append-assoc}
 use Prim.Native.Nat.{ℕ, suc, _+_, _≤_, _<_}
 use native.Mathlib.Omega.{arith}
 use borrow.Author.Tests.{eqb-true, ne-eqb, ltb-true, lt-leb, le-ltb}
 use lib.Dec.{eqb, ltb}
-use lib.ListN.{length}
+use lib.ListN.{length, drop}
 use Rattle.token_list.specs.Byte.{SPACE, LF, HASH}
-use Rattle.token_list.specs.Layout.{IDENT, LITERAL, PUNCT, OPEN, CLOSE, MAX-BYTES, MAX-ROWS, MAX-DEPTH}
+use Rattle.token_list.specs.Layout.{IDENT, LITERAL, PUNCT, OPEN, CLOSE, marked, firstRow, textOffset, MAX-BYTES}
+use Rattle.token_list.specs.Layout.{MAX-ROWS, MAX-DEPTH}
 use Rattle.token_list.specs.Text.{all, name, plainName, nameStart, namePart, rawName, literal, literalStart, printable}
 use Rattle.token_list.specs.Text.{single, punctuation, opening, closing, closer}
-use Rattle.token_list.specs.Row.{Row, line, lines, byte, written, Form, plain, opens, closed, wrong, formOf, first}
-use Rattle.token_list.specs.Check.{Answer, passed, Open, step, walk, check, isRow, right, closedBy, enclosing, nested}
+use Rattle.token_list.specs.Row.{Row, Lines, tail, line, lines, byte, rows, written, Form, plain, opens, closed, wrong}
+use Rattle.token_list.specs.Row.{form, formOf, textForm, first, columnsFit, ownMark, markOf, lineRow}
+use Rattle.token_list.specs.Row.{markColumn, rightMark}
+use Rattle.token_list.specs.Check.{Answer, passed, Open, step, walk, check, isRow, right, allRight, closedBy, enclosing}
+use Rattle.token_list.specs.Check.{nested}
+use Rattle.token_list.specs.Stream.{rowsAt}
 use Rattle.token_list.proofs.Texts.{chosen, passed-over, and-both, and-parts}
-use Rattle.token_list.proofs.Passed.{open-form, close-form, plain-form}
+use Rattle.token_list.proofs.Columns.{line-row}
+use Rattle.token_list.proofs.Rows.{past-columns}
+use Rattle.token_list.proofs.Passed.{open-form, close-form, plain-form, balanced}
 use Rattle.writing.specs.Rows.{listOf}
 use Rattle.writing.proofs.Joined.{not-true}
+use Rattle.writing.proofs.Balanced.{RightRow, right-row}
 
 -- ## No LF stands in a row
 
@@ -24,7 +32,7 @@ use Rattle.writing.proofs.Joined.{not-true}
 no-lf : (p : ℕ → Bool) (b : ℕ) → p LF ≡ false → p b ≡ true → eqb b LF ≡ false
 no-lf p b f e = ne-eqb b LF (λ q. false≢true (sym f ∙ sym (ap p q) ∙ e))
 
-abbrev pub clear : List ℕ → Bool
+abbrev clear : List ℕ → Bool
 clear [] = true
 clear (b ∷ bs) = not (eqb b LF) && clear bs
 
@@ -66,7 +74,7 @@ clear-literal [] e = refl
 clear-literal (b ∷ t) e = clear-all printable (b ∷ t) refl (and-parts (literalStart b) (all printable (b ∷ t)) e .1)
 
 -- kind and text of a row
-pub clear-row : (k : ℕ) (t : List ℕ) → isRow (formOf k t) ≡ true → clear (k ∷ SPACE ∷ t) ≡ true
+clear-row : (k : ℕ) (t : List ℕ) → isRow (formOf k t) ≡ true → clear (k ∷ SPACE ∷ t) ≡ true
 unfolding formOf
 clear-row k t = go (eqb k IDENT) (eqb k LITERAL) (eqb k PUNCT) (eqb k OPEN) (eqb k CLOSE) refl refl refl refl refl
   where
@@ -90,11 +98,85 @@ clear-row k t = go (eqb k IDENT) (eqb k LITERAL) (eqb k PUNCT) (eqb k OPEN) (eqb
         (clear-single closing t refl (row _ (closed (first t)) h))
     go false false false false false a b d e f h = absurd (false≢true h)
 
-pub lines-clear : (l rest : List ℕ) → clear l ≡ true → lines (l ++ LF ∷ rest) ≡ line l (lines rest)
+lines-clear : (l rest : List ℕ) → clear l ≡ true → lines (l ++ LF ∷ rest) ≡ line l (lines rest)
 lines-clear [] rest e = refl
 lines-clear (b ∷ l) rest e =
     let q = and-parts (not (eqb b LF)) (clear l) e in
     (λ i. byte (not-true (eqb b LF) (q .0) i) b (lines-clear l rest (q .1) i))
+
+-- ## A row as a line
+
+module _ (m : Bool) where
+  abbrev rowLine : Row → List ℕ
+  rowLine r = r .kind ∷ SPACE ∷ markColumn m (r .joint) ++ r .text
+
+  -- nor does an LF stand in its columns
+  clear-line : (r : Row) → isRow (formOf (r .kind) (r .text)) ≡ true → clear (rowLine r) ≡ true
+  clear-line r e = go m (r .joint) (clear-row (r .kind) (r .text) e)
+    where
+      go : (m j : Bool) → clear (r .kind ∷ SPACE ∷ r .text) ≡ true
+          → clear (r .kind ∷ SPACE ∷ markColumn m j ++ r .text) ≡ true
+      go true true h = h
+      go true false h = h
+      go false j h = h
+
+  row-line : (r : Row) (rs : List Row) → isRow (formOf (r .kind) (r .text)) ≡ true
+      → lines (written m (r ∷ rs)) ≡ line (rowLine r) (lines (written m rs))
+  row-line r rs e =
+      sym (ap (λ (t : List ℕ). lines (r .kind ∷ SPACE ∷ t))
+      (append-assoc (markColumn m (r .joint)) (r .text) (LF ∷ written m rs)))
+      ∙ lines-clear (rowLine r) (written m rs) (clear-line r e)
+
+  line-fits : (r : Row) → rightMark m r ≡ true → columnsFit m (rowLine r) ≡ true
+  line-fits r e = go m (r .joint) e
+    where
+      go : (m j : Bool) → rightMark m (record { kind = r .kind; joint = j; text = r .text }) ≡ true
+          → columnsFit m (r .kind ∷ SPACE ∷ markColumn m j ++ r .text) ≡ true
+      go true true h = ap (λ (b : Bool). (b && true) && true) h
+      go true false h = refl
+      go false j h = refl
+
+  line-text : (r : Row) → drop (textOffset m) (rowLine r) ≡ r .text
+  line-text r = past-columns m (r .joint) (r .kind) (r .text)
+
+  -- its own row again
+  line-same : (r : Row) → rightMark m r ≡ true → lineRow m (rowLine r) ≡ r
+  line-same r e = λ i. record { kind = r .kind; joint = mark m (r .joint) e i; text = line-text r i }
+    where
+      same : (j o : Bool) → Bool·beq j o ≡ true → o ≡ j
+      same true true e = refl
+      same true false e = e
+      same false true e = sym e
+      same false false e = refl
+
+      mark : (m j : Bool) → rightMark m (record { kind = r .kind; joint = j; text = r .text }) ≡ true
+          → markOf m (r .kind ∷ SPACE ∷ markColumn m j ++ r .text) ≡ j
+      mark true true h = refl
+      mark true false h = refl
+      mark false j h = same j (ownMark (r .kind) (r .text)) h
+
+  line-form : (r : Row) → RightRow m r → form m (rowLine r) ≡ formOf (r .kind) (r .text)
+  line-form r h =
+      chosen _ _ _ (line-fits r (h .mark)) ∙ ap (textForm (r .kind)) (line-text r) ∙ chosen _ _ _ (h .short)
+
+  -- all of them
+  abbrev pub linesOf : List Row → Lines
+  linesOf [] = tail []
+  linesOf (r ∷ rs) = line (rowLine r) (linesOf rs)
+
+  pub lines-written : (rs : List Row) → allRight m rs ≡ true → lines (written m rs) ≡ linesOf rs
+  lines-written [] e = refl
+  lines-written (r ∷ rs) e =
+      let p = and-parts (right m r) (allRight m rs) e in
+      row-line r rs (right-row m r (p .0) .formed) ∙ ap (line (rowLine r)) (lines-written rs (p .1))
+
+  pub rows-lines : (rs : List Row) → allRight m rs ≡ true → rows m (linesOf rs) ≡ rs
+  rows-lines [] e = refl
+  rows-lines (r ∷ rs) e =
+      let p = and-parts (right m r) (allRight m rs) e in
+      let mark = right-row m r (p .0) .mark in
+      line-row m (rowLine r) (rows m (linesOf rs)) (line-fits r mark)
+      ∙ (λ i. line-same r mark i ∷ rows-lines rs (p .1) i)
 
 -- ## The walk
 
@@ -124,26 +206,26 @@ module _ (k : ℕ) (t : List ℕ) (row : isRow (formOf k t) ≡ true) where
   plain-row : eqb k OPEN ≡ false → eqb k CLOSE ≡ false → formOf k t ≡ plain
   plain-row o c = let p = plain-form k t o c in row-by (p .0) plain (p .1) row
 
-module _ (rs : List Row) (n : ℕ)
-    (ih : (k : ℕ) (gs : List Open) → nested (delimitersOf gs) rs ≡ true → k + length rs ≡ n
-    → walk k gs (lines (written rs)) ≡ passed n)
+module _ (m : Bool) (rs : List Row) (n : ℕ)
+    (ih : (k : ℕ) (gs : List Open) → nested m (delimitersOf gs) rs ≡ true → k + length rs ≡ n
+    → walk m k gs (lines (written m rs)) ≡ passed n)
     (k : ℕ) (count : k + 1 + length rs ≡ n) where
   abbrev go : List Open → Answer
-  go hs = walk (k + 1) hs (lines (written rs))
+  go hs = walk m (k + 1) hs (lines (written m rs))
 
   close-step : (gs : List Open) (d : ℕ)
-      → (closedBy (delimitersOf gs) d && nested (enclosing (delimitersOf gs)) rs) ≡ true
+      → (closedBy (delimitersOf gs) d && nested m (enclosing (delimitersOf gs)) rs) ≡ true
       → step k gs (closed d) go ≡ passed n
   close-step [] d e = absurd (false≢true e)
   close-step (g ∷ gs) d e =
       let p = and-parts (eqb (closer (g .delimiter)) d) _ e in chosen _ _ _ (p .0) ∙ ih (k + 1) gs (p .1) count
 
-  row-step : (gs : List Open) (r : Row) → nested (delimitersOf gs) (r ∷ rs) ≡ true
+  row-step : (gs : List Open) (r : Row) → nested m (delimitersOf gs) (r ∷ rs) ≡ true
       → step k gs (formOf (r .kind) (r .text)) go ≡ passed n
   row-step gs r e = kind (eqb (r .kind) OPEN) (eqb (r .kind) CLOSE) refl refl
     where
       row : isRow (formOf (r .kind) (r .text)) ≡ true
-      row = and-parts (isRow (formOf (r .kind) (r .text))) _ (and-parts (right r) _ e .0) .0
+      row = right-row m r (and-parts (right m r) _ e .0) .formed
 
       formed : {f : Form} → formOf (r .kind) (r .text) ≡ f → step k gs f go ≡ passed n
           → step k gs (formOf (r .kind) (r .text)) go ≡ passed n
@@ -153,7 +235,7 @@ module _ (rs : List Row) (n : ℕ)
           → step k gs (formOf (r .kind) (r .text)) go ≡ passed n
       kind true c a b =
           let p = and-parts (ltb (length (delimitersOf gs)) MAX-DEPTH) _
-          (sym (chosen _ _ _ a) ∙ and-parts (right r) _ e .1) in
+          (sym (chosen _ _ _ a) ∙ and-parts (right m r) _ e .1) in
           let free : length gs < MAX-DEPTH = omega
           (arith, ltb-true (length (delimitersOf gs)) MAX-DEPTH (p .0), delimiters-length gs) in
           let opened : Open = record { delimiter = first (r .text); row = k } in
@@ -161,32 +243,53 @@ module _ (rs : List Row) (n : ℕ)
           (passed-over _ _ _ (lt-leb MAX-DEPTH (length gs) free) ∙ ih (k + 1) (opened ∷ gs) (p .1) count)
       kind false true a b =
           formed (close-row (r .kind) (r .text) row b)
-          (close-step gs (first (r .text)) (sym (passed-over _ _ _ a ∙ chosen _ _ _ b) ∙ and-parts (right r) _ e .1))
+          (close-step gs (first (r .text)) (sym (passed-over _ _ _ a ∙ chosen _ _ _ b) ∙ and-parts (right m r) _ e .1))
       kind false false a b =
           formed (plain-row (r .kind) (r .text) row a b)
-          (ih (k + 1) gs (sym (passed-over _ _ _ a ∙ passed-over _ _ _ b) ∙ and-parts (right r) _ e .1) count)
+          (ih (k + 1) gs (sym (passed-over _ _ _ a ∙ passed-over _ _ _ b) ∙ and-parts (right m r) _ e .1) count)
 
-  line-step : (gs : List Open) (r : Row) → k < MAX-ROWS → nested (delimitersOf gs) (r ∷ rs) ≡ true
-      → walk k gs (lines (written (r ∷ rs))) ≡ passed n
+  line-step : (gs : List Open) (r : Row) → k < MAX-ROWS → nested m (delimitersOf gs) (r ∷ rs) ≡ true
+      → walk m k gs (lines (written m (r ∷ rs))) ≡ passed n
   line-step gs r l e =
-      let p = and-parts (isRow (formOf (r .kind) (r .text))) _ (and-parts (right r) _ e .0) in
-      ap (walk k gs) (lines-clear (r .kind ∷ SPACE ∷ r .text) (written rs) (clear-row (r .kind) (r .text) (p .0)))
+      let h = right-row m r (and-parts (right m r) _ e .0) in
+      ap (walk m k gs) (row-line m r rs (h .formed))
       ∙ passed-over _ _ _ (lt-leb MAX-ROWS k l)
-      ∙ ap (λ (f : Form). step k gs f go) (chosen _ _ _ (p .1))
+      ∙ ap (λ (f : Form). step k gs f go) (line-form m r h)
       ∙ row-step gs r e
 
-walk-nested : (rs : List Row) (n k : ℕ) (gs : List Open) → n ≤ MAX-ROWS → nested (delimitersOf gs) rs ≡ true
+walk-nested : (m : Bool) (rs : List Row) (n k : ℕ) (gs : List Open) → n ≤ MAX-ROWS
+    → nested m (delimitersOf gs) rs ≡ true
     → k + length rs ≡ n
-    → walk k gs (lines (written rs)) ≡ passed n
-walk-nested [] n k [] l e c = ap passed (omega arith)
-walk-nested [] n k (g ∷ gs) l e c = absurd (false≢true e)
-walk-nested (r ∷ rs) n k gs l e c =
-    line-step rs n (λ k gs e c. walk-nested rs n k gs l e c) k (omega arith) gs r (omega arith) e
+    → walk m k gs (lines (written m rs)) ≡ passed n
+walk-nested m [] n k [] l e c = ap passed (omega arith)
+walk-nested m [] n k (g ∷ gs) l e c = absurd (false≢true e)
+walk-nested m (r ∷ rs) n k gs l e c =
+    line-step m rs n (λ k gs e c. walk-nested m rs n k gs l e c) k (omega arith) gs r (omega arith) e
 
--- ## The law
+-- ## The law: within the limits the list passes the check, and its names and rows are those that were written
 
-pub nested-passes : (rs : List Row) → nested [] rs ≡ true → length (listOf rs) ≤ MAX-BYTES → length rs ≤ MAX-ROWS
-    → check (listOf rs) ≡ passed (length rs)
-unfolding check
-nested-passes rs e b l =
-    passed-over _ _ _ (le-ltb MAX-BYTES (length (listOf rs)) b) ∙ walk-nested rs (length rs) 0 [] l e (omega arith)
+pub nested-passes : (m : Bool) (rs : List Row) → nested m [] rs ≡ true → length (listOf m rs) ≤ MAX-BYTES
+    → length rs ≤ MAX-ROWS
+    → check (listOf m rs) ≡ passed (length rs)
+unfolding check marked firstRow
+nested-passes true rs e b l =
+    passed-over _ _ _ (le-ltb MAX-BYTES (length (listOf true rs)) b)
+    ∙ walk-nested true rs (length rs) 0 [] l e (omega arith)
+nested-passes false rs e b l =
+    passed-over _ _ _ (le-ltb MAX-BYTES (length (listOf false rs)) b)
+    ∙ walk-nested false rs (length rs) 0 [] l e (omega arith)
+
+pub list-marked : (m : Bool) (rs : List Row) → marked (listOf m rs) ≡ m
+unfolding marked
+list-marked true rs = refl
+list-marked false rs = refl
+
+rows-again : (m : Bool) (rs : List Row) → nested m [] rs ≡ true → rows m (lines (written m rs)) ≡ rs
+rows-again m rs e =
+    let right = balanced m rs [] e .right in ap (rows m) (lines-written m rs right) ∙ rows-lines m rs right
+
+pub list-rows : (m : Bool) (rs : List Row) → nested m [] rs ≡ true
+    → rowsAt (listOf m rs) (firstRow (listOf m rs)) ≡ rs
+unfolding marked firstRow
+list-rows true rs e = rows-again true rs e
+list-rows false rs e = rows-again false rs e

@@ -6,7 +6,7 @@ use Prim.Native.Nat.{ℕ, _+_}
 use Rattle.token_list.specs.Byte.{SEMICOLON, LESS}
 use Rattle.token_list.specs.Text.{same}
 use Rattle.token_list.specs.Check.{check, passed}
-use Rattle.token_list.specs.Layout.{FIRST-ROW}
+use Rattle.token_list.specs.Layout.{firstRow}
 use Rattle.token_list.specs.Stream.{Trees, end, leaf, at}
 use Rattle.token_list.proofs.Texts.{and-both, and-parts, or-last}
 use Rattle.reading.specs.Role as role
@@ -22,7 +22,7 @@ use Rattle.reading.proofs.GrammarSound.{obeys-sound}
 use Rattle.reading.proofs.GrammarWider as wider
 use Rattle.reading.proofs.Promise.{obeys-unique}
 use Rattle.writing.specs.Rows.{ident, punct}
-use Rattle.writing.specs.Generics.{angledRows, named, names, addedLifetime, addedType, additional}
+use Rattle.writing.specs.Generics.{angledRows, sentParameter, named, names, addedLifetime, addedType, additional}
 use Rattle.writing.specs.ReadBack.{behindStruct, unitStruct, withCommas, Reads, Refused, ReadBack, runOf}
 use Rattle.writing.specs.ReadBack.{endsInMinus, lastMinus, constNamed, constAdded, addedException, withoutDefault}
 use Rattle.writing.specs.ReadBack.{WritersReadBack}
@@ -106,15 +106,15 @@ read-back ps w t = record { same = reads; other = refuses }
 
 -- ## The parameters of a declaration that was read
 
-runs-alone : {ts : Trees} {ps : List Parameter} → AllDeclared ts ps → AllStandAlone ps
+runs-alone : {m : Bool} {ts : Trees} {ps : List Parameter} → AllDeclared m ts ps → AllStandAlone ps
 runs-alone AllDeclared.none = AllStandAlone.none
 runs-alone (AllDeclared.also d ds) = AllStandAlone.also (d .stands) (runs-alone ds)
 
-token-runs : {ts : Trees} {ps : List Parameter} → AllDeclared ts ps → allTokens ps ≡ true
+token-runs : {m : Bool} {ts : Trees} {ps : List Parameter} → AllDeclared m ts ps → allTokens ps ≡ true
 token-runs AllDeclared.none = refl
-token-runs (AllDeclared.also {p = p} d ds) = and-both _ _ (sound-tokens (runOf p) (d .run)) (token-runs ds)
+token-runs {m} (AllDeclared.also {p = p} d ds) = and-both _ _ (sound-tokens m (runOf p) (d .run)) (token-runs ds)
 
-no-const : {ts : Trees} {ps : List Parameter} → AllDeclared ts ps → anyConst ps ≡ false
+no-const : {m : Bool} {ts : Trees} {ps : List Parameter} → AllDeclared m ts ps → anyConst ps ≡ false
 no-const AllDeclared.none = refl
 no-const (AllDeclared.also {p = p} {ps = ps} d ds) = or-last (typeConst p) (anyConst ps) (d .plain) ∙ no-const ds
 
@@ -173,7 +173,7 @@ named-default (constant n t) = refl
 named-default (type n b d) = refl
 
 -- a declared type is not named `const`
-named-const : {ts : Trees} {ps : List Parameter} → AllDeclared ts ps → anyConst (names ps) ≡ constNamed ps
+named-const : {m : Bool} {ts : Trees} {ps : List Parameter} → AllDeclared m ts ps → anyConst (names ps) ≡ constNamed ps
 named-const AllDeclared.none = refl
 named-const (AllDeclared.also {p = lifetime n b} d ds) = named-const ds
 named-const (AllDeclared.also {p = constant n t} d ds) = ap (λ (b : Bool). same n CONST || b) (named-const ds)
@@ -197,7 +197,7 @@ append-tokens [] qs h k = k
 append-tokens (p ∷ ps) qs h k =
     let i = and-parts (tokens (runOf p)) (allTokens ps) h in and-both _ _ (i .0) (append-tokens ps qs (i .1) k)
 
-module _ {ts : Trees} {ps : List Parameter} (d : AllDeclared ts ps) where
+module _ {m : Bool} {ts : Trees} {ps : List Parameter} (d : AllDeclared m ts ps) where
   impl-back : ReadBack (lastMinus ps) (angledRows ps) (map withoutDefault ps)
   impl-back =
       subst (λ (b : Bool). ReadBack b (angledRows ps) (map withoutDefault ps))
@@ -261,5 +261,6 @@ module _ {ts : Trees} {ps : List Parameter} (d : AllDeclared ts ps) where
 
 pub read-again : (s : List ℕ) {n : ℕ} {d : Declaration} {rs : List ℕ} {us : Trees} (ps : List Parameter)
     → check s ≡ passed n
-    → r.item 0 (at s FIRST-ROW .here) ≡ took d rs us → d .generics ≡ angled ps → WritersReadBack ps
+    → r.item 0 (at s (firstRow s) .here) ≡ took d rs us → d .generics ≡ angled ps
+    → WritersReadBack (map sentParameter ps)
 read-again s ps c e g = writers-read-back (declared-of s ps c e g .declared)

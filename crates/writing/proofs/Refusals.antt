@@ -7,7 +7,7 @@ use Prim.Native.Nat.{ℕ}
 use native.Mathlib.Omega.{arith}
 use lib.Dec.{eqb}
 use Rattle.token_list.specs.Check as list
-use Rattle.token_list.specs.Layout.{FIRST-ROW}
+use Rattle.token_list.specs.Layout.{marked, firstRow}
 use Rattle.token_list.specs.Place.{OneRefusal}
 use Rattle.token_list.specs.Stream.{at}
 use Rattle.reading.specs.Declaration.{Declaration}
@@ -24,14 +24,14 @@ use Rattle.writing.specs.Answer.{Writer, text, itemAnswer, fullAnswer, a
 
 module _ (w : Writer) (s : List ℕ) (n : ℕ) where
   abbrev fittedBy : list.Answer → Answer
-  fittedBy a = fitted n (framed refused (λ rows. false) (itemAnswer w) s a)
+  fittedBy a = fitted n (framed refused (λ rows. false) (itemAnswer (marked s) w) s a)
 
   pub write-checked : {m p : ℕ} → list.check s ≡ list.Answer.refused m p → answer w s n ≡ refused m p
   unfolding answer fullAnswer
   write-checked e = ap fittedBy e
 
   pub write-read : {rows : ℕ} → list.check s ≡ list.Answer.passed rows
-      → answer w s n ≡ fitted n (itemAnswer w (item 0 (at s FIRST-ROW .here)))
+      → answer w s n ≡ fitted n (itemAnswer (marked s) w (item 0 (at s (firstRow s) .here)))
   unfolding answer fullAnswer
   write-read e = ap fittedBy e
 
@@ -62,8 +62,8 @@ module _ (w : Writer) (s : List ℕ) where
   named t false = at-end 30 refl
 
   item-told : (rows : ℕ) → list.check s ≡ list.Answer.passed rows → (t : Took Declaration)
-      → item 0 (at s FIRST-ROW .here) ≡ t → Told (itemAnswer w t)
-  item-told rows c (took d rs us) e = named (text w d) (w .right)
+      → item 0 (at s (firstRow s) .here) ≡ t → Told (itemAnswer (marked s) w t)
+  item-told rows c (took d rs us) e = named (text (marked s) w d) (w .right)
   item-told rows c (stopped k m o) e = read-told m o (item-read s rows m o c e)
 
   fitted-told : (n : ℕ) (a : Answer) → Told a → Told (fitted n a)
@@ -73,5 +73,5 @@ module _ (w : Writer) (s : List ℕ) where
   pub write-refusal : (n : ℕ) → Told (answer w s n)
   unfolding answer fullAnswer
   write-refusal n =
-      fitted-told n (fullAnswer w s) (framed-cases Told refused (λ rows. false) (itemAnswer w) s
+      fitted-told n (fullAnswer w s) (framed-cases Told refused (λ rows. false) (itemAnswer (marked s) w) s
       (λ m o e. read-told m o (check-read s m o e)) (λ rows e h. at-end 8 refl) (λ rows e h t i. item-told rows e t i))

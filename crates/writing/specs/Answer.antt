@@ -6,7 +6,7 @@ use mathlib.Core.List.{List}
 use Prim.Native.Nat.{ℕ, _+_, _*_, _≤_}
 use lib.Dec.{eqb}
 use lib.ListN.{length}
-use Rattle.token_list.specs.Layout.{MAX-BYTES, MAX-ROWS}
+use Rattle.token_list.specs.Layout.{marked, MAX-BYTES, MAX-ROWS}
 use Rattle.token_list.specs.Check as list
 use Rattle.reading.specs.Declaration.{Parameter, Declaration}
 use Rattle.reading.specs.Took.{Took, took, stopped}
@@ -35,18 +35,18 @@ withAdditional ls ts =
       right = rightNames (namesOf ls) && rightNames (namesOf ts);
     }
 
--- the list that is written for a declaration
-abbrev pub text : Writer → Declaration → List ℕ
-text w d = listOf (generics.genericsRows (w .parameters) (d .generics))
+-- the list that is written for a declaration, with marks or without
+abbrev pub text : Bool → Writer → Declaration → List ℕ
+text m w d = listOf m (generics.genericsRows (w .parameters) (d .generics))
 
 -- 30 is given also where the declaration has no generics
-abbrev pub itemAnswer : Writer → Took Declaration → Answer
-itemAnswer w (took d rs us) = cond (w .right) (wrote (text w d)) (refused 30 list.END)
-itemAnswer w (stopped c n p) = refused n p
+abbrev pub itemAnswer : Bool → Writer → Took Declaration → Answer
+itemAnswer m w (took d rs us) = cond (w .right) (wrote (text m w d)) (refused 30 list.END)
+itemAnswer m w (stopped c n p) = refused n p
 
--- for a list, where there is room
+-- for a list, with its own names, where there is room
 unfoldable pub fullAnswer : Writer → List ℕ → Answer
-fullAnswer w s = framed refused (λ rows. false) (itemAnswer w) s (list.check s)
+fullAnswer w s = framed refused (λ rows. false) (itemAnswer (marked s) w) s (list.check s)
 
 -- for a list and an output of n bytes
 unfoldable pub answer : Writer → List ℕ → ℕ → Answer
@@ -58,20 +58,21 @@ writeNumber n = readNumber n || eqb n 30
 
 -- ## How long an output can be needed
 
--- a `,` and the `:` of a const that had none: two rows of four bytes for each parameter, which has a row in the list
+-- a `,` and the `:` of a const that had none: two rows of at most six bytes for each parameter, which has a row in the
+-- list
 abbrev pub MOST : ℕ
-MOST = MAX-BYTES + 8 * MAX-ROWS
+MOST = MAX-BYTES + 12 * MAX-ROWS
 
--- added names: each has its bytes, its row's other three, a `,` and, as a lifetime, a `'`
+-- added names: each has its bytes, its row's other five, a `,` and, as a lifetime, a `'`
 abbrev pub addedBytes : List ℕ → List ℕ → ℕ
-addedBytes ls ts = (length ls + 11 * length (namesOf ls)) + (length ts + 7 * length (namesOf ts))
+addedBytes ls ts = (length ls + 17 * length (namesOf ls)) + (length ts + 11 * length (namesOf ts))
 
 abbrev pub mostWith : List ℕ → List ℕ → ℕ
 mostWith ls ts = MOST + addedBytes ls ts
 
 -- the same by the bytes of the texts alone: a name has at least one of them, its LF or its own
 abbrev pub mostAdded : ℕ → ℕ → ℕ
-mostAdded l t = MOST + (12 * l + 8 * t)
+mostAdded l t = MOST + (18 * l + 12 * t)
 
 -- a writer that never needs more than `most` bytes, of a list s and an output of n bytes
 pub record Fits (w : Writer) (most : ℕ) (s : List ℕ) (n : ℕ) : Type 0 where

@@ -89,4 +89,23 @@ examples =
       list = "kind text\ni struct\ni A\np <\ni const\ni N\np '\ni a\np :\np >\np ;\n";
       expected = gives "kind text\np <\ni const\ni N\np :\np ,\np '\ni a\np >\n";
     }
+    -- with marks: a run keeps its own, `struct A < T : a :: b > ;`
+    ∷ record {
+      writer = implGenerics;
+      list = "kind joint text\ni 0 struct\ni 0 A\np 0 <\ni 0 T\np 0 :\ni 0 a\np 1 :\np 0 :\ni 0 b\np 0 >\np 0 ;\n";
+      expected = gives "kind joint text\np 0 <\ni 0 T\np 0 :\ni 0 a\np 1 :\np 0 :\ni 0 b\np 0 >\n";
+    }
+    -- but each `'` goes out joint, `struct A < const N : & ' c > ;`
+    ∷ record {
+      writer = implGenerics;
+      list = "kind joint text\ni 0 struct\ni 0 A\np 0 <\ni 0 const\ni 0 N\np 0 :\np 1 &\np 0 '\ni 0 c\np 0 >\np 0 ;\n";
+      expected = gives "kind joint text\np 0 <\ni 0 const\ni 0 N\np 0 :\np 1 &\np 1 '\ni 0 c\np 0 >\n";
+    }
+    -- and the rows that are added have marks, `struct A < ' a > ;`
+    ∷ record {
+      writer = added;
+      list = "kind joint text\ni 0 struct\ni 0 A\np 0 <\np 0 '\ni 0 a\np 0 >\np 0 ;\n";
+      expected = gives
+          "kind joint text\np 0 <\np 1 '\ni 0 x\np 0 ,\np 1 '\ni 0 a\np 0 ,\ni 0 Y\np 0 ,\ni 0 Z\np 0 >\n";
+    }
     ∷ []

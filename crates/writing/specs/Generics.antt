@@ -7,7 +7,7 @@ use Rattle.token_list.specs.Row.{Row}
 use Rattle.token_list.specs.Stream.{Trees, end, leaf, group}
 use Rattle.reading.specs.Token.{CONST}
 use Rattle.reading.specs.Declaration.{Parameter, lifetime, constant, type, Generics, without, angled}
-use Rattle.writing.specs.Rows.{ident, punct, lifetimeRows, runRows}
+use Rattle.writing.specs.Rows.{ident, punct, lifetimeRows, runRows, sent}
 
 -- ## One parameter
 
@@ -40,9 +40,15 @@ angledRows ps = punct LESS ∷ parted true ps ++ punct GREATER ∷ []
 
 -- ## The three writers, each by the parameters that it writes; without generics they write nothing
 
+-- a parameter as it goes out
+abbrev pub sentParameter : Parameter → Parameter
+sentParameter (lifetime n b) = lifetime n (sent b)
+sentParameter (constant n t) = constant n (sent t)
+sentParameter (type n b d) = type n (sent b) (sent d)
+
 abbrev pub genericsRows : (List Parameter → List Parameter) → Generics → List Row
 genericsRows f without = []
-genericsRows f (angled ps) = angledRows (f ps)
+genericsRows f (angled ps) = angledRows (f (map sentParameter ps))
 
 -- impl_generics: the declared ones
 abbrev pub declared : List Parameter → List Parameter

@@ -116,7 +116,8 @@ abbrev pub addedException : List (List ℕ) → List Parameter → Bool
 addedException [] ps = lastMinus ps
 addedException (t ∷ ts) ps = constAdded (t ∷ ts)
 
--- ## The promise, of the parameters ps of a declaration that was read
+-- ## The promise, of the parameters ps of a declaration that was read, as they go out: with their marks, but that each
+-- `'` is joint (`sentParameter`)
 
 abbrev pub withoutDefault : Parameter → Parameter
 withoutDefault (lifetime n b) = lifetime n b

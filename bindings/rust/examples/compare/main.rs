@@ -5,7 +5,7 @@ mod random;
 mod reader;
 
 use kusthrila::{check, Place, Refusal, MOST_LISTING, MOST_ROWS, SCRATCH};
-use random::{Random, KINDS};
+use random::{Random, KINDS, MARKED, NAMES};
 use reader::{Reader, Writer};
 use std::collections::BTreeMap;
 use std::io::{BufRead, BufReader};
@@ -124,6 +124,9 @@ fn main() {
                 if counts.cases % 97 == 0 && body.len() < 4096 {
                     lists.push(body.clone());
                 }
+                if body.starts_with(MARKED) {
+                    counts.count("lists with joint marks");
+                }
                 (list, every) = (body, Vec::new());
             }
             "check" => {
@@ -179,7 +182,7 @@ fn main() {
                     }
                 };
                 counts.compare("tagged", &ours, &body);
-                if list.starts_with(b"kind text\no ") {
+                if NAMES.iter().any(|names| list.strip_prefix(*names).is_some_and(|rows| rows.starts_with(b"o "))) {
                     counts.count("tagged, lists that begin with a group");
                 }
             }

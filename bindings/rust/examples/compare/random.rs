@@ -1,9 +1,22 @@
 //! Damaged lists and random ones.
 
-const NAMES: &[u8] = b"kind text\n";
+const PLAIN: &[u8] = b"kind text\n";
+/// The names of a list whose rows have a joint mark.
+pub const MARKED: &[u8] = b"kind joint text\n";
+pub const NAMES: [&[u8]; 2] = [PLAIN, MARKED];
 
-/// The kinds of random lists. Those with names begin with the right first line.
-pub const KINDS: [&str; 5] = ["bytes", "letters", "names, bytes", "names, letters", "names, rows"];
+/// The kinds of random lists. Those with names begin with a right first line, those with marks with the one that has a
+/// column for them.
+pub const KINDS: [&str; 8] = [
+    "bytes",
+    "letters",
+    "names, bytes",
+    "names, letters",
+    "names, rows",
+    "marks, bytes",
+    "marks, letters",
+    "marks, rows",
+];
 
 pub struct Random(pub u64);
 
@@ -62,24 +75,22 @@ impl Random {
 
     /// A random list of one of the kinds, so many bytes long; with rows, a little longer.
     pub fn list(&mut self, kind: &str, len: usize) -> Vec<u8> {
-        let mut list = Vec::new();
-        let kind = match kind.strip_prefix("names, ") {
-            Some(kind) => {
-                list.extend_from_slice(&NAMES[..NAMES.len().min(len)]);
-                kind
-            }
-            None => kind,
+        let (names, kind) = match kind.split_once(", ") {
+            Some(("marks", kind)) => (MARKED, kind),
+            Some((_, kind)) => (PLAIN, kind),
+            None => (&b""[..], kind),
         };
+        let mut list = names[..names.len().min(len)].to_vec();
         match kind {
-            "rows" => self.rows(&mut list, len),
+            "rows" => self.rows(&mut list, len, names == MARKED),
             "letters" => list.resize_with(len, || self.pick(b"iplocx    \n\n\n\nabrZ_09#=<>-,:;'\"([{0)]}")),
             _ => list.resize_with(len, || self.byte()),
         }
         list
     }
 
-    // The start of a declaration, then right rows in any order, with every group closed.
-    fn rows(&mut self, list: &mut Vec<u8>, len: usize) {
+    // The start of a declaration, then right rows in any order, with every group closed. Punctuation may have any mark.
+    fn rows(&mut self, list: &mut Vec<u8>, len: usize, marked: bool) {
         const STARTS: [&[&str]; 5] = [
             &[],
             &["i struct", "i A", "o {"],
@@ -110,7 +121,13 @@ impl Random {
                 "o 0" => open.push("c 0"),
                 _ => {}
             }
-            list.extend_from_slice(row.as_bytes());
+            let (kind, text) = row.as_bytes().split_at(2);
+            list.extend_from_slice(kind);
+            if marked {
+                let joint = kind == b"p " && self.below(2) == 0;
+                list.extend_from_slice(if joint { b"1 " } else { b"0 " });
+            }
+            list.extend_from_slice(text);
             if row == "i n" {
                 list.resize(list.len() + self.below(255), b'n');
             }

@@ -1,5 +1,5 @@
 //! The functions of the reader, called with buffers between guard bytes, and what holds of every answer.
-use crate::random::Random;
+use crate::random::{Random, MARKED, NAMES};
 use kusthrila::{check, impl_generics, impl_generics_with_additional, listing, most_added, read, refusal, role, tagged};
 use kusthrila::{tagged_role, type_generics, value};
 use kusthrila::{Entry, Place, Refusal, MOST_GENERICS, MOST_LISTING, MOST_ROWS, NO_ROLE, SCRATCH};
@@ -35,6 +35,13 @@ impl Buffer {
 
 fn cleared(roles: &[u8]) {
     assert!(roles.iter().all(|role| *role == NO_ROLE), "a role byte where nothing was read");
+}
+
+// The texts of a list's rows: what follows the other columns.
+fn texts(list: &[u8]) -> impl Iterator<Item = &[u8]> {
+    let columns = if list.starts_with(MARKED) { 3 } else { 2 };
+    let rows = list.split(|byte| *byte == b'\n').skip(1);
+    rows.map(move |row| row.splitn(columns, |byte| *byte == b' ').last().unwrap_or_default())
 }
 
 /// A writer of generics, with the texts of its added names.
@@ -98,9 +105,12 @@ impl Reader {
         let rest = roles.split_off(check(list).expect("an accepted list passes the check"));
         assert!(roles.iter().all(|role| (tagged_role::TAG..=tagged_role::OTHER).contains(role)), "a role of a tagged attribute");
         assert!(rest.iter().all(|role| *role == NO_ROLE), "a byte after the roles");
-        let named = roles.iter().filter(|role| **role != tagged_role::OTHER).count();
-        let parts = entries.iter().map(|entry| if let Entry::Tag(_) = entry { 1 } else { 2 });
-        assert_eq!(parts.sum::<usize>(), named, "the entries and the roles");
+        let named = texts(list).zip(&roles).filter(|(_, role)| **role != tagged_role::OTHER).map(|(text, _)| text);
+        let parts = entries.iter().flat_map(|entry| match entry {
+            Entry::Tag(tag) => vec![*tag],
+            Entry::Property(key, value) => vec![*key, *value],
+        });
+        assert!(parts.eq(named), "the entries and the roles");
         Ok(Some(roles))
     }
 
@@ -170,8 +180,11 @@ impl Reader {
                 _ => refusal,
             };
             assert_eq!(written.as_ref().err(), refused, "the writer and the reader");
-            if let Ok(list) = &written {
-                assert!(list.len() > 65_536 || matches!(check(list), Ok(_) | Err(Refusal { number: 4, .. })), "a list again");
+            if let Ok(out) = &written {
+                let again = matches!(check(out), Ok(_) | Err(Refusal { number: 4, .. }));
+                assert!(out.len() > 65_536 || again, "a list again");
+                let same = NAMES.iter().any(|names| list.starts_with(names) && out.starts_with(names));
+                assert!(same, "the names of the list");
             }
             let right = if written.as_ref().is_ok_and(|list| lent < list.len()) { Err(SHORT) } else { written };
             assert_eq!(self.generics(list, writer, lent), right, "with {lent} bytes of output");

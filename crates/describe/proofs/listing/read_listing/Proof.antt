@@ -1,7 +1,8 @@
 use Rattle.parse.specs.Contract.{itemShown, itemSaid}
-use Rattle.parse.specs.Contract.{first}
+use Rattle.token_list.specs.Contract.{InList, startOf}
+use Rattle.parse.proofs.Items.{from-start}
 use lib.ListN.{length}
-use mathlib.Core.Path.{ap}
+use mathlib.Core.Path.{ap, subst⁻¹}
 use Rattle.parse.proofs.Meeting as meeting
 use Rattle.parse.proofs.Inside.{meets-tells, meets-refusal}
 use Rattle.output.specs.Answer.{fitted}
@@ -11,8 +12,14 @@ use borrow.Author.Needs.{needs}
 use Rattle.describe.proofs.listing.read_listing.Statement.{statement}
 use Rattle.describe.proofs.listing.read_listing.Tie as tie
 
+start-requires : tie.Need-start-requires
+start-requires c κs = search needs
+
 item-requires : tie.Need-item-requires
-item-requires c κs = search needs
+item-requires c κs =
+    let args = c .before .before .before .before .before .args in
+    let pre = c .before .before .before .before .before .pre in
+    subst⁻¹ (InList (args .s .now)) (c .before .start .ensures) pre
 
 enum-known-r : tie.Need-enum-known-r
 enum-known-r c = search needs
@@ -22,11 +29,12 @@ enum-known-d c = search needs
 
 fit-listing-requires : tie.Need-fit-listing-requires
 fit-listing-requires c κs =
-    let args =
-    c .before .before .before .before .before .before .before .before .before .before .before .before .args in
+    let args = c .before .before .before .before .before .before .before .before .before .before .before .before
+    .before .args in
+    let start = c .before .before .before .before .before .before .before .before .before .start in
     let item = c .before .before .before .before .before .before .before .item in
-    let m = meets-tells (meeting.say (itemShown (args .s .now) first) itemSaid
-    ((c .before .before .before .d) .given .1) (item .ensures)) in
+    let m = meets-tells (meeting.say (itemShown (args .s .now) (startOf (args .s .now))) itemSaid
+    (c .before .before .before .d .given .1) (from-start (item .result) (start .ensures) (item .ensures))) in
     (m .0, m .4 .0)
 
 same-length : tie.Need-same-length
@@ -34,10 +42,12 @@ same-length c = search needs
 
 returns : tie.Need-returns
 returns c =
-    let args = c .before .before .before .before .before .before .before .before .before .before .args in
+    let args = c .before .before .before .before .before .before .before .before .before .before .before .args in
+    let start = c .before .before .before .before .before .before .before .start in
     let item = c .before .before .before .before .before .item in
-    let e = meets-refusal (meeting.say (itemShown (args .s .now) first) itemSaid ((c .before .r) .given .1)
-    (item .ensures)) .1 in
+    let e = meets-refusal (meeting.say (itemShown (args .s .now) (startOf (args .s .now))) itemSaid
+    (c .before .r .given .1)
+    (from-start (item .result) (start .ensures) (item .ensures))) .1 in
     written-refused (ap (λ t. fitted (length (args .out .now)) (itemAnswer t)) e)
 
 same-length-2 : tie.Need-same-length-2
@@ -48,13 +58,16 @@ same-length-3 c = search needs
 
 returns-2 : tie.Need-returns-2
 returns-2 c =
-    let after-d = c .before .before .before .before .before .before .before .before in
+    let args = c .before .before .before .before .before .before .before .before .before .before .before .before
+    .before .before .before .before .before .before .args in
+    let start = c .before .before .before .before .before .before .before .before .before .before .before .before
+    .before .before .start in
+    let item = c .before .before .before .before .before .before .before .before .before .before .before .before .item
+    in
+    let d = c .before .before .before .before .before .before .before .before .d in
     let fit-listing = c .before .before .before .before .fit-listing in
-    let d = after-d .d in
-    let item = after-d .before .before .before .before .item in
-    let args = after-d .before .before .before .before .before .before .before .before .before .args in
-    let m = meets-tells (meeting.say (itemShown (args .s .now) first) itemSaid (d .given .1)
-    (item .ensures)) in
+    let m = meets-tells (meeting.say (itemShown (args .s .now) (startOf (args .s .now))) itemSaid (d .given .1)
+    (from-start (item .result) (start .ensures) (item .ensures))) in
     written-as (ap (λ t. fitted (length (args .out .now)) (itemAnswer t)) (m .3))
     (fit-listing .ensures (m .0) (m .4 .0))
 
@@ -62,6 +75,7 @@ pub read-listing-spec : {M : Type 1} → statement M
 read-listing-spec =
     tie.close
     (tie.spec
+    start-requires
     item-requires
     enum-known-r
     enum-known-d

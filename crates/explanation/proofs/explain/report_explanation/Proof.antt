@@ -1,10 +1,11 @@
 use native.Mathlib.Omega.{arith}
-use mathlib.Core.Path.{sym}
+use mathlib.Core.Path.{sym, ap}
 use lib.ListN.{length}
 use lib.Seq.{length-take-le}
 use Rattle.reading.specs.Answer.{answer}
 use Rattle.report.proofs.Lines.{found, not-found}
-use Rattle.output.proofs.Texts.{joined, printed}
+use Rattle.output.proofs.Texts.{joined, printed, retold}
+use Rattle.explanation.specs.Explanation.{namesLine}
 use Rattle.explanation.proofs.Lengths.{explained-few}
 use borrow.Author.Needs.{needs}
 use Rattle.explanation.proofs.explain.report_explanation.Statement.{statement}
@@ -22,18 +23,18 @@ put-refused-requires c κs = search needs
 enum-known-n : tie.Need-enum-known-n
 enum-known-n c = search needs
 
-slice-aggregate-put-bytes : tie.Need-slice-aggregate-put-bytes
-slice-aggregate-put-bytes c = search needs
+is-marked-requires : tie.Need-is-marked-requires
+is-marked-requires c κs = search needs
 
-put-bytes-requires : tie.Need-put-bytes-requires
-put-bytes-requires c κs = search needs
+put-names-requires : tie.Need-put-names-requires
+put-names-requires c κs = search needs
 
 slice-reshare-prefix-put-roles : tie.Need-slice-reshare-prefix-put-roles
 slice-reshare-prefix-put-roles c =
     let args = c .before .before .before .before .before .before .before .before .before .before .before .before
     .before .before .before .before .args in
-    let read-roles = c .before .before .before .before .before .before .before .before .before .before .before
-    .read-roles in
+    let read-roles = c .before .before .before .before .before .before .before .before .before .before
+    .before .read-roles in
     let n = c .before .before .before .before .before .before .before .n in
     let f = found (n .given .0 .0) (answer (args .list .now) (length (args .roles .now))) (n .given .1)
     (read-roles .ensures .0) in
@@ -85,14 +86,16 @@ returns-2 : tie.Need-returns-2
 returns-2 c =
     let args = c .before .before .before .before .before .before .before .before .before .before .before .before
     .before .before .before .before .before .before .before .before .args in
-    let read-roles = c .before .before .before .before .before .before .before .before .before .before .before
-    .before .before .before .before .read-roles in
+    let read-roles = c .before .before .before .before .before .before .before .before .before .before .before .before
+    .before .before .before .read-roles in
     let n = c .before .before .before .before .before .before .before .before .before .before .before .n in
-    let put-bytes = c .before .before .before .before .before .before .before .put-bytes in
+    let is-marked = c .before .before .before .before .before .before .before .before .is-marked in
+    let put-names = c .before .before .before .before .before .before .before .put-names in
     let f = found (n .given .0 .0) (answer (args .list .now) (length (args .roles .now))) (n .given .1)
     (read-roles .ensures .0) in
     let few = explained-few (args .list .now) (length (args .roles .now)) (f .declaration) _ (f .same) in
-    let p = printed (joined (put-bytes .ensures) (c .before .before .put-roles .ensures)) (omega (arith, few)) in
+    let p = printed (joined (retold (ap namesLine (is-marked .ensures)) (put-names .ensures))
+    (c .before .before .put-roles .ensures)) (omega (arith, few)) in
     (rw (f .same) p, (read-roles .ensures .1 .0, (omega (arith, p .counted, few), read-roles .ensures .1 .1)))
 
 pub report-explanation-spec : {M : Type 1} → statement M
@@ -103,8 +106,8 @@ report-explanation-spec =
     enum-known-r
     put-refused-requires
     enum-known-n
-    slice-aggregate-put-bytes
-    put-bytes-requires
+    is-marked-requires
+    put-names-requires
     slice-reshare-prefix-put-roles
     slice-aggregate-put-roles
     put-roles-requires

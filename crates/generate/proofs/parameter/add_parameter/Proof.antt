@@ -1,4 +1,4 @@
-use Rattle.generate.specs.Contract.{shaped}
+use Rattle.generate.specs.Contract.{goesOut}
 use Rattle.generate.proofs.Builds.{then}
 use Rattle.generate.proofs.Added.{as-first, as-next}
 use borrow.Author.Needs.{needs}
@@ -13,9 +13,11 @@ same-length c = search needs
 
 returns : tie.Need-returns
 returns c =
-    let args = c .before .before .before .before .before .before .before .args in
-    let if1 = c .before .before .before .before .if1 in
-    λ a i. as-first (shaped (args .names) a) (if1 .taken) (c .before .before .append-parameter .ensures a i)
+    let args-2 = c .before .before .before .before .before .before .before .args in
+    let if1-2 = c .before .before .before .before .if1 in
+    let args = args-2 in
+    let if1 = if1-2 in
+    λ a i. as-first (goesOut (args .names) a) (if1 .taken) (c .before .before .append-parameter .ensures a i)
 
 punct-requires : tie.Need-punct-requires
 punct-requires c κs = search needs
@@ -28,11 +30,14 @@ same-length-2 c = search needs
 
 returns-2 : tie.Need-returns-2
 returns-2 c =
-    let args = c .before .before .before .before .before .before .before .before .before .before .before .args in
-    let if1 = c .before .before .before .before .before .before .before .before .if1 in
-    let punct = c .before .before .before .before .before .before .punct in
+    let args-2 = c .before .before .before .before .before .before .before .before .before .before .before .args in
+    let if1-2 = c .before .before .before .before .before .before .before .before .if1 in
+    let punct-2 = c .before .before .before .before .before .before .punct in
+    let args = args-2 in
+    let if1 = if1-2 in
+    let punct = punct-2 in
     λ a i.
-    as-next (shaped (args .names) a) (if1 .left)
+    as-next (goesOut (args .names) a) (if1 .left)
     (then (punct .ensures) (c .before .before .append-parameter2 .ensures a i))
 
 pub add-parameter-spec : {M : Type 1} → statement M

@@ -1,5 +1,5 @@
 use native.Mathlib.Omega.{arith}
-use Rattle.generate.proofs.Parameters.{unchanged}
+use Rattle.generate.proofs.Builds.{unchanged}
 use borrow.Author.Needs.{needs}
 use Rattle.generate.proofs.parameter.append_const.Statement.{statement}
 use Rattle.generate.proofs.parameter.append_const.Tie as tie
@@ -15,7 +15,8 @@ same-length c = search needs
 
 returns : tie.Need-returns
 returns c =
-    let if1 = c .before .before .before .before .before .if1 in
+    let if1-2 = c .before .before .before .before .before .if1 in
+    let if1 = if1-2 in
     rw (if1 .taken) (c .before .before .ident-str .ensures)
 
 returns-2 : tie.Need-returns-2

@@ -21,7 +21,8 @@ constraints-requires c κs = search needs
 
 put-constraints-requires : tie.Need-put-constraints-requires
 put-constraints-requires c κs =
-    let back8 = c .before .before .before .before .before .before .before .before in
+    let before = c .before .before .before .before .before .before .before .before in
+    let back8 = before in
     let back16 = back8 .before .before .before .before .before .before .before .before in
     let start = back16 .before .before in
     let s = start .args .s .now in
@@ -34,20 +35,22 @@ same-length c = search needs
 
 returns : tie.Need-returns
 returns c =
-    let back8 = c .before .before .before .before .before .before .before .before in
+    let before = c .before .before .before .before .before .before .before .before in
+    let constraints-2 = c .before .before .before .before .before .before .constraints in
+    let back8 = before in
     let back16 = back8 .before .before .before .before .before .before .before .before in
     let args = back16 .before .before .before .before .before .args in
     let is-const = back8 .before .before .before .before .before .before .before .is-const in
     let append-const = back8 .before .before .before .before .before .append-const in
     let append-name = back8 .before .append-name in
-    let constraints = c .before .before .before .before .before .before .constraints in
+    let constraints = constraints-2 in
     let s = args .s .now in
     let same = constraints .ensures in
     let const = is-const .ensures in
     λ a i.
     let run = subst (λ (x : ConstraintsAt). RunIn s x (boundOf a)) (sym same) (i .run) in
     by-parts a i const (append-const .ensures) (append-name .ensures a (i .name))
-    (c .before .before .put-constraints .ensures (boundOf a) (run .bytes) (run .rows))
+    (c .before .before .put-constraints .ensures (boundOf a) (run .rows))
 
 pub append-to-result-with-constraints-spec : {M : Type 1} → statement M
 append-to-result-with-constraints-spec =

@@ -1,5 +1,5 @@
 use Rattle.generate.proofs.Builds.{then}
-use Rattle.writing.specs.Rows.{runRows}
+use Rattle.generate.proofs.Copying.{run-sent}
 use borrow.Author.Needs.{needs}
 use Rattle.generate.proofs.parameter.put_run.Statement.{statement}
 use Rattle.generate.proofs.parameter.put_run.Tie as tie
@@ -14,9 +14,10 @@ same-length : tie.Need-same-length
 same-length c = search needs
 
 returns : tie.Need-returns
-returns c ts text rows =
-    let run = c .before .before in
-    then (run .before .before .before .before .punct .ensures) (run .extend .ensures (runRows ts) text rows)
+returns c ts rows =
+    let pre = c .before .before .before .before .before .before .before .before .before .before .pre in
+    let punct = c .before .before .before .before .before .before .punct in
+    then (punct .ensures) (run-sent pre ts rows (c .before .before .extend .ensures))
 
 pub put-run-spec : {M : Type 1} → statement M
 put-run-spec = tie.close (tie.spec punct-requires extend-requires same-length returns)

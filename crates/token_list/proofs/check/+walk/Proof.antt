@@ -17,7 +17,7 @@ use Rattle.token_list.proofs.check.+walk.{statement}
 use Rattle.token_list.proofs.check.+walk.Tie.{close}
 
 abbrev μ-walk : Measures 1 walk-kinds.ps ℕ
-μ-walk κs a = a .1 .1 .0
+μ-walk κs a = a .1 .1 .1 .0
 
 abbrev walk-at : ℕ → In 1 walk-kinds.ps
 walk-at t = and 1 walk-kinds.ps (is 1 walk-kinds.ps μ-walk t) walk.Pre
@@ -26,10 +26,10 @@ abbrev walk-below : ℕ → In 1 walk-kinds.ps
 walk-below t = and 1 walk-kinds.ps (falls 1 walk-kinds.ps _<_ μ-walk t) walk.Pre
 
 abbrev walk-Inv-loop : walk-lts.InvT-loop
-walk-Inv-loop s levels at₀ row₀ at row = Reached s levels at₀ row₀ at row
+walk-Inv-loop s marked levels at₀ row₀ at row = Reached marked s levels at₀ row₀ at row
 
 abbrev walk-μ-loop : walk-lts.MeasureT-loop
-walk-μ-loop s levels at₀ row₀ at row = length s - at
+walk-μ-loop s marked levels at₀ row₀ at row = length s - at
 
 -- src/check.rt:48:5
 walk-loop-holds : (t : ℕ) → walk-lts.Need-loop-holds (
@@ -56,7 +56,7 @@ walk-returns : (t : ℕ) → walk-lts.Need-returns (
 walk-returns t c =
     let l = c .before .before .loop in
     let a = c .before .before .before .before .args in
-    walks.at-limit (a .s .now) (a .levels) (a .from) (l .at) (l .row) (l .inv) (c .before .loop-test .taken)
+    walks.at-limit (a .marked) (a .s .now) (a .levels) (a .from) (l .at) (l .row) (l .inv) (c .before .loop-test .taken)
     (c .if1 .taken)
 
 -- src/check.rt:52:13
@@ -101,7 +101,7 @@ walk-returns-2 t c =
     let l = c .before .before .before .before .before .loop in
     let a = c .before .before .before .before .before .before .before .args in
     let p = c .before .before .line-shape in
-    walks.at-wrong (a .s .now) (a .levels) (a .from) (l .at) (l .row) (l .inv) (p .result) (p .ensures)
+    walks.at-wrong (a .marked) (a .s .now) (a .levels) (a .from) (l .at) (l .row) (l .inv) (p .result) (p .ensures)
     (c .before .before .before .before .loop-test .taken) (c .before .before .before .if1 .left)
     (c .enum-told .given .1)
 
@@ -124,7 +124,8 @@ walk-loop-less t c =
     let l = c .before .before .before .before .before .loop in
     let a = c .before .before .before .before .before .before .before .args in
     let p = c .before .before .line-shape in
-    let n = walks.plain-past (a .s .now) (a .levels) (a .from) (l .at) (l .row) (l .inv) (p .result) (p .ensures)
+    let n = walks.plain-past (a .marked) (a .s .now) (a .levels) (a .from) (l .at) (l .row) (l .inv) (p .result)
+    (p .ensures)
     (c .before .before .before .before .loop-test .taken) (c .before .before .before .if1 .left)
     (c .enum-told2 .given .1) in
     omega (arith, n)
@@ -142,7 +143,7 @@ walk-loop-again t c =
     let l = c .before .before .before .before .before .loop in
     let a = c .before .before .before .before .before .before .before .args in
     let p = c .before .before .line-shape in
-    walks.at-plain (a .s .now) (a .levels) (a .from) (l .at) (l .row) (l .inv) (p .result) (p .ensures)
+    walks.at-plain (a .marked) (a .s .now) (a .levels) (a .from) (l .at) (l .row) (l .inv) (p .result) (p .ensures)
     (c .before .before .before .before .loop-test .taken) (c .before .before .before .if1 .left)
     (c .enum-told2 .given .1)
 
@@ -165,7 +166,7 @@ walk-returns-3 t c =
     let l = c .before .before .before .before .before .before .loop in
     let a = c .before .before .before .before .before .before .before .before .args in
     let p = c .before .before .before .line-shape in
-    walks.at-close (a .s .now) (a .levels) (a .from) (l .at) (l .row) (l .inv) (p .result) (p .ensures)
+    walks.at-close (a .marked) (a .s .now) (a .levels) (a .from) (l .at) (l .row) (l .inv) (p .result) (p .ensures)
     (c .before .before .before .before .before .loop-test .taken) (c .before .before .before .before .if1 .left)
     (c .before .shape .given .0 .0) (c .before .shape .given .1)
 
@@ -188,7 +189,7 @@ walk-returns-4 t c =
     let l = c .before .before .before .before .before .before .before .loop in
     let a = c .before .before .before .before .before .before .before .before .before .args in
     let p = c .before .before .before .before .line-shape in
-    walks.too-deep (a .s .now) (a .levels) (a .from) (l .at) (l .row) (l .inv) (p .result) (p .ensures)
+    walks.too-deep (a .marked) (a .s .now) (a .levels) (a .from) (l .at) (l .row) (l .inv) (p .result) (p .ensures)
     (c .before .before .before .before .before .before .loop-test .taken)
     (c .before .before .before .before .before .if1 .left) (c .before .before .shape2 .given .0 .0)
     (c .before .before .shape2 .given .1) (c .if2 .taken)
@@ -212,7 +213,8 @@ walk-walk-requires t c κs =
     let l = c .before .before .before .before .before .before .before .loop in
     let a = c .before .before .before .before .before .before .before .before .before .args in
     let p = c .before .before .before .before .line-shape in
-    let o = walks.opened-past (a .s .now) (a .levels) (a .from) (l .at) (l .row) (l .inv) (p .result) (p .ensures)
+    let o = walks.opened-past (a .marked) (a .s .now) (a .levels) (a .from) (l .at) (l .row) (l .inv) (p .result)
+    (p .ensures)
     (c .before .before .before .before .before .before .loop-test .taken)
     (c .before .before .before .before .before .if1 .left) (c .before .before .shape2 .given .0 .0)
     (c .before .before .shape2 .given .1) in (
@@ -240,7 +242,7 @@ walk-returns-5 t c =
     let a = c .before .before .before .before .before .before .before .before .before .before .before .before .args in
     let p = c .before .before .before .before .before .before .before .line-shape in
     let w = c .before .before .walk in
-    walks.unclosed (a .s .now) (a .levels) (a .from) (l .at) (l .row) (l .inv) (p .result) (p .ensures)
+    walks.unclosed (a .marked) (a .s .now) (a .levels) (a .from) (l .at) (l .row) (l .inv) (p .result) (p .ensures)
     (c .before .before .before .before .before .before .before .before .before .loop-test .taken)
     (c .before .before .before .before .before .before .before .before .if1 .left)
     (c .before .before .before .before .before .shape2 .given .0 .0)
@@ -268,7 +270,8 @@ walk-returns-6 t c =
     let a = back8 .before .before .before .before .before .args in
     let p = back8 .line-shape in
     let w = c .before .before .before .walk in
-    walks.refused-inside (a .s .now) (a .levels) (a .from) (l .at) (l .row) (l .inv) (p .result) (p .ensures)
+    walks.refused-inside (a .marked) (a .s .now) (a .levels) (a .from) (l .at) (l .row) (l .inv) (p .result)
+    (p .ensures)
     (back8 .before .before .loop-test .taken)
     (back8 .before .if1 .left)
     (c .before .before .before .before .before .before .shape2 .given .0 .0)
@@ -304,7 +307,7 @@ walk-returns-7 t c =
     let p = back8 .before .before .line-shape in
     let w = c .before .before .before .before .before .walk in
     let i = c .before .before .before .inside2 .given in
-    walks.mismatched (a .s .now) (a .levels) (a .from) (l .at) (l .row) (l .inv) (p .result) (p .ensures)
+    walks.mismatched (a .marked) (a .s .now) (a .levels) (a .from) (l .at) (l .row) (l .inv) (p .result) (p .ensures)
     (back8 .before .before .before .before .loop-test .taken)
     (back8 .before .before .before .if1 .left)
     (back8 .shape2 .given .0 .0)
@@ -330,7 +333,7 @@ walk-add-row t c =
     let i = c .before .before .before .inside2 .given in
     omega (
       arith,
-      walks.closed-past (a .s .now) (a .levels) (a .from) (l .at) (l .row) (l .inv) (p .result)
+      walks.closed-past (a .marked) (a .s .now) (a .levels) (a .from) (l .at) (l .row) (l .inv) (p .result)
           (p .ensures) (back8 .before .before .before .before .loop-test .taken)
           (back8 .before .before .before .if1 .left) (back8 .shape2 .given .0 .0) (back8 .shape2 .given .1)
           (c .before .before .before .before .before .before .if2 .left) (w .result) (w .ensures) (i .0 .0) (i .0 .1 .0)
@@ -348,10 +351,12 @@ walk-loop-less-2 t c =
     let p = back8 .before .before .line-shape in
     let w = c .before .before .before .before .before .walk in
     let i = c .before .before .before .inside2 .given in
-    let o = walks.opened-past (a .s .now) (a .levels) (a .from) (l .at) (l .row) (l .inv) (p .result) (p .ensures)
+    let o = walks.opened-past (a .marked) (a .s .now) (a .levels) (a .from) (l .at) (l .row) (l .inv) (p .result)
+    (p .ensures)
     (back8 .before .before .before .before .loop-test .taken) (back8 .before .before .before .if1 .left)
     (back8 .shape2 .given .0 .0) (back8 .shape2 .given .1) in
-    let q = walks.closed-past (a .s .now) (a .levels) (a .from) (l .at) (l .row) (l .inv) (p .result) (p .ensures)
+    let q = walks.closed-past (a .marked) (a .s .now) (a .levels) (a .from) (l .at) (l .row) (l .inv) (p .result)
+    (p .ensures)
     (back8 .before .before .before .before .loop-test .taken) (back8 .before .before .before .if1 .left)
     (back8 .shape2 .given .0 .0) (back8 .shape2 .given .1)
     (c .before .before .before .before .before .before .if2 .left) (w .result) (w .ensures) (i .0 .0) (i .0 .1 .0)
@@ -369,7 +374,7 @@ walk-loop-again-2 t c =
     let p = back8 .before .before .line-shape in
     let w = c .before .before .before .before .before .walk in
     let i = c .before .before .before .inside2 .given in
-    walks.matched (a .s .now) (a .levels) (a .from) (l .at) (l .row) (l .inv) (p .result) (p .ensures)
+    walks.matched (a .marked) (a .s .now) (a .levels) (a .from) (l .at) (l .row) (l .inv) (p .result) (p .ensures)
     (back8 .before .before .before .before .loop-test .taken)
     (back8 .before .before .before .if1 .left)
     (back8 .shape2 .given .0 .0)
@@ -389,7 +394,7 @@ walk-returns-8 : (t : ℕ) → walk-lts.Need-returns-8 (
 walk-returns-8 t c =
     let l = c .before .loop in
     let a = c .before .before .before .args in
-    walks.at-end (a .s .now) (a .levels) (a .from) (l .at) (l .row) (l .inv) (c .loop-test .left)
+    walks.at-end (a .marked) (a .s .now) (a .levels) (a .from) (l .at) (l .row) (l .inv) (c .loop-test .left)
 
 pub +walk-spec : {M : Type 1} → statement M
 +walk-spec =

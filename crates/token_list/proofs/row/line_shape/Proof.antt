@@ -1,105 +1,68 @@
-use mathlib.Core.Path.{refl, sym, _∙_, ap}
+use mathlib.Core.Path.{refl, sym, _∙_, subst}
+use Prim.Native.Nat.{ℕ, _+_}
 use native.Mathlib.Omega.{arith}
-use Rattle.token_list.specs.Check.{isRow}
-use Rattle.token_list.specs.Contract.{shape}
-use Rattle.token_list.specs.declared.row.Shape.{Shape}
-use Rattle.token_list.proofs.Forms.{no-wrong, one-byte-parts, quick-byte}
+use borrow.Author.Tests.{not-true, not-false}
+use lib.ListN.{getD, drop}
+use Rattle.token_list.specs.Layout.{textOffset}
+use Rattle.token_list.specs.Contract.{TextShaped}
+use Rattle.token_list.proofs.Columns.{columns-wrong, columns-within, columns-kind, row-shaped}
 use borrow.Author.Needs.{needs}
 use Rattle.token_list.proofs.row.line_shape.Statement.{statement}
 use Rattle.token_list.proofs.row.line_shape.Tie as tie
 
-one-byte-requires : tie.Need-one-byte-requires
-one-byte-requires c κs = search needs
-
-add-start : tie.Need-add-start
-add-start c =
-    let a = c .before .before .before .args in
-    let p = one-byte-parts (a .s .now) (a .at) (sym (c .before .one-byte .ensures) ∙ c .if1 .taken) in
-    omega (arith, p .0, c .before .before .before .good)
-
-add-next : tie.Need-add-next
-add-next c =
-    let a = c .before .before .before .args in
-    let p = one-byte-parts (a .s .now) (a .at) (sym (c .before .one-byte .ensures) ∙ c .if1 .taken) in
-    omega (arith, p .0, c .before .before .before .good)
-
-shared-slice-read-byte-shape : tie.Need-shared-slice-read-byte-shape
-shared-slice-read-byte-shape c =
-    let d = c .before in
-    let a = d .before .before .before .args in
-    let p = one-byte-parts (a .s .now) (a .at) (sym (d .before .one-byte .ensures) ∙ d .if1 .taken) in
-    omega (arith, p .0)
-
-shared-slice-read-byte-shape-2 : tie.Need-shared-slice-read-byte-shape-2
-shared-slice-read-byte-shape-2 c =
-    let d = c .before .before in
-    let a = d .before .before .before .args in
-    let p = one-byte-parts (a .s .now) (a .at) (sym (d .before .one-byte .ensures) ∙ d .if1 .taken) in
-    omega (arith, p .0)
-
-byte-shape-requires : tie.Need-byte-shape-requires
-byte-shape-requires c κs = search needs
+columns-fit-requires : tie.Need-columns-fit-requires
+columns-fit-requires c κs = search needs
 
 returns : tie.Need-returns
 returns c =
-    let d = c .before .before .before in
-    let a = d .before .before .before .args in
-    let p = one-byte-parts (a .s .now) (a .at) (sym (d .before .one-byte .ensures) ∙ d .if1 .taken) in
-    quick-byte (a .s .now) (a .at) _ (p .1) (p .0) (p .2) refl (c .byte-shape .ensures)
+    let a = c .before .before .before .args in
+    let e = columns-wrong (a .marked) (drop (a .at) (a .s .now)) (sym (c .before .columns-fit .ensures) ∙ not-true _
+    (c .if1 .taken)) in
+    record { right = sym e; past = λ x. absurd (x refl); rest = λ x. absurd (x refl) }
 
-quick-token-requires : tie.Need-quick-token-requires
-quick-token-requires c κs = search needs
+text-offset-requires : tie.Need-text-offset-requires
+text-offset-requires c κs = search needs
 
-enum-told : tie.Need-enum-told
-enum-told c = search needs
+add-start : tie.Need-add-start
+add-start c =
+    let args = c .before .before .before .before .args in
+    let good = c .before .before .before .before .good in
+    let a = args in
+    let fit = sym (c .before .before .columns-fit .ensures) ∙ not-false _ (c .before .if1 .left) in
+    omega (arith, columns-within (a .marked) (a .s .now) (a .at) fit, c .text-offset .ensures, good)
 
-enum-told-2 : tie.Need-enum-told-2
-enum-told-2 c = search needs
+shared-slice-read-text-line : tie.Need-shared-slice-read-text-line
+shared-slice-read-text-line c =
+    let args = c .before .before .before .before .before .args in
+    let a = args in
+    let fit = sym (c .before .before .before .columns-fit .ensures) ∙ not-false _ (c .before .before .if1 .left) in
+    omega (arith, columns-within (a .marked) (a .s .now) (a .at) fit)
 
-enum-told-3 : tie.Need-enum-told-3
-enum-told-3 c = search needs
-
-enum-told-4 : tie.Need-enum-told-4
-enum-told-4 c = search needs
-
-long-shape-requires : tie.Need-long-shape-requires
-long-shape-requires c κs =
-    let one-byte = c .before .before .before .before .one-byte in
-    sym (one-byte .ensures) ∙ c .before .before .before .if1 .left
+text-line-requires : tie.Need-text-line-requires
+text-line-requires c κs = search needs
 
 returns-2 : tie.Need-returns-2
-returns-2 c = c .before .before .quick-token .ensures (λ e. no-wrong e
-    (ap (λ (x : Shape). isRow (shape x)) (c .enum-told .given .1)))
-
-returns-3 : tie.Need-returns-3
-returns-3 c = c .before .before .quick-token .ensures (λ e. no-wrong e
-    (ap (λ (x : Shape). isRow (shape x)) (c .enum-told2 .given .1)))
-
-returns-4 : tie.Need-returns-4
-returns-4 c = c .before .before .quick-token .ensures (λ e. no-wrong e
-    (ap (λ (x : Shape). isRow (shape x)) (c .enum-told3 .given .1)))
-
-returns-5 : tie.Need-returns-5
-returns-5 c = search needs
+returns-2 c =
+    let args = c .before .before .before .before .before .before .args in
+    let columns-fit = c .before .before .before .before .columns-fit in
+    let a = args in
+    let fit = sym (columns-fit .ensures) ∙ not-false _ (c .before .before .before .if1 .left) in
+    let r = c .text-line .result in
+    let kind = columns-kind (a .marked) (a .s .now) (a .at) fit in
+    row-shaped (a .marked) (a .s .now) (a .at) r fit
+    (subst (λ (k : ℕ). TextShaped k (a .s .now) (a .at + textOffset (a .marked)) r) kind
+    (subst (λ (n : ℕ). TextShaped (getD (a .s .now) (a .at) 0) (a .s .now) (a .at + n) r)
+    (c .before .before .text-offset .ensures)
+    (c .text-line .ensures)))
 
 pub line-shape-spec : {M : Type 1} → statement M
 line-shape-spec =
     tie.close
     (tie.spec
-    one-byte-requires
-    add-start
-    add-next
-    shared-slice-read-byte-shape
-    shared-slice-read-byte-shape-2
-    byte-shape-requires
+    columns-fit-requires
     returns
-    quick-token-requires
-    enum-told
-    enum-told-2
-    enum-told-3
-    enum-told-4
-    long-shape-requires
-    returns-2
-    returns-3
-    returns-4
-    returns-5)
+    text-offset-requires
+    add-start
+    shared-slice-read-text-line
+    text-line-requires
+    returns-2)

@@ -1,3 +1,4 @@
+use Rattle.token_list.proofs.Starts.{start-low}
 use Rattle.token_list.proofs.Streams.{Inside, inside-start, inside-none, inside-step, inside-done}
 use native.Mathlib.Omega.{arith}
 use lib.ListN.{length}
@@ -17,7 +18,8 @@ loop-holds c = inside-start _ _ (c .before .pre)
 
 returns : tie.Need-returns Inv-loop μ-loop
 returns c =
-    let args = c .before .before .before .before .args in
+    let args-2 = c .before .before .before .before .args in
+    let args = args-2 in
     let l = c .before .before .loop in
     inside-none _ (args .c) (l .i) (l .row) (l .depth) (c .before .loop-test .taken) (c .if1 .taken) (l .inv)
 
@@ -25,23 +27,32 @@ shared-slice-read-kind : tie.Need-shared-slice-read-kind Inv-loop μ-loop
 shared-slice-read-kind c = omega (arith, c .before .if1 .left)
 
 row-end-requires : tie.Need-row-end-requires Inv-loop μ-loop
-row-end-requires c κs = (c .before .before .before .loop .inv .rightRows, omega (arith, c .before .if1 .left))
+row-end-requires c κs =
+    let args = c .before .before .before .before .before .args in
+    let l = c .before .before .before .loop in
+    let low = start-low (args .s .now) (l .row) in
+    (l .inv .rightRows, (omega (arith, c .before .if1 .left), omega (arith, l .inv .starts, l .inv .within, low)))
 
 deeper-requires : tie.Need-deeper-requires Inv-loop μ-loop
 deeper-requires c κs =
-    let good = c .before .before .before .before .before .before .good in
-    let l = c .before .before .before .before .loop in
+    let good-2 = c .before .before .before .before .before .before .good in
+    let loop = c .before .before .before .before .loop in
+    let good = good-2 in
+    let l = loop in
     (c .before .before .before .loop-test .taken, omega (arith, l .inv .deep, l .inv .within, good))
 
 add-i : tie.Need-add-i Inv-loop μ-loop
 add-i c =
-    let good = c .before .before .before .before .before .before .before .good in
+    let good-2 = c .before .before .before .before .before .before .before .good in
+    let good = good-2 in
     omega (arith, c .before .row-end .ensures .within, good)
 
 add-row : tie.Need-add-row Inv-loop μ-loop
 add-row c =
-    let good = c .before .before .before .before .before .before .before .good in
-    let loop = c .before .before .before .before .before .loop in
+    let good-2 = c .before .before .before .before .before .before .before .good in
+    let loop-2 = c .before .before .before .before .before .loop in
+    let good = good-2 in
+    let loop = loop-2 in
     omega (arith, loop .inv .counted, c .before .before .before .if1 .left, good)
 
 loop-less : tie.Need-loop-less Inv-loop μ-loop
@@ -51,9 +62,12 @@ loop-less c =
 
 loop-again : tie.Need-loop-again Inv-loop μ-loop
 loop-again c =
-    let a = c .before .before .before .before .before .before .before .args in
-    let l = c .before .before .before .before .before .loop in
-    let loop-test = c .before .before .before .before .loop-test in
+    let args = c .before .before .before .before .before .before .before .args in
+    let loop = c .before .before .before .before .before .loop in
+    let loop-test-2 = c .before .before .before .before .loop-test in
+    let a = args in
+    let l = loop in
+    let loop-test = loop-test-2 in
     subst (λ (d : ℕ). Inside (a .s .now) (a .c) (c .before .row-end .result + 1) (l .row + 1) d)
     (sym (c .deeper .ensures))
     (inside-step (a .s .now) (a .c) (l .i) (l .row) (l .depth) (c .before .row-end .result) (loop-test .taken) (l .inv)

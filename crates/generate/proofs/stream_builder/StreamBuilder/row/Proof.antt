@@ -9,6 +9,9 @@ put-byte-requires c κs = search needs
 put-byte-requires-2 : tie.Need-put-byte-requires-2
 put-byte-requires-2 c κs = search needs
 
+put-mark-requires : tie.Need-put-mark-requires
+put-mark-requires c κs = search needs
+
 put-bytes-requires : tie.Need-put-bytes-requires
 put-bytes-requires c κs = search needs
 
@@ -23,12 +26,16 @@ same-length c = search needs
 
 returns : tie.Need-returns
 returns c =
-    let last = c .before .before .before in
-    let text = last .before .before .before .before in
-    let space = text .before .before .before .before in
-    let kind = space .before .before .before .before in
-    row-put (kind .put-byte .ensures) (space .put-byte2 .ensures) (text .put-bytes .ensures)
-    (last .put-byte3 .ensures) (c .counted .ensures)
+    let put-byte = c .before .before .before .before .before .before .before .before .before .before .before .before
+    .before .before .before .before .before .before .before .put-byte in
+    let put-byte2 = c .before .before .before .before .before .before .before .before .before .before .before .before
+    .before .before .before .put-byte2 in
+    let put-mark = c .before .before .before .before .before .before .before .before .before .before .before .put-mark
+    in
+    let put-bytes = c .before .before .before .before .before .before .before .put-bytes in
+    row-put (put-byte .ensures) (put-byte2 .ensures) (put-mark .ensures) (put-bytes .ensures)
+    (c .before .before .before .put-byte3 .ensures)
+    (c .counted .ensures)
 
 pub row-spec : {M : Type 1} → statement M
 row-spec =
@@ -36,6 +43,7 @@ row-spec =
     (tie.spec
     put-byte-requires
     put-byte-requires-2
+    put-mark-requires
     put-bytes-requires
     put-byte-requires-3
     counted-requires
