@@ -26,7 +26,7 @@ pub fn some(rng: &mut Rng, rows: Vec<Row>) -> Vec<u8> {
     list(rng, rows, names)
 }
 
-/// Punctuation that stands unbroken in a source.
+/// Punctuation that mostly stands unbroken in a source.
 const PAIRS: [&str; 12] = [
     "::", "->", "=>", ">>", "<'", "&'", "..", "==", "&&", "<<", ">,", ">;",
 ];

@@ -4,8 +4,8 @@
 -- They are stated with the list check and the role grammar alone; nothing of the reading has to be read. To believe
 -- demand 3, read in this order (lines of definitions, without comments and imports):
 --
---     token_list/specs   Byte 37, Layout 22, Text 51       bytes by name, limits, texts of the five kinds
---                        Row 41, Check 29, Stream 30       rows, refusals 1 to 7, streams: up to the ruler in each
+--     token_list/specs   Byte 39, Layout 30, Text 51       bytes by name, limits, texts of the five kinds
+--                        Row 56, Check 30, Stream 30       rows, refusals 1 to 7, streams: up to the ruler in each
 --     reading/specs      Role 42, Token 72                 the nineteen roles, tests of tokens
 --                        Grammar 209                       the role grammar, line by line
 --                        Promise 16                        this file
