@@ -1,21 +1,21 @@
 -- Laws on what stands before a row's text, with marks or without, and on the offset of the first row.
-use mathlib.Core.Path.{_≡_, refl, ap, _∙_, sym}
+use mathlib.Core.Path.{_≡_, refl, ap, _∙_, sym, subst}
 use mathlib.Core.Bool.{Bool, true, false, not, cond, _&&_, _||_, Bool·beq, false≢true}
 use mathlib.Core.List.{List, [], _∷_, _++_}
-use Prim.Native.Nat.{ℕ, _+_, _-_, _≤_, _<_}
+use Prim.Native.Nat.{ℕ, _+_, _≤_, _<_}
 use native.Mathlib.Omega.{arith}
-use borrow.Author.Tests.{eqb-true, ne-eqb, le-leb, leb-true}
-use lib.Dec.{eqb, leb}
-use lib.ListN.{length, getD, take, drop, drop-of-length-le, length-drop}
+use borrow.Author.Tests.{eqb-true, le-leb, leb-true, ltb-true, ltb-false}
+use lib.Dec.{eqb, leb, ltb}
+use lib.ListN.{length, getD, take, drop, length-drop}
 use lib.ListN.{List·getD-eq-default}
 use lib.Seq.{drop-drop, getD-drop}
 use Rattle.token_list.specs.Text.{LF}
 use Rattle.token_list.specs.Layout.{names, marked, firstRow, textOffset}
-use Rattle.token_list.specs.Row.{Row, Lines, tail, line, lines, front, byte, wrong, form, formOf, textForm, first}
+use Rattle.token_list.specs.Row.{Row, Lines, tail, line, lines, front, byte, wrong, form, textForm, first}
 use Rattle.token_list.specs.Row.{markFits, columnsFit, ownMark, markOf, lineRow, rowOf, markByte, markColumn}
 use Rattle.token_list.specs.Row.{rightMark}
 use Rattle.token_list.specs.Check.{named}
-use Rattle.token_list.specs.Contract.{shape, formed, RowShaped, TextShaped}
+use Rattle.token_list.specs.Contract.{shape, formed, spaced, markStands, RowShaped, TextShaped, ColumnShaped}
 use Rattle.token_list.specs.declared.row.Line.{Line}
 use Rattle.token_list.proofs.Texts.{chosen, passed-over, and-fails, and-last, and-parts, drop-next, same-fits}
 use Rattle.token_list.proofs.Lines.{prepend, joined, joined-lines}
@@ -197,7 +197,7 @@ longer-fits true (k ∷ s ∷ []) bs e = absurd (false≢true e)
 longer-fits true (k ∷ s ∷ j ∷ []) bs e = absurd (false≢true e)
 longer-fits true (k ∷ s ∷ j ∷ u ∷ t) bs e = e
 
-pub columns-wrong : (m : Bool) (bs : List ℕ) → columnsFit m bs ≡ false → formed (form m) (lines bs) ≡ wrong
+columns-wrong : (m : Bool) (bs : List ℕ) → columnsFit m bs ≡ false → formed (form m) (lines bs) ≡ wrong
 columns-wrong m bs e = go (lines bs) (joined-lines bs)
   where
     go : (ls : Lines) → joined ls ≡ bs → formed (form m) ls ≡ wrong
@@ -210,7 +210,7 @@ columns-wrong m bs e = go (lines bs) (joined-lines bs)
 
 -- ## The row at an offset, by its columns and its text
 
-pub row-shaped : (m : Bool) (s : List ℕ) (i : ℕ) (r : Line) → columnsFit m (drop i s) ≡ true →
+row-shaped : (m : Bool) (s : List ℕ) (i : ℕ) (r : Line) → columnsFit m (drop i s) ≡ true →
     TextShaped (first (drop i s)) s (i + textOffset m) r → RowShaped m s i r
 row-shaped m s i r e t =
     let off = textOffset m in
@@ -248,12 +248,13 @@ columns-kind m s i e = ap first (sym (drop-next s i (columns-within m s i e .0))
 
 -- ## Columns byte by byte
 
-module _ (s : List ℕ) (i : ℕ) where
-  pub columns-none : length s ≤ i → (m : Bool) → columnsFit m (drop i s) ≡ false
-  columns-none h m = ap (columnsFit m) (drop-of-length-le s {i = i} h)
+and-assoc : (a b c : Bool) → (a && (b && c)) ≡ ((a && b) && c)
+and-assoc true b c = refl
+and-assoc false b c = refl
 
-  pub columns-short : i < length s → (m : Bool) → length s - i < textOffset m → columnsFit m (drop i s) ≡ false
-  columns-short h m k = go m (drop i s) (omega (arith, length-drop i s))
+module _ (s : List ℕ) (i : ℕ) where
+  columns-short : (m : Bool) → length s < i + textOffset m → columnsFit m (drop i s) ≡ false
+  columns-short m h = go m (drop i s) (omega (arith, length-drop i s, offset-low m))
     where
       go : (m : Bool) (bs : List ℕ) → length bs < textOffset m → columnsFit m bs ≡ false
       go m [] h = refl
@@ -269,10 +270,16 @@ module _ (s : List ℕ) (i : ℕ) where
       drop-next s i (omega arith)
       ∙ ap (λ (x : List ℕ). getD s i 0 ∷ x) (drop-next s (i + 1) h ∙ ap (λ (k : ℕ). getD s (i + 1) 0 ∷ drop k s) n)
 
-  pub columns-two : i + 1 < length s → columnsFit false (drop i s) ≡ eqb (getD s (i + 1) 0) 32
-  columns-two h = ap (columnsFit false) (two h)
+  -- without marks the kind is the last column
+  columns-plain : columnsFit false (drop i s) ≡ spaced s i
+  columns-plain = go (ltb (i + 1) (length s)) refl
+    where
+      go : (b : Bool) → ltb (i + 1) (length s) ≡ b →
+          columnsFit false (drop i s) ≡ (b && eqb (getD s (i + 1) 0) 32)
+      go true e = ap (columnsFit false) (two (ltb-true _ _ e))
+      go false e = columns-short false (omega (arith, ltb-false (i + 1) (length s) e))
 
-  pub columns-four : i + 3 < length s → columnsFit true (drop i s) ≡ (eqb (getD s (i + 1) 0) 32 &&
+  columns-four : i + 3 < length s → columnsFit true (drop i s) ≡ (eqb (getD s (i + 1) 0) 32 &&
       (markFits (getD s i 0) (getD s (i + 2) 0) && eqb (getD s (i + 3) 0) 32))
   columns-four h =
       let n : i + 2 + 1 ≡ i + 3 = omega arith in
@@ -282,10 +289,69 @@ module _ (s : List ℕ) (i : ℕ) where
       (drop-next s (i + 2) (omega arith) ∙ ap (λ (k : ℕ). getD s (i + 2) 0 ∷ drop k s) n
       ∙ ap (λ (x : List ℕ). getD s (i + 2) 0 ∷ x) (drop-next s (i + 3) h)))
 
-  pub columns-space : (m : Bool) → i + textOffset m ≤ length s → (getD s (i + 1) 0 ≡ 32 → ⊥) →
-      columnsFit m (drop i s) ≡ false
-  columns-space true h n = columns-four (omega arith) ∙ and-fails _ _ (ne-eqb _ _ n)
-  columns-space false h n = columns-two (omega arith) ∙ ne-eqb _ _ n
+  -- with marks it is the mark
+  columns-marked : columnsFit true (drop i s) ≡ (markStands s i && spaced s (i + 2))
+  columns-marked = go (ltb (i + 3) (length s)) refl
+    where
+      fit : Bool
+      fit = eqb (getD s (i + 1) 0) 32 && markFits (getD s i 0) (getD s (i + 2) 0)
+
+      go : (b : Bool) → ltb (i + 3) (length s) ≡ b →
+          columnsFit true (drop i s) ≡ ((b && fit) && spaced s (i + 2))
+      go true e =
+          let n : i + 2 + 1 ≡ i + 3 = omega arith in
+          let same : eqb (getD s (i + 3) 0) 32 ≡ spaced s (i + 2) =
+          sym (ap (λ (k : ℕ). ltb k (length s) && eqb (getD s k 0) 32) n ∙ and-last _ _ e) in
+          columns-four (ltb-true _ _ e)
+          ∙ and-assoc (eqb (getD s (i + 1) 0) 32) (markFits (getD s i 0) (getD s (i + 2) 0)) _
+          ∙ ap (λ (x : Bool). fit && x) same
+      go false e = columns-short true (omega (arith, ltb-false (i + 3) (length s) e))
+
+-- `column` is the last one before the text of the row at `at`
+pub record LastColumn (m : Bool) (s : List ℕ) (at column : ℕ) : Type 0 where
+  pub fits : columnsFit m (drop at s) ≡ spaced s column
+  pub text : column + 2 ≡ at + textOffset m
+  pub within : column ≤ length s
+
+module _ (m : Bool) (s : List ℕ) (at : ℕ) where
+  pub plain-column : m ≡ false → at < length s → LastColumn m s at at
+  plain-column e h =
+      record {
+        fits = ap (λ (x : Bool). columnsFit x (drop at s)) e ∙ columns-plain s at;
+        text = sym (ap (λ (x : Bool). at + textOffset x) e);
+        within = omega arith;
+      }
+
+  pub marked-column : m ≡ true → markStands s at ≡ true → LastColumn m s at (at + 2)
+  marked-column e stands =
+      let h = ltb-true (at + 3) (length s) (and-parts (ltb (at + 3) (length s)) _ stands .0) in
+      let n : at + 2 + 2 ≡ at + 4 = omega arith in
+      record {
+        fits = ap (λ (x : Bool). columnsFit x (drop at s)) e ∙ columns-marked s at ∙ and-last _ _ stands;
+        text = n ∙ sym (ap (λ (x : Bool). at + textOffset x) e);
+        within = omega (arith, h);
+      }
+
+  pub no-mark : m ≡ true → markStands s at ≡ false → formed (form m) (lines (drop at s)) ≡ wrong
+  no-mark e stands =
+      columns-wrong m (drop at s)
+      (ap (λ (x : Bool). columnsFit x (drop at s)) e ∙ columns-marked s at ∙ and-fails _ _ stands)
+
+  -- the row by what stands behind its last column
+  pub row-column : (column : ℕ) (r : Line) → LastColumn m s at column → ColumnShaped (getD s at 0) s column r →
+      RowShaped m s at r
+  row-column column r l c = go (spaced s column) refl
+    where
+      go : (b : Bool) → spaced s column ≡ b → RowShaped m s at r
+      go true e =
+          let fit = l .fits ∙ e in
+          let text = subst (λ (n : ℕ). TextShaped (getD s at 0) s n r) (l .text) (c .text e) in
+          row-shaped m s at r fit
+          (subst (λ (k : ℕ). TextShaped k s (at + textOffset m) r) (columns-kind m s at fit) text)
+      go false e =
+          let w = c .none e in
+          let g = columns-wrong m (drop at s) (l .fits ∙ e) in
+          record { right = w ∙ sym g; past = λ x. absurd (x w); rest = λ x. absurd (x w) }
 
 -- ## Marks byte by byte
 

@@ -4,7 +4,7 @@ use mathlib.Core.Bool.{Bool, true, false, cond, _&&_, _||_, false≢true}
 use mathlib.Core.List.{List, [], _∷_}
 use Prim.Native.Nat.{ℕ, _+_, _-_, _≤_, _<_}
 use native.Mathlib.Omega.{arith}
-use borrow.Author.Tests.{eq-eqb, ne-eqb, eqb-true, eqb-false, le-leb, lt-leb, leb-true, leb-false, ltb-true, lt-ltb}
+use borrow.Author.Tests.{eq-eqb, ne-eqb, eqb-true, eqb-false, le-leb, lt-leb, leb-true, ltb-true, lt-ltb}
 use lib.Dec.{eqb, leb, ltb}
 use lib.ListN.{length, getD, drop}
 use lib.Seq.{slice, length-slice}
@@ -13,8 +13,8 @@ use Rattle.token_list.specs.Text.{printable, single, punctuation, openin
 use Rattle.token_list.specs.Row.{line, lines, front, Form, plain, opens, closed, wrong, formOf, textForm}
 use Rattle.token_list.specs.Row.{first}
 use Rattle.token_list.specs.Check.{isRow}
-use Rattle.token_list.specs.Contract.{shape, singleForm, oneByte, formed, inText, TextEnd, TokenLine}
-use Rattle.token_list.specs.Contract.{TextShaped, TextShapedUnlessWrong}
+use Rattle.token_list.specs.Contract.{shape, singleForm, oneByte, formed, inText, TokenLine}
+use Rattle.token_list.specs.Contract.{TextShaped, ColumnShaped}
 use Rattle.token_list.specs.declared.row.Line.{Line}
 use Rattle.token_list.proofs.Texts.{chosen, passed-over, only, single-only, first-only, slice-next, slice-none}
 use Rattle.token_list.proofs.Texts.{and-last, and-fails, and-both, and-parts, or-holds}
@@ -138,18 +138,31 @@ pub single-wrong : (k : ℕ) (t : List ℕ) → (k ≡ 105 → ⊥) → (k ≡ 1
 single-wrong k t a b e =
     single-form k t a b ∙ ap (singleForm k) (sym e) ∙ chosen-wrong false false (eqb k 112) (eqb k 111) (eqb k 99)
 
-pub one-byte-parts : (s : List ℕ) (i : ℕ) → oneByte s i ≡ true → (i + 1 < length s) × (getD s (i + 1) 0 ≡ 10)
-one-byte-parts s i e =
-    let p = and-parts (ltb (i + 1) (length s)) _ e in
-    (ltb-true _ _ (p .0), eqb-true _ _ (p .1))
+pub record OneByte (s : List ℕ) (i : ℕ) : Type 0 where
+  pub within : i + 3 < length s
+  pub space : getD s (i + 1) 0 ≡ 32
+  pub lf : getD s (i + 3) 0 ≡ 10
 
--- a text that is not of one byte
-pub not-one-byte : (s : List ℕ) (i e : ℕ) → oneByte s i ≡ false → e < length s → getD s e 0 ≡ 10 → i + 1 ≡ e → ⊥
-not-one-byte s i e o h q n =
+pub one-byte-parts : (s : List ℕ) (i : ℕ) → oneByte s i ≡ true → OneByte s i
+one-byte-parts s i e =
+    let p = and-parts (ltb (i + 3) (length s)) _ e in
+    let q = and-parts (eqb (getD s (i + 1) 0) 32) _ (p .1) in
+    record { within = ltb-true _ _ (p .0); space = eqb-true _ _ (q .0); lf = eqb-true _ _ (q .1) }
+
+-- a text behind a space that is not of one byte
+pub not-one-byte : (s : List ℕ) (i e : ℕ) → oneByte s i ≡ false → getD s (i + 1) 0 ≡ 32 → e < length s →
+    getD s e 0 ≡ 10 → i + 2 + 1 ≡ e → ⊥
+not-one-byte s i e o space h q n =
+    let last : e ≡ i + 3 = omega (arith, n) in
     false≢true
     (sym o
-    ∙ and-both _ _ (lt-ltb (i + 1) (length s) (omega (arith, h, n)))
-    (eq-eqb _ _ (ap (λ (k : ℕ). getD s k 0) n ∙ q)))
+    ∙ and-both _ _ (lt-ltb (i + 3) (length s) (omega (arith, h, n)))
+    (and-both _ _ (eq-eqb _ _ space) (eq-eqb _ _ (ap (λ (k : ℕ). getD s k 0) (sym last) ∙ q))))
+
+-- an LF stands in no text
+lf-no-text : (names : Bool) (b : ℕ) → inText names b ≡ true → b ≡ LF → ⊥
+lf-no-text true b f e = false≢true (sym (ap namePart e) ∙ f)
+lf-no-text false b f e = false≢true (sym (ap printable e) ∙ f)
 
 module _ (k : ℕ) (s : List ℕ) (at : ℕ) (r : Line) where
   -- the text from `at` to e
@@ -191,19 +204,32 @@ module _ (k : ℕ) (s : List ℕ) (at : ℕ) (r : Line) where
   -- a token that is found by its text's end
   pub quick-token : (names : Bool) → inText names (getD s at 0) ≡ true
       → ((t : List ℕ) → all (inText names) (getD s at 0 ∷ t) ≡ true → formOf k (getD s at 0 ∷ t) ≡ plain)
-      → TokenLine s names at r → TextShapedUnlessWrong k s at r
+      → TokenLine s names at r → (shape (r .shape) ≡ wrong → ⊥) → TextShaped k s at r
   quick-token names fit form tl w =
       let x = tl .ends w in
       let e = x .0 in
       let te = x .1 in
-      let text : slice at e s ≡ getD s at 0 ∷ slice (at + 1) e s =
-      slice-next s at e (beyond e (leb e at) refl te (x .2)) (omega (arith, x .2)) in
-      quick-row e (te .start) (x .2) (te .line (x .2) (x .3)) (x .4) (x .5)
-      (tl .told w ∙ sym (ap (formOf k) text ∙ form _ (sym (ap (all (inText names)) text) ∙ te .fits)))
-    where
-      -- its first byte fits, so the text does not end there
-      beyond : (e : ℕ) (b : Bool) → leb e at ≡ b → TextEnd s names at e → e < length s → at < e
-      beyond e true q te h =
-          let same : e ≡ at = omega (arith, leb-true e at q, te .start) in
-          absurd (false≢true (sym (te .stops h) ∙ ap (λ (i : ℕ). inText names (getD s i 0)) same ∙ fit))
-      beyond e false q te h = leb-false e at q
+      let b = getD s at 0 in
+      let text : slice at e s ≡ b ∷ slice (at + 1) e s =
+      slice-next s at e (omega (arith, te .start)) (omega (arith, x .2)) in
+      let l : lines (drop at s) ≡ line (slice at e s) (lines (drop (e + 1) s)) =
+      lines-byte s at (omega (arith, te .start, x .2)) (lf-no-text names b fit)
+      ∙ ap (front b) (te .line (x .2) (x .3)) ∙ ap (λ (y : List ℕ). line y (lines (drop (e + 1) s))) (sym text) in
+      quick-row e (omega (arith, te .start)) (x .2) l (x .4) (x .5)
+      (tl .told w ∙ sym (ap (formOf k) text ∙ form _ (and-both _ _ fit (te .fits))))
+
+-- ## Rows by what stands behind a column
+
+module _ (k : ℕ) (s : List ℕ) (i : ℕ) (r : Line) where
+  pub behind-space : i + 1 < length s → getD s (i + 1) 0 ≡ 32 → TextShaped k s (i + 2) r → ColumnShaped k s i r
+  behind-space h e t =
+      let yes = and-both _ _ (lt-ltb (i + 1) (length s) h) (eq-eqb _ _ e) in
+      record { text = λ x. t; none = λ no. absurd (false≢true (sym no ∙ yes)) }
+
+  pub no-space : (i + 1 < length s → getD s (i + 1) 0 ≡ 32 → ⊥) → shape (r .shape) ≡ wrong → ColumnShaped k s i r
+  no-space n w =
+      record {
+        text = λ yes. let p = and-parts (ltb (i + 1) (length s)) _ yes in
+            absurd (n (ltb-true _ _ (p .0)) (eqb-true _ _ (p .1)));
+        none = λ x. w;
+      }

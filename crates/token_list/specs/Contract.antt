@@ -6,10 +6,10 @@ use Prim.Native.Nat.{ℕ, _+_, _-_, _≤_, _<_}
 use lib.Dec.{ltb, eqb}
 use lib.ListN.{length, getD, take, drop}
 use lib.Seq.{slice}
-use Rattle.token_list.specs.Byte.{LF}
+use Rattle.token_list.specs.Byte.{LF, SPACE}
 use Rattle.token_list.specs.Layout.{PUNCT, OPEN, CLOSE, names, marked, firstRow, textOffset, MAX-TEXT, MAX-DEPTH}
 use Rattle.token_list.specs.Row.{Lines, tail, line, lines, Form, plain, opens, closed, wrong, form, textForm}
-use Rattle.token_list.specs.Row.{markOf, first, Row, written}
+use Rattle.token_list.specs.Row.{markFits, markOf, first, Row, written}
 use Rattle.token_list.specs.Check.{Answer, passed, refused, Open, ended, close, walk, check, allRight}
 use Rattle.token_list.specs.Check.{nested}
 use Rattle.token_list.specs.Place.{OneRefusal, checkNumber}
@@ -62,9 +62,17 @@ shape (Opens d) = opens d
 shape (Closed d) = closed d
 shape Wrong = wrong
 
--- an LF after one byte of text at i
+-- a space behind the byte at i
+abbrev pub spaced : List ℕ → ℕ → Bool
+spaced s i = ltb (i + 1) (length s) && eqb (getD s (i + 1) 0) SPACE
+
+-- a space and one byte of text behind the byte at i
 abbrev pub oneByte : List ℕ → ℕ → Bool
-oneByte s i = ltb (i + 1) (length s) && eqb (getD s (i + 1) 0) LF
+oneByte s i = ltb (i + 3) (length s) && (eqb (getD s (i + 1) 0) SPACE && eqb (getD s (i + 3) 0) LF)
+
+-- a kind, a space and a mark that fits at i, before another byte
+abbrev pub markStands : List ℕ → ℕ → Bool
+markStands s i = ltb (i + 3) (length s) && (eqb (getD s (i + 1) 0) SPACE && markFits (getD s i 0) (getD s (i + 2) 0))
 
 -- the form of a row of kind p, o or c whose text is the one byte b
 abbrev pub singleForm : ℕ → ℕ → Form
@@ -84,11 +92,11 @@ pub record Shaped (f : List ℕ → Form) (s : List ℕ) (at : ℕ) (r : Line) :
   pub past : (shape (r .shape) ≡ wrong → ⊥) → (at < r .next) × (r .next ≤ length s)
   pub rest : (shape (r .shape) ≡ wrong → ⊥) → (l : List ℕ) × (lines (drop at s) ≡ line l (lines (drop (r .next) s)))
 
--- r is a token whose text starts at `start` and fits, or it is wrong, which tells nothing
+-- r is a token whose text starts at `start` and fits but for its first byte, or it is wrong, which tells nothing
 pub record TokenLine (s : List ℕ) (names : Bool) (start : ℕ) (r : Line) : Type 0 where
   pub told : (shape (r .shape) ≡ wrong → ⊥) → shape (r .shape) ≡ plain
   pub ends : (shape (r .shape) ≡ wrong → ⊥)
-      → (e : ℕ) × TextEnd s names start e × (e < length s) × (getD s e 0 ≡ LF) × (e - start ≤ MAX-TEXT)
+      → (e : ℕ) × TextEnd s names (start + 1) e × (e < length s) × (getD s e 0 ≡ LF) × (e - start ≤ MAX-TEXT)
       × (r .next ≡ e + 1)
 
 -- a row with marks or without, and the text alone of a row of kind k
@@ -98,9 +106,14 @@ RowShaped m = Shaped (form m)
 abbrev pub TextShaped : ℕ → List ℕ → ℕ → Line → Type 0
 TextShaped k = Shaped (textForm k)
 
+-- a row of kind k whose last column before its text is at i: by its text, which a space parts from it
+pub record ColumnShaped (k : ℕ) (s : List ℕ) (i : ℕ) (r : Line) : Type 0 where
+  pub text : spaced s i ≡ true → TextShaped k s (i + 2) r
+  pub none : spaced s i ≡ false → shape (r .shape) ≡ wrong
+
 -- the same, where the form is told
-abbrev pub TextShapedUnlessWrong : ℕ → List ℕ → ℕ → Line → Type 0
-TextShapedUnlessWrong k s start r = (shape (r .shape) ≡ wrong → ⊥) → TextShaped k s start r
+abbrev pub ColumnShapedUnlessWrong : ℕ → List ℕ → ℕ → Line → Type 0
+ColumnShapedUnlessWrong k s i r = (shape (r .shape) ≡ wrong → ⊥) → ColumnShaped k s i r
 
 -- the bytes from i on are rows, each of a right form, and each group that opens in them is closed
 pub record RightRows (s : List ℕ) (i : ℕ) : Type 0 where

@@ -37,15 +37,27 @@ pub fn first_row(s: &[u8]) -> usize
     10
 }
 
+// Where a row's mark stands, past its kind and a space.
+pub const MARK: usize = 2;
+
 // Where the text starts in a row: past its kind and a space, and with marks its mark and a space.
+pub const TEXT: usize = 2;
+
+pub const MARKED_TEXT: usize = 4;
+
 pub fn text_offset(marked: bool) -> usize
     ensures { λ r. ⌜ r ≡ textOffset marked ⌝ }
 {
     if marked {
-        return 4;
+        return MARKED_TEXT;
     }
-    2
+    TEXT
 }
+
+// The bytes of a row whose text is one byte, without marks and with; no row has fewer.
+pub const SHORT_ROW: usize = 4;
+
+pub const SHORT_MARKED_ROW: usize = 6;
 
 // Whether the list begins with its line of names.
 pub fn has_names(s: &[u8]) -> bool

@@ -1,6 +1,9 @@
 // What a line of a list is as a row.
+use crate::layout::MARK;
+use crate::layout::MARKED_TEXT;
 use crate::layout::MAX_TEXT;
-use crate::layout::text_offset;
+use crate::layout::SHORT_ROW;
+use crate::layout::TEXT;
 use crate::text::all_fit;
 use crate::text::is_digit;
 use crate::text::is_name_start;
@@ -11,13 +14,13 @@ use crate::text::text_is;
 ghost use mathlib.Core.Path.{_≡_};
 ghost use mathlib.Core.Bool.{Bool, false};
 ghost use mathlib.Core.List.{[], _∷_};
-ghost use Prim.Native.Nat.{_+_, _≤_};
-ghost use lib.ListN.{length, drop};
+ghost use Prim.Native.Nat.{_+_, _≤_, _<_};
+ghost use lib.ListN.{length};
 ghost use lib.Seq.{slice};
 ghost use Rattle.token_list.specs.Text.{name, plainName, rawName, neverRaw, literal, literalStart, closer};
-ghost use Rattle.token_list.specs.Row.{formOf, markFits, columnsFit};
-ghost use Rattle.token_list.specs.Contract.{LineEnd, RowShaped, TextShaped, TextShapedUnlessWrong, shape};
-ghost use Rattle.token_list.specs.Contract.{singleForm, oneByte, TokenLine};
+ghost use Rattle.token_list.specs.Row.{formOf, markFits};
+ghost use Rattle.token_list.specs.Contract.{LineEnd, RowShaped, ColumnShaped, ColumnShapedUnlessWrong, shape};
+ghost use Rattle.token_list.specs.Contract.{singleForm, oneByte, markStands, TokenLine};
 
 // The form of a line: a token, an opening or closing row with its delimiter, or no row.
 pub enum Shape {
@@ -224,12 +227,14 @@ fn byte_shape(kind: u8, b: u8) -> Shape
     single_shape(kind, b)
 }
 
-// The token whose text is at `start`, where each byte up to the line's end may stand in a name, or
-// else in a literal; else Wrong.
+// The token whose text is at `start`, where each byte of it after the first may stand in a name, or else in
+// a literal; else Wrong.
 fn token_line(s: &[u8], start: usize, names: bool) -> Line
+    requires { ⌜ start < length (now s) ⌝ }
     ensures { λ r. ⌜ TokenLine (now (s .entry)) names start r ⌝ }
 {
-    let end = text_end(s, start, names);
+    let second = start + 1;
+    let end = text_end(s, second, names);
     if end < s.len() {
         if s[end] == b'\n' {
             if end - start <= MAX_TEXT {
@@ -247,29 +252,42 @@ fn token_line(s: &[u8], start: usize, names: bool) -> Line
     }
 }
 
-// Whether an LF stands after one byte of text at `start`.
-fn one_byte(s: &[u8], start: usize) -> bool
-    ensures { λ r. ⌜ r ≡ oneByte (now (s .entry)) start ⌝ }
+// What stands before a row's text ends with a column and a space: the column of the mark, or without marks
+// that of the kind. From there on rows are alike with either names.
+
+// Whether a space and a text of one byte stand behind the column at `column`.
+fn one_byte(s: &[u8], column: usize) -> bool
+    requires { ⌜ column ≤ length (now s) ⌝ }
+    ensures { λ r. ⌜ r ≡ oneByte (now (s .entry)) column ⌝ }
 {
-    if s.len() <= start {
+    let past = column + SHORT_ROW;
+    if s.len() < past {
         return false;
     }
-    let last = start + 1;
-    if s.len() <= last {
+    let space = column + 1;
+    let last = column + 3;
+    if s[space] != b' ' {
         return false;
     }
     s[last] == b'\n'
 }
 
-// The name or literal at `start`, where one look at each byte tells it, as of most; else Wrong.
-fn quick_token(s: &[u8], kind: u8, start: usize) -> Line
-    ensures { λ r. ⌜ TextShapedUnlessWrong kind (now (s .entry)) start r ⌝ }
+// The name or literal behind `column`, where one look at each byte tells it, as of most; else Wrong.
+fn quick_token(s: &[u8], kind: u8, column: usize) -> Line
+    requires { ⌜ column ≤ length (now s) ⌝ }
+    ensures { λ r. ⌜ ColumnShapedUnlessWrong kind (now (s .entry)) column r ⌝ }
 {
     let unknown = Line {
         shape: Shape::Wrong,
-        next: start,
+        next: column,
     };
-    if s.len() <= start {
+    let past = column + SHORT_ROW;
+    if s.len() < past {
+        return unknown;
+    }
+    let space = column + 1;
+    let start = column + TEXT;
+    if s[space] != b' ' {
         return unknown;
     }
     let b = s[start];
@@ -286,44 +304,53 @@ fn quick_token(s: &[u8], kind: u8, start: usize) -> Line
     unknown
 }
 
-// The form of a row of this kind whose text starts at `start`, and where the next line starts.
-fn text_line(s: &[u8], kind: u8, start: usize) -> Line
-    ensures { λ r. ⌜ TextShaped kind (now (s .entry)) start r ⌝ }
+// The form of a row of this kind whose last column is at `column`, and where the next line starts.
+fn column_line(s: &[u8], kind: u8, column: usize) -> Line
+    requires { ⌜ column ≤ length (now s) ⌝ }
+    ensures { λ r. ⌜ ColumnShaped kind (now (s .entry)) column r ⌝ }
 {
-    if one_byte(s, start) {
-        let next = start + 2;
+    if one_byte(s, column) {
+        let start = column + TEXT;
+        let next = column + SHORT_ROW;
         let shape = byte_shape(kind, s[start]);
         return Line { shape, next };
     }
-    let quick = quick_token(s, kind, start);
+    let quick = quick_token(s, kind, column);
     let shape = quick.shape;
     match shape {
         Shape::Plain => quick,
         Shape::Opens(_) => quick,
         Shape::Closed(_) => quick,
-        Shape::Wrong => long_text(s, kind, start),
+        Shape::Wrong => long_line(s, kind, column),
     }
 }
 
 // The same of any text but one of one byte.
-fn long_text(s: &[u8], kind: u8, start: usize) -> Line
-    requires { ⌜ oneByte (now s) start ≡ false ⌝ }
-    ensures { λ r. ⌜ TextShaped kind (now (s .entry)) start r ⌝ }
+fn long_line(s: &[u8], kind: u8, column: usize) -> Line
+    requires { ⌜ column ≤ length (now s) ⌝ }
+    requires { ⌜ oneByte (now s) column ≡ false ⌝ }
+    ensures { λ r. ⌜ ColumnShaped kind (now (s .entry)) column r ⌝ }
 {
+    let wrong = Line {
+        shape: Shape::Wrong,
+        next: column,
+    };
+    let start = column + TEXT;
+    if s.len() < start {
+        return wrong;
+    }
+    let space = column + 1;
+    if s[space] != b' ' {
+        return wrong;
+    }
     let end = line_end(s, start);
     if s.len() <= end {
-        return Line {
-            shape: Shape::Wrong,
-            next: end,
-        };
+        return wrong;
+    }
+    if MAX_TEXT < end - start {
+        return wrong;
     }
     let next = end + 1;
-    if MAX_TEXT < end - start {
-        return Line {
-            shape: Shape::Wrong,
-            next,
-        };
-    }
     let shape = text_shape(s, kind, start, end);
     Line { shape, next }
 }
@@ -341,41 +368,36 @@ fn mark_fits(kind: u8, j: u8) -> bool
     j == b'1'
 }
 
-// Whether a kind and a space stand at `at`, and with marks a mark that fits and a space.
-fn columns_fit(s: &[u8], marked: bool, at: usize) -> bool
-    ensures { λ r. ⌜ r ≡ columnsFit marked (drop at (now (s .entry))) ⌝ }
+// Whether a kind, a space and a mark that fits stand at `at`, before another byte.
+fn mark_stands(s: &[u8], at: usize) -> bool
+    requires { ⌜ at < length (now s) ⌝ }
+    ensures { λ r. ⌜ r ≡ markStands (now (s .entry)) at ⌝ }
 {
-    if s.len() <= at {
-        return false;
-    }
-    if s.len() - at < text_offset(marked) {
+    if s.len() - at < MARKED_TEXT {
         return false;
     }
     let space = at + 1;
     if s[space] != b' ' {
         return false;
     }
-    if !marked {
-        return true;
-    }
-    let mark = at + 2;
-    if !mark_fits(s[at], s[mark]) {
-        return false;
-    }
-    let last = at + 3;
-    s[last] == b' '
+    let mark = at + MARK;
+    mark_fits(s[at], s[mark])
 }
 
 // The form of the line at `at`, and where the next one starts.
 pub fn line_shape(s: &[u8], marked: bool, at: usize) -> Line
+    requires { ⌜ at < length (now s) ⌝ }
     ensures { λ r. ⌜ RowShaped marked (now (s .entry)) at r ⌝ }
 {
-    if !columns_fit(s, marked, at) {
-        return Line {
-            shape: Shape::Wrong,
-            next: at,
-        };
+    let mut column = at;
+    if marked {
+        if !mark_stands(s, at) {
+            return Line {
+                shape: Shape::Wrong,
+                next: at,
+            };
+        }
+        column = at + MARK;
     }
-    let start = at + text_offset(marked);
-    text_line(s, s[at], start)
+    column_line(s, s[at], column)
 }

@@ -1,68 +1,55 @@
 use mathlib.Core.Path.{refl, sym, _∙_, subst}
-use Prim.Native.Nat.{ℕ, _+_}
-use native.Mathlib.Omega.{arith}
+use mathlib.Core.Logic.{⊎-elim}
 use borrow.Author.Tests.{not-true, not-false}
-use lib.ListN.{getD, drop}
-use Rattle.token_list.specs.Layout.{textOffset}
-use Rattle.token_list.specs.Contract.{TextShaped}
-use Rattle.token_list.proofs.Columns.{columns-wrong, columns-within, columns-kind, row-shaped}
+use Rattle.token_list.proofs.Columns.{LastColumn, plain-column, marked-column, no-mark, row-column}
 use borrow.Author.Needs.{needs}
 use Rattle.token_list.proofs.row.line_shape.Statement.{statement}
 use Rattle.token_list.proofs.row.line_shape.Tie as tie
 
-columns-fit-requires : tie.Need-columns-fit-requires
-columns-fit-requires c κs = search needs
+-- by which names the list has
+last-column : (c : tie.Joined1) → LastColumn (c .before .before .args .marked) (c .before .before .args .s .now)
+    (c .before .before .args .at) (c .if1 .column)
+last-column c =
+    let start = c .before .before in
+    let a = start .args in
+    ⊎-elim
+    (λ w. subst (LastColumn (a .marked) (a .s .now) (a .at)) (sym (w .3))
+    (marked-column (a .marked) (a .s .now) (a .at) (w .0 .taken) (sym (w .1 .ensures) ∙ not-false _ (w .2 .left))))
+    (λ w. subst (LastColumn (a .marked) (a .s .now) (a .at)) (sym (w .1))
+    (plain-column (a .marked) (a .s .now) (a .at) (w .0 .left) (start .pre)))
+    (c .if1 .came)
+
+mark-stands-requires : tie.Need-mark-stands-requires
+mark-stands-requires c κs = search needs
 
 returns : tie.Need-returns
 returns c =
-    let a = c .before .before .before .args in
-    let e = columns-wrong (a .marked) (drop (a .at) (a .s .now)) (sym (c .before .columns-fit .ensures) ∙ not-true _
-    (c .if1 .taken)) in
+    let a = c .before .before .before .before .args in
+    let no = sym (c .before .mark-stands .ensures) ∙ not-true _ (c .if2 .taken) in
+    let e = no-mark (a .marked) (a .s .now) (a .at) (c .before .before .if1 .taken) no in
     record { right = sym e; past = λ x. absurd (x refl); rest = λ x. absurd (x refl) }
 
-text-offset-requires : tie.Need-text-offset-requires
-text-offset-requires c κs = search needs
+add-column : tie.Need-add-column
+add-column c = search needs
 
-add-start : tie.Need-add-start
-add-start c =
-    let args = c .before .before .before .before .args in
-    let good = c .before .before .before .before .good in
-    let a = args in
-    let fit = sym (c .before .before .columns-fit .ensures) ∙ not-false _ (c .before .if1 .left) in
-    omega (arith, columns-within (a .marked) (a .s .now) (a .at) fit, c .text-offset .ensures, good)
+shared-slice-read-column-line : tie.Need-shared-slice-read-column-line
+shared-slice-read-column-line c = search needs
 
-shared-slice-read-text-line : tie.Need-shared-slice-read-text-line
-shared-slice-read-text-line c =
-    let args = c .before .before .before .before .before .args in
-    let a = args in
-    let fit = sym (c .before .before .before .columns-fit .ensures) ∙ not-false _ (c .before .before .if1 .left) in
-    omega (arith, columns-within (a .marked) (a .s .now) (a .at) fit)
-
-text-line-requires : tie.Need-text-line-requires
-text-line-requires c κs = search needs
+column-line-requires : tie.Need-column-line-requires
+column-line-requires c κs = last-column (c .before) .within
 
 returns-2 : tie.Need-returns-2
 returns-2 c =
-    let args = c .before .before .before .before .before .before .args in
-    let columns-fit = c .before .before .before .before .columns-fit in
-    let a = args in
-    let fit = sym (columns-fit .ensures) ∙ not-false _ (c .before .before .before .if1 .left) in
-    let r = c .text-line .result in
-    let kind = columns-kind (a .marked) (a .s .now) (a .at) fit in
-    row-shaped (a .marked) (a .s .now) (a .at) r fit
-    (subst (λ (k : ℕ). TextShaped k (a .s .now) (a .at + textOffset (a .marked)) r) kind
-    (subst (λ (n : ℕ). TextShaped (getD (a .s .now) (a .at) 0) (a .s .now) (a .at + n) r)
-    (c .before .before .text-offset .ensures)
-    (c .text-line .ensures)))
+    let a = c .before .before .before .before .args in
+    row-column (a .marked) (a .s .now) (a .at) _ _ (last-column (c .before .before)) (c .column-line .ensures)
 
 pub line-shape-spec : {M : Type 1} → statement M
 line-shape-spec =
     tie.close
     (tie.spec
-    columns-fit-requires
+    mark-stands-requires
     returns
-    text-offset-requires
-    add-start
-    shared-slice-read-text-line
-    text-line-requires
+    add-column
+    shared-slice-read-column-line
+    column-line-requires
     returns-2)

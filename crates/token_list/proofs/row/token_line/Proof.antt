@@ -11,6 +11,9 @@ use Rattle.token_list.proofs.row.token_line.Tie as tie
 untold : {s : List ℕ} {names : Bool} {start next : ℕ} → TokenLine s names start (record { shape = Wrong; next = next })
 untold = record { told = λ h. absurd (h refl); ends = λ h. absurd (h refl) }
 
+add-second : tie.Need-add-second
+add-second c = search needs
+
 text-end-requires : tie.Need-text-end-requires
 text-end-requires c κs = search needs
 
@@ -39,6 +42,7 @@ pub token-line-spec : {M : Type 1} → statement M
 token-line-spec =
     tie.close
     (tie.spec
+    add-second
     text-end-requires
     shared-slice-read-if2
     sub-if3
