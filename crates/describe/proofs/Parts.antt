@@ -90,8 +90,8 @@ module _ {A B : Type 0} (f : A → B) where
 module _ {s : List ℕ} {c : Cursor} {b : declaration.Body} (i : InsideAt reading.structBody s c b) where
   -- a struct's body is a group of fields
   pub struct-group : (t : Token) (d : Cursor) → GroupAt s (c .at) t → d ≡ pastOf c t → (f : declaration.Fields) ×
-      (b ≡ declaration.fields f) × StructAt s (t .first) d f
-  struct-group t d g e = go (eqb (t .first) 123) (ap (reading.structBody (c .row)) (sym (g .here)) ∙ i .gives)
+      (b ≡ declaration.fields f) × StructAt s (t .byte) d f
+  struct-group t d g e = go (eqb (t .byte) 123) (ap (reading.structBody (c .row)) (sym (g .here)) ∙ i .gives)
     where
       here : {A : Type 0} (m : Reader A) {a : A} {qs : List ℕ} {ws : Trees} →
           m (c .row + 1) (at s (t .next) .here) ≡ took a qs ws → InsideAt m s d a
@@ -102,7 +102,7 @@ module _ {s : List ℕ} {c : Cursor} {b : declaration.Body} (i : InsideAt readin
       go : (z : Bool)
           → cond z
           (reading.enclosed (reading.structFields reading.namedFields) (c .row) (at s (t .next) .here) (g .after))
-          (cond (eqb (t .first) 40)
+          (cond (eqb (t .byte) 40)
           (reading.enclosed (reading.structFields reading.tupleFields) (c .row) (at s (t .next) .here) (g .after))
           (refuse 17 (c .row)))
           ≡ took b (i .roles) (i .rest)
@@ -113,7 +113,7 @@ module _ {s : List ℕ} {c : Cursor} {b : declaration.Body} (i : InsideAt readin
           (at s (t .next) .here)) (w .4) in
           (w .0, w .1, (v .0, v .1, here (reading.every reading.namedField) (v .4)))
       go false h =
-          either (eqb (t .first) 40)
+          either (eqb (t .byte) 40)
           (λ h.
           let w = within reading.tupleFields declaration.fields (c .row) (at s (t .next) .here) (g .after) h in
           let v = made declaration.tuple (c .row + 1) (reading.every reading.tupleField (c .row + 1)

@@ -185,7 +185,7 @@ fn generics_lines(s: &[u8], c: Cursor, roles: &mut [u8], out: &mut [u8], at: usi
         return at;
     }
     let row = c.row;
-    let t = punct_at(s, c);
+    let t = punct_at(s, c, b'<');
     let inside = past(s, c, t);
     parameter_lines(s, inside, roles, row, out, at)
 }
@@ -221,7 +221,7 @@ fn body_lines(s: &[u8], d: ItemAt, roles: &mut [u8], out: &mut [u8], at: usize) 
         Peeked::Leaf(_) => at,
         Peeked::Group(t) => {
             let inside = past(s, c, t);
-            let delimiter = t.first;
+            let delimiter = t.byte;
             let kind = d.kind;
             match kind {
                 DataType::Struct => struct_lines(s, inside, delimiter, roles, out, at),

@@ -2,23 +2,22 @@
 use mathlib.Core.Path.{_≡_, refl, ap, _∙_, sym, subst}
 use mathlib.Core.Bool.{Bool, true, false, _&&_, _||_}
 use mathlib.Core.List.{List, [], _∷_, _++_, map, map-append}
-use Prim.Native.Nat.{ℕ, suc, _+_, _-_, _≤_, _<_}
-use native.Mathlib.Numerals.{add-one}
+use Prim.Native.Nat.{ℕ, _+_, _-_, _≤_, _<_}
 use native.Mathlib.Omega.{arith}
 use borrow.Author.Tests.{leb-true, leb-false}
 use lib.Dec.{eqb, leb}
 use lib.ListN.{length, take, drop, length-map, length-append, length-drop, take-append-drop}
 use lib.Seq.{slice, length-take-le, take-append-seam, take-append-add, drop-drop}
 use Rattle.token_list.specs.Byte.{QUOTE}
-use Rattle.token_list.specs.Layout.{PUNCT, marked}
-use Rattle.token_list.specs.Row.{Row, first, written}
+use Rattle.token_list.specs.Layout.{marked}
+use Rattle.token_list.specs.Row.{Row, written}
 use Rattle.token_list.specs.Stream.{Trees, rowsAt}
 use Rattle.token_list.specs.Contract.{RightRows, InList, TokenAt, rowOf}
 use Rattle.token_list.specs.declared.check.Cursor.{Cursor}
 use Rattle.token_list.specs.declared.stream.Token.{Token}
 use Rattle.token_list.proofs.Rows.{rows-none}
 use Rattle.token_list.proofs.Starts.{list-long}
-use Rattle.token_list.proofs.Streams.{the-row}
+use Rattle.token_list.proofs.Streams.{byte-of, the-row}
 use Rattle.output.specs.Contract.{FAR, further, Put}
 use Rattle.output.proofs.Texts.{retold}
 use Rattle.writing.specs.Rows.{runRows, sentRow, sent}
@@ -138,7 +137,7 @@ module _ {s : List ℕ} {from to : Cursor} (p : Part s from to) {k : List ℕ} {
         subst (λ (j : ℕ). Appended k l b r (map sentRow (take j (rowsAt s (from .at))))) same (c .appended)
 
     pub copying-next : (t : Token) → TokenAt s at t → n < to .row → {m : List ℕ} {d : StreamBuilder} (joint : Bool)
-        → joint ≡ sentMark (t .kind) (t .joint) (t .first)
+        → joint ≡ sentMark (t .kind) (t .joint) (t .byte)
         → Appended l m r d (row (t .kind) joint (take (t .end - t .start) (drop (t .start) s)) ∷ [])
         → Copying s from to k m b d (t .next) (n + 1)
     copying-next t q h {m} {d} joint e a =
@@ -151,7 +150,7 @@ module _ {s : List ℕ} {from to : Cursor} (p : Part s from to) {k : List ℕ} {
         let out : row (t .kind) joint (take (t .end - t .start) (drop (t .start) s)) ≡ sentRow (rowOf s t) =
         λ i. record {
           kind = t .kind;
-          joint = (e ∙ ap (λ (x : ℕ). t .joint || eqb (t .kind) PUNCT && eqb x QUOTE) (q .first)) i;
+          joint = (e ∙ sym (byte-of s at t q (λ (p : Bool) (x : ℕ). t .joint || p && eqb x QUOTE) (λ x y. refl))) i;
           text = part-of (t .start) (t .end) s i;
         } in
         let rows : map sentRow (take past R) ++ row (t .kind) joint (take (t .end - t .start) (drop (t .start) s)) ∷ []

@@ -39,7 +39,7 @@ use Rattle.generate.specs.declared.names.Gathered.{Gathered}
 abbrev pub row : ℕ → Bool → List ℕ → Row
 row k j t = record { kind = k; joint = j; text = t }
 
--- the mark with which a token goes out, by its kind, its mark and its first byte
+-- the mark with which a token goes out, by its kind, its mark and its byte
 abbrev pub sentMark : ℕ → Bool → ℕ → Bool
 sentMark k j b = j || eqb k PUNCT && eqb b QUOTE
 

@@ -125,7 +125,7 @@ fn put_generics(
         return b;
     }
     let row = c.row;
-    let t = punct_at(s, c);
+    let t = punct_at(s, c, b'<');
     let inside = past(s, c, t);
     put_angled(b, out, s, inside, roles, row, names, lifetimes, types)
 }

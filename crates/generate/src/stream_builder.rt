@@ -72,7 +72,7 @@ fn put_mark(out: &mut [u8], at: usize, marked: bool, joint: bool) -> usize
 
 // The mark with which a token of the list goes out: a `'` is joint.
 fn sent_mark(t: Token) -> bool
-    ensures { λ r. ⌜ r ≡ sentMark (t .kind) (t .joint) (t .first) ⌝ }
+    ensures { λ r. ⌜ r ≡ sentMark (t .kind) (t .joint) (t .byte) ⌝ }
 {
     if t.joint {
         return true;
@@ -80,7 +80,7 @@ fn sent_mark(t: Token) -> bool
     if t.kind != b'p' {
         return false;
     }
-    t.first == b'\''
+    t.byte == b'\''
 }
 
 impl StreamBuilder {

@@ -56,11 +56,11 @@ module _ (s : List ℕ) (c : Cursor) (inList : InList s c) (t : Token) (l : Leaf
       abbrev aft : Trees
       aft = head (at s (q .next) .outer)
 
-      pub hash-wrong : (q .first ≡ 91 → ⊥) → here ≡ refuse 12 (d .row)
+      pub hash-wrong : (q .byte ≡ 91 → ⊥) → here ≡ refuse 12 (d .row)
       hash-wrong f = past-hash _ (group-stream s d q k g) ∙ passed-over _ _ _ (ne-eqb _ _ f) ∙
           ap (λ (n : ℕ). refuse 12 n) (sym below)
 
-      pub hash-group : (b0 b1 b2 : List ℕ) (x : Cursor) → q .first ≡ 91 → b1 ≡ set b0 (c .row) 1 →
+      pub hash-group : (b0 b1 b2 : List ℕ) (x : Cursor) → q .byte ≡ 91 → b1 ≡ set b0 (c .row) 1 →
           Moved s d x (copied 2 ins) aft b1 b2
           → Gained s c x b0 b2 (ins ∷ []) here (attributes (x .row) (stream s x))
       hash-group b0 b1 b2 x f w m =

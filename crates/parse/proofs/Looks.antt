@@ -1,29 +1,23 @@
 -- What a look at the first row tells of a reading.
 use mathlib.Core.Path.{_≡_, refl}
-use mathlib.Core.Bool.{Bool, true, false, _&&_, false≢true}
+use mathlib.Core.Bool.{Bool, true, false, _&&_}
 use mathlib.Core.List.{List, [], _∷_}
 use Prim.Native.Nat.{ℕ}
-use borrow.Author.Tests.{ne-eqb, eqb-true}
-use lib.Dec.{eqb}
+use borrow.Author.Tests.{ne-eqb}
 use Rattle.token_list.specs.Text.{same}
 use Rattle.token_list.specs.Row.{first}
-use Rattle.token_list.specs.Stream.{Trees, end, leaf, group, firstKind, firstByte}
-use Rattle.token_list.proofs.Texts.{passed-over, and-fails, and-parts}
+use Rattle.token_list.specs.Stream.{Trees, end, leaf, group, firstKind, firstByte, startsPunct}
+use Rattle.token_list.proofs.Texts.{passed-over, and-fails}
 use Rattle.reading.specs.Declaration.{default, without}
 use Rattle.reading.specs.Took.{took, placeOf}
 use Rattle.reading.specs.Token.{starts}
 use Rattle.reading.specs.Reading.{isPunct, isIdent, PUB, punctIf, attributes, visibility, tupleField, tupleType}
 use Rattle.reading.specs.Reading.{generics, variant, variantHere}
 
-pub starts-punct : (b : ℕ) (ts : Trees) → (eqb (firstKind ts) 112 && eqb (firstByte ts) b) ≡ starts (isPunct b) ts
+pub starts-punct : (b : ℕ) (ts : Trees) → startsPunct b ts ≡ starts (isPunct b) ts
 starts-punct b end = refl
 starts-punct b (leaf r us) = refl
 starts-punct b (group d ts us) = refl
-
-pub punct-kind : (b : ℕ) (ts : Trees) → starts (isPunct b) ts ≡ true → firstKind ts ≡ 112
-punct-kind b end e = absurd (false≢true e)
-punct-kind b (leaf r us) e = eqb-true (r .kind) 112 (and-parts (eqb (r .kind) 112) _ e .0)
-punct-kind b (group d ts us) e = absurd (false≢true e)
 
 pub placed : (row : ℕ) (ts : Trees) → (firstKind ts ≡ 0 → ⊥) → placeOf row ts ≡ row
 placed row end n = absurd (n refl)

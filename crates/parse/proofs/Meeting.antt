@@ -25,6 +25,7 @@ use Rattle.parse.specs.declared.utils.MaybeWord.the-variants as words
 use Rattle.token_list.specs.declared.check.Refusal.{Refusal}
 use Rattle.token_list.specs.Text.{same}
 use Rattle.token_list.proofs.Starts.{next-start}
+use Rattle.token_list.proofs.Streams.{byte-of}
 use Rattle.token_list.proofs.Texts.{and-last, and-fails}
 use Rattle.parse.proofs.Buffer.{sets-append}
 
@@ -104,8 +105,8 @@ module _ (s : List ℕ) (c : Cursor) (t : Token) (i : InList s c) where
 
   -- what the group's streams are
   pub group-stream : GroupAt s (c .at) t → stream s c ≡
-      group (t .first) (at s (t .next) .here) (head (at s (t .next) .outer))
-  group-stream g = g .here ∙ ap (λ (u : Trees). group (t .first) (at s (t .next) .here) u) (sym (ap head (g .outer)))
+      group (t .byte) (at s (t .next) .here) (head (at s (t .next) .outer))
+  group-stream g = g .here ∙ ap (λ (u : Trees). group (t .byte) (at s (t .next) .here) u) (sym (ap head (g .outer)))
 
 -- ## Putting readers together
 
@@ -227,7 +228,7 @@ module _ {A : Type 0} (m : Reader A) (s : List ℕ) (c : Cursor) (inList : InLis
   module _ (t : Token) (g : GroupAt s (c .at) t) (d : Cursor) (b0 b1 rs : List ℕ)
       (moved : Moved s c d rs (head (at s (t .next) .outer)) b0 b1) where
     -- it takes the group
-    pub meets-group : (a : A) → m (c .row) (group (t .first) (at s (t .next) .here) (head (at s (t .next) .outer))) ≡
+    pub meets-group : (a : A) → m (c .row) (group (t .byte) (at s (t .next) .here) (head (at s (t .next) .outer))) ≡
         took a rs (head (at s (t .next) .outer)) → sh a
         → Meets s c b0 b1 sh (on d) (m (c .row) (stream s c))
     meets-group a k h = meets-as (ap (m (c .row)) (group-stream s c t inList g) ∙ k) (stands moved h)
@@ -236,7 +237,7 @@ module _ {A : Type 0} (m : Reader A) (s : List ℕ) (c : Cursor) (inList : InLis
 pub group-belonged : {A : Type 0} (m k : Reader A) {s : List ℕ} {c d : Cursor} (t : Token) (r : ℕ) {b0 b1 : List ℕ}
     → InList s c → GroupAt s (c .at) t
     → Moved s c d (copied r (at s (t .next) .here)) (head (at s (t .next) .outer)) b0 b1
-    → m (c .row) (group (t .first) (at s (t .next) .here) (head (at s (t .next) .outer))) ≡
+    → m (c .row) (group (t .byte) (at s (t .next) .here) (head (at s (t .next) .outer))) ≡
     onward (copied r (at s (t .next) .here))
     (k (c .row + groupSize (at s (t .next) .here)) (head (at s (t .next) .outer)))
     → Belonged s c d b0 b1 (m (c .row) (stream s c)) (k (d .row) (stream s d))
@@ -285,8 +286,8 @@ leaf-then s c d t us l e n = l .here ∙ ap (leaf (rowOf s t)) (sym (ap (λ (x :
 
 -- the test for a punctuation, on the token
 pub punct-of : (s : List ℕ) (i : ℕ) (t : Token) (b : ℕ) → TokenAt s i t →
-    isPunct b (rowOf s t) ≡ (eqb (t .kind) 112 && eqb (t .first) b)
-punct-of s i t b k = ap (λ (m : ℕ). eqb (t .kind) 112 && eqb m b) (sym (k .first))
+    isPunct b (rowOf s t) ≡ (eqb (t .kind) 112 && eqb (t .byte) b)
+punct-of s i t b k = byte-of s i t k (λ (p : Bool) (x : ℕ). p && eqb x b) (λ x y. refl)
 
 -- the same on the stream, where the token stands
 pub stands-row : {s : List ℕ} {i : ℕ} {t : Token} (b : ℕ) → LeafAt s i t → starts (isPunct b) (at s i .here) ≡ true →

@@ -12,6 +12,7 @@ use Rattle.token_list.specs.Contract.{InList, TokenAt, LeafAt, GroupAt, rowOf}
 use Rattle.token_list.specs.declared.check.Cursor.{Cursor}
 use Rattle.token_list.specs.declared.stream.Token.{Token}
 use Rattle.token_list.proofs.Texts.{chosen, passed-over}
+use Rattle.token_list.proofs.Streams.{byte-of}
 use Rattle.reading.specs.Took.{Took, took, refuse, onward}
 use Rattle.reading.specs.Reading.{Stops, stopping, Ending, atEnd, atAngle, atComma, atGroup, RunEnd, ended, Verdict}
 use Rattle.reading.specs.Reading.{belongs, ends, unopened, judge, judgePunct, judged, runFrom, firstRows, kept, run}
@@ -24,9 +25,9 @@ use Rattle.parse.proofs.Meeting.{leaf-belonged, group-belonged, group-s
 use Rattle.parse.proofs.Places.{meets-beyond}
 
 pub judge-of : (st : Stops) (depth : ℕ) (m : Bool) (s : List ℕ) (i : ℕ) (t : Token) → TokenAt s i t
-    → judge st depth m (rowOf s t) ≡ cond (eqb (t .kind) 112) (judgePunct st depth m (t .first)) (belongs depth false)
+    → judge st depth m (rowOf s t) ≡ cond (eqb (t .kind) 112) (judgePunct st depth m (t .byte)) (belongs depth false)
 judge-of st depth m s i t k =
-    ap (λ (b : ℕ). cond (eqb (t .kind) 112) (judgePunct st depth m b) (belongs depth false)) (sym (k .first))
+    byte-of s i t k (λ (p : Bool) (b : ℕ). cond p (judgePunct st depth m b) (belongs depth false)) (λ x y. refl)
 
 -- a token takes the depth up by one at most
 depthOf : Verdict → ℕ
@@ -102,12 +103,12 @@ module _ (st : Stops) (r : ℕ) (s : List ℕ) (c : Cursor) (inList : InList s c
     aft = head (at s (t .next) .outer)
 
     pub turn-group : (d : Cursor) (b0 b1 : List ℕ) → Moved s c d (copied r ins) aft b0 b1 →
-        stopping st depth (t .first) ≡ false
+        stopping st depth (t .byte) ≡ false
         → Belonged s c d b0 b1 here (runFrom st r depth false (d .row) (stream s d))
     turn-group d b0 b1 k v =
         group-belonged (runFrom st r depth m) (runFrom st r depth false) t r inList g k (passed-over _ _ _ v)
 
-    pub turn-group-ends : stopping st depth (t .first) ≡ true → here ≡ took (ended atGroup depth) [] (stream s c)
+    pub turn-group-ends : stopping st depth (t .byte) ≡ true → here ≡ took (ended atGroup depth) [] (stream s c)
     turn-group-ends v =
         let group-here = group-stream s c t inList g in
         ap (runFrom st r depth m (c .row)) group-here ∙ chosen _ _ _ v ∙

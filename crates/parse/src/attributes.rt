@@ -54,7 +54,7 @@ fn after_hash(s: &[u8], c: Cursor, roles: &mut [u8]) -> AttributeStep
     ensures { λ r. ⌜ AttributeRead (now (s .entry)) c (now (roles .entry)) (now (roles .exit)) r ⌝ }
 {
     let row = c.row;
-    let hash = punct_at(s, c);
+    let hash = punct_at(s, c, b'#');
     let next = past(s, c, hash);
     let below = next.row;
     match peek(s, next) {
@@ -77,7 +77,7 @@ fn after_hash(s: &[u8], c: Cursor, roles: &mut [u8]) -> AttributeStep
             })
         }
         Peeked::Group(g) => {
-            if g.first != b'[' {
+            if g.byte != b'[' {
                 return AttributeStep::Refused(Refusal {
                     number: 12,
                     place: below,

@@ -38,7 +38,7 @@ pub fn take_struct(s: &[u8], c: Cursor, roles: &mut [u8]) -> CountStep
             CountStep::At(next, 0)
         }
         Peeked::Group(t) => {
-            let d = t.first;
+            let d = t.byte;
             if d == b'{' {
                 return named_group(s, c, t, roles);
             }

@@ -19,8 +19,11 @@ use token_list::stream::Token;
 use token_list::stream::peek;
 use token_list::stream::punct_at;
 ghost use mathlib.Core.Path.{_≡_};
+ghost use mathlib.Core.Bool.{false};
 ghost use mathlib.Core.List.{List};
 ghost use Prim.Native.Nat.{ℕ};
+ghost use Rattle.token_list.specs.Layout.{PUNCT};
+ghost use Rattle.token_list.specs.Row.{markFits};
 ghost use Rattle.token_list.specs.Contract.{InList};
 ghost use Rattle.reading.specs.Declaration.{Parameter};
 ghost use Rattle.reading.specs.Took.{Point};
@@ -122,6 +125,7 @@ fn parameter_name(s: &[u8], c: Cursor, roles: &mut [u8], number: u8, or: usize) 
 // `punct` and the run after it, where it stands: `part` says what that run is.
 fn optional_run(s: &[u8], c: Cursor, roles: &mut [u8], punct: u8, part: RunPart) -> ParameterRunStep
     requires { ⌜ InList (now s) c ⌝ }
+    requires { ⌜ markFits PUNCT punct ≡ false ⌝ }
     ensures { λ r. ⌜ Meets (now (s .entry)) c (now (roles .entry)) (now (roles .exit))
         (optionalRunShown (now (s .entry)) punct part (point (now (s .entry)) c) r) (parameterRunSaid r)
         (optional-run punct (c .row) (stream (now (s .entry)) c)) ⌝ }
@@ -318,7 +322,7 @@ pub fn try_take(s: &[u8], c: Cursor, roles: &mut [u8]) -> CountStep
         return CountStep::At(c, 0);
     }
     let row = c.row;
-    let t = punct_at(s, c);
+    let t = punct_at(s, c, b'<');
     let next = take_token(s, c, t, roles, role::ANGLE);
     parameters(s, next, roles, row)
 }

@@ -131,11 +131,11 @@ fn ends_run(stops: Stops, depth: usize, d: u8) -> bool
 // What a token that is no group is to a run.
 fn judge(stops: Stops, depth: usize, minus: bool, t: Token) -> Verdict
     requires { ⌜ depth + 1 < 2 ^ 64 ⌝ }
-    ensures { λ r. ⌜ verdictOf r ≡ cond (eqb (t .kind) PUNCT) (judgePunct (stopsOf stops) depth minus (t .first))
+    ensures { λ r. ⌜ verdictOf r ≡ cond (eqb (t .kind) PUNCT) (judgePunct (stopsOf stops) depth minus (t .byte))
         (belongs depth false) ⌝ }
 {
     if t.kind == b'p' {
-        let b = t.first;
+        let b = t.byte;
         return judge_punct(stops, depth, minus, b);
     }
     Verdict::Belongs(depth, false)
@@ -173,7 +173,7 @@ fn run_token(
             }
         },
         Peeked::Group(t) => {
-            let d = t.first;
+            let d = t.byte;
             if ends_run(stops, depth, d) {
                 return RunToken::Ended(Ending::Group);
             }

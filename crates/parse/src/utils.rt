@@ -5,6 +5,7 @@ use token_list::check::END;
 use token_list::check::Refusal;
 use token_list::stream::Peeked;
 use token_list::stream::Token;
+use token_list::stream::has_punct;
 use token_list::stream::look;
 use token_list::stream::peek;
 use token_list::stream::punct_at;
@@ -17,6 +18,7 @@ ghost use lib.Dec.{eqb};
 ghost use lib.ListN.{length, set, replicate};
 ghost use lib.Seq.{sets};
 ghost use Rattle.token_list.specs.Layout.{PUNCT};
+ghost use Rattle.token_list.specs.Row.{markFits};
 ghost use Rattle.token_list.specs.Stream.{at, head, follows};
 ghost use Rattle.token_list.specs.Contract.{InList, TokenAt, GroupAt, rowOf};
 ghost use Rattle.reading.specs.Role.{none};
@@ -167,10 +169,10 @@ pub fn wrong_token(s: &[u8], c: Cursor, number: u8) -> Refusal
 }
 
 pub fn is_punct(t: Token, b: u8) -> bool
-    ensures { λ r. ⌜ r ≡ (eqb (t .kind) PUNCT && eqb (t .first) b) ⌝ }
+    ensures { λ r. ⌜ r ≡ (eqb (t .kind) PUNCT && eqb (t .byte) b) ⌝ }
 {
     if t.kind == b'p' {
-        return t.first == b;
+        return t.byte == b;
     }
     false
 }
@@ -256,17 +258,15 @@ pub fn consume_ident(s: &[u8], c: Cursor, roles: &mut [u8], role: u8) -> MaybeWo
 // Whether the token at c is this punctuation.
 pub fn stands_punct(s: &[u8], c: Cursor, b: u8) -> bool
     requires { ⌜ InList (now s) c ⌝ }
+    requires { ⌜ markFits PUNCT b ≡ false ⌝ }
     ensures { λ r. ⌜ r ≡ starts (isPunct b) (stream (now (s .entry)) c) ⌝ }
 {
-    let l = look(s, c);
-    if l.kind == b'p' {
-        return l.first == b;
-    }
-    false
+    has_punct(s, c, b)
 }
 
 pub fn consume_punct_if(s: &[u8], c: Cursor, roles: &mut [u8], punct: u8, role: u8) -> MaybePunct
     requires { ⌜ InList (now s) c ⌝ }
+    requires { ⌜ markFits PUNCT punct ≡ false ⌝ }
     ensures { λ r. ⌜ Meets (now (s .entry)) c (now (roles .entry)) (now (roles .exit)) (λ (v : Bool). r .taken ≡ v)
         (on (r .next)) (punctIf punct role (c .row) (stream (now (s .entry)) c)) ⌝ }
     ensures { λ r. ⌜ (r .taken ≡ starts (isPunct punct) (stream (now (s .entry)) c)) ⌝ }
@@ -278,7 +278,7 @@ pub fn consume_punct_if(s: &[u8], c: Cursor, roles: &mut [u8], punct: u8, role: 
             next: c,
         };
     }
-    let t = punct_at(s, c);
+    let t = punct_at(s, c, punct);
     let next = take_token(s, c, t, roles, role);
     MaybePunct { taken: true, next }
 }

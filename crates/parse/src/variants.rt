@@ -108,7 +108,7 @@ fn variant_fields(s: &[u8], c: Cursor, roles: &mut [u8]) -> FieldsStep
         Peeked::Nothing => FieldsStep::At(FieldsAt::Unit, c),
         Peeked::Leaf(_) => FieldsStep::At(FieldsAt::Unit, c),
         Peeked::Group(t) => {
-            let d = t.first;
+            let d = t.byte;
             let inside = past(s, c, t);
             if d == b'{' {
                 return match named_group(s, c, t, roles) {

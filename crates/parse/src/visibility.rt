@@ -78,7 +78,7 @@ fn scope_after(s: &[u8], c: Cursor, roles: &mut [u8]) -> Cursor
         Peeked::Nothing => c,
         Peeked::Leaf(_) => c,
         Peeked::Group(t) => {
-            if t.first != b'(' {
+            if t.byte != b'(' {
                 return c;
             }
             let inside = past(s, c, t);

@@ -57,10 +57,10 @@ module _ (s : List ℕ) (c : Cursor) (start : c ≡ startOf s) where
     pub after-in : InList s e
     after-in = past .0 .inList
 
-    all-rows : listed s ≡ group (t .first) (stream s d) (stream s e)
+    all-rows : listed s ≡ group (t .byte) (stream s d) (stream s e)
     all-rows =
         here ∙ group-stream s c t i g
-        ∙ (λ j. group (t .first) (sym (stream-past s c d t p) j) (sym (past .1) j))
+        ∙ (λ j. group (t .byte) (sym (stream-past s c d t p) j) (sym (past .1) j))
 
     module _ (l : Glance) (look : Looked s (e .at) l) where
       pub outside : (l .kind ≡ 0 → ⊥) → (prefix : List ℕ) → tagged prefix (listed s) ≡ refused 31 (e .row)

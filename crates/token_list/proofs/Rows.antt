@@ -1,8 +1,8 @@
 -- The row at an offset from which on rows of a right form stand.
 use mathlib.Core.Path.{_≡_, refl, ap, _∙_, sym, subst}
-use mathlib.Core.Bool.{Bool, true, false, _&&_}
+use mathlib.Core.Bool.{Bool, true, false, _&&_, false≢true}
 use mathlib.Core.List.{List, [], _∷_, _++_, append-assoc}
-use Prim.Native.Nat.{ℕ, suc, _+_, _-_, _≤_, _<_}
+use Prim.Native.Nat.{ℕ, zero, suc, _+_, _-_, _≤_, _<_}
 use native.Mathlib.Omega.{arith}
 use borrow.Author.Tests.{leb-true, leb-false, le-leb}
 use lib.Dec.{eqb, leb}
@@ -10,7 +10,8 @@ use lib.ListN.{length, getD, take, drop, length-drop, length-append, drop-of-len
 use lib.Seq.{slice, length-slice, getD-drop, getD-take, getD-append-seam, drop-drop, drop-append-add}
 use Rattle.token_list.specs.Text.{LF}
 use Rattle.token_list.specs.Layout.{marked, textOffset}
-use Rattle.token_list.specs.Row.{Row, lines, rows, formOf, first, markOf, lineRow, rowOf, markColumn, written}
+use Rattle.token_list.specs.Row.{Row, lines, rows, formOf, first, markFits, markOf, rowOf, markByte}
+use Rattle.token_list.specs.Row.{markColumn, written}
 use Rattle.token_list.specs.Check.{isRow, right, allRight}
 use Rattle.token_list.specs.Stream.{rowsAt, allClosed}
 use Rattle.token_list.specs.Contract.{RowEnd, RightRows}
@@ -63,34 +64,28 @@ first-row s i w h = go (rowsAt s i) refl
               right = sym (ap (λ (x : List ℕ). isRow (formOf (r .kind) x)) q) ∙ f;
             }
 
--- bytes without an LF, and a scan over them
-abbrev NoLf : List ℕ → Type 0
-NoLf [] = Unit {0}
-NoLf (b ∷ bs) = (b ≡ LF → ⊥) × NoLf bs
-
-scan-over : (s : List ℕ) (i k : ℕ) (l x : List ℕ) → NoLf l → drop k s ≡ l ++ x → Scanned s i k →
-    Scanned s i (k + length l)
-scan-over s i k [] x n e c = let same : k ≡ k + 0 = omega arith in subst (Scanned s i) same c
-scan-over s i k (b ∷ l) x n e c =
-    let within : k < length s = omega (arith, length-drop k s, ap length e) in
-    let zero : k + 0 ≡ k = omega arith in
-    let here : getD s k 0 ≡ b =
-    ap (λ (j : ℕ). getD s j 0) (sym zero) ∙ sym (getD-drop k s 0 0) ∙ ap (λ (t : List ℕ). getD t 0 0) e in
-    let next : drop (k + 1) s ≡ l ++ x = sym (drop-drop 1 k s) ∙ ap (drop 1) e in
-    let more : k + 1 + length l ≡ k + length (b ∷ l) = omega arith in
-    subst (Scanned s i) more
-    (scan-over s i (k + 1) l x (n .1) next (scan-more s i k within (λ q. n .0 (sym here ∙ q)) c))
-
--- no column is an LF
-column-no-lf : (m j : Bool) (b : ℕ) → (b ≡ LF → ⊥) → NoLf (markColumn m j ++ b ∷ [])
-column-no-lf true true b n = (λ e. absurd (omega (arith, e)), (λ e. absurd (omega (arith, e)), (n, tt)))
-column-no-lf true false b n = (λ e. absurd (omega (arith, e)), (λ e. absurd (omega (arith, e)), (n, tt)))
-column-no-lf false j b n = (n, tt)
+-- no byte up to the text's first is an LF
+columns-no-lf : (m j : Bool) (k b : ℕ) (x : List ℕ) (n : ℕ) → (k ≡ LF → ⊥) → (b ≡ LF → ⊥) → n ≤ textOffset m →
+    getD (k ∷ 32 ∷ markColumn m j ++ b ∷ x) n 0 ≡ LF → ⊥
+columns-no-lf m j k b x zero p q h = p
+columns-no-lf m j k b x (suc zero) p q h = λ e. absurd (omega (arith, e))
+columns-no-lf false j k b x (suc (suc zero)) p q h = q
+columns-no-lf false j k b x (suc (suc (suc n))) p q h = absurd (omega arith)
+columns-no-lf true true k b x (suc (suc zero)) p q h = λ e. absurd (omega (arith, e))
+columns-no-lf true false k b x (suc (suc zero)) p q h = λ e. absurd (omega (arith, e))
+columns-no-lf true j k b x (suc (suc (suc zero))) p q h = λ e. absurd (omega (arith, e))
+columns-no-lf true j k b x (suc (suc (suc (suc zero)))) p q h = q
+columns-no-lf true j k b x (suc (suc (suc (suc (suc n))))) p q h = absurd (omega arith)
 
 -- the byte at the text's offset
 text-byte : (m j : Bool) (k b : ℕ) (x : List ℕ) → getD (k ∷ 32 ∷ markColumn m j ++ b ∷ x) (textOffset m) 0 ≡ b
 text-byte true j k b x = refl
 text-byte false j k b x = refl
+
+-- either mark fits a punctuation
+mark-byte-fits : (j : Bool) → markFits 112 (markByte j) ≡ true
+mark-byte-fits true = refl
+mark-byte-fits false = refl
 
 module _ (s : List ℕ) (i : ℕ) (f : FirstRow s i) where
   abbrev column : List ℕ
@@ -127,21 +122,18 @@ module _ (s : List ℕ) (i : ℕ) (f : FirstRow s i) where
   pub some-kind : f .row .kind ≡ 0 → ⊥
   some-kind e = no-wrong (zero-kind (f .row .kind) _ e) (f .right)
 
-  -- no byte up to the text's first is an LF
-  started : Scanned s i (i + textOffset (marked s) + 1)
-  started =
-      let l = f .row .kind ∷ 32 ∷ column ++ f .first ∷ [] in
-      let bytes : drop i s ≡ l ++ (f .text ++ after) =
-      f .bytes ∙ ap (λ (t : List ℕ). f .row .kind ∷ 32 ∷ t) (sym (append-assoc column (f .first ∷ []) (f .text ++
-      after))) in
-      let no-kind : f .row .kind ≡ LF → ⊥ = λ q. no-wrong (lf-kind (f .row .kind) _ q) (f .right) in
-      let no-first : f .first ≡ LF → ⊥ = λ q. no-wrong (lf-text (f .row .kind) (f .first) (f .text) q) (f .right) in
-      let long : i + length l ≡ i + textOffset (marked s) + 1 =
-      omega (arith, column-length (marked s) (f .row .joint), length-append column (f .first ∷ [])) in
-      subst (Scanned s i) long
-      (scan-over s i i l (f .text ++ after)
-      (no-kind, (λ e. absurd (omega (arith, e)), column-no-lf (marked s) (f .row .joint) (f .first) no-first))
-      bytes (scan-start s i))
+  no-lf : (n : ℕ) → n ≤ textOffset (marked s) → getD s (i + n) 0 ≡ LF → ⊥
+  no-lf n h e =
+      columns-no-lf (marked s) (f .row .joint) (f .row .kind) (f .first) (f .text ++ after) n
+      (λ q. no-wrong (lf-kind (f .row .kind) _ q) (f .right))
+      (λ q. no-wrong (lf-text (f .row .kind) (f .first) (f .text) q) (f .right)) h (sym (byte-at n) ∙ e)
+
+  started : (n : ℕ) → n ≤ textOffset (marked s) + 1 → Scanned s i (i + n)
+  started zero h = let e : i ≡ i + 0 = omega arith in subst (Scanned s i) e (scan-start s i)
+  started (suc n) h =
+      let e : i + n + 1 ≡ i + suc n = omega arith in
+      subst (Scanned s i) e
+      (scan-more s i (i + n) (omega (arith, text-within)) (no-lf n (omega arith)) (started n (omega arith)))
 
   -- where the row ends
   last : ℕ
@@ -158,80 +150,102 @@ module _ (s : List ℕ) (i : ℕ) (f : FirstRow s i) where
       ap (λ (k : ℕ). getD s k 0) n ∙ sym (getD-drop i s (length l) 0) ∙ ap (λ (t : List ℕ). getD t (length l) 0) bytes ∙
       getD-append-seam l LF (written (marked s) (f .rest)) 0
 
-  -- the text of a punctuation is one byte
-  punct-lf : f .row .kind ≡ 112 → getD s (i + textOffset (marked s) + 1) 0 ≡ LF
-  unfolding last
-  punct-lf k = go (f .text) refl
+  -- the text is one byte, but that of a name or a literal
+  alone : (f .row .kind ≡ 105 → ⊥) → (f .row .kind ≡ 108 → ⊥) → f .text ≡ []
+  alone p q = go (f .text) refl
     where
-      go : (t : List ℕ) → f .text ≡ t → getD s (i + textOffset (marked s) + 1) 0 ≡ LF
-      go [] q =
-          let n : i + textOffset (marked s) + 1 ≡ last = omega (arith, ap length q) in
-          ap (λ (j : ℕ). getD s j 0) n ∙ last-lf
-      go (b ∷ t) q =
-          absurd (no-wrong (single-wrong (f .row .kind) (f .first ∷ f .text) (λ e. absurd (omega (arith, k, e)))
-          (λ e. absurd (omega (arith, k, e))) (ap (λ (t : List ℕ). only (f .first ∷ t)) (sym q))) (f .right))
+      go : (t : List ℕ) → f .text ≡ t → f .text ≡ []
+      go [] e = e
+      go (b ∷ t) e =
+          absurd (no-wrong (single-wrong (f .row .kind) (f .first ∷ f .text) p q
+          (ap (λ (t : List ℕ). only (f .first ∷ t)) (sym e))) (f .right))
+
+  -- where the list has marks, one stands before the text
+  pub plain-at : (b : ℕ) → markFits 112 b ≡ false → getD s (i + 2) 0 ≡ b → marked s ≡ false
+  plain-at b n e = go (marked s) refl (byte-at 2)
+    where
+      l : Bool → List ℕ
+      l m = f .row .kind ∷ 32 ∷ markColumn m (f .row .joint) ++ (f .first ∷ f .text ++ after)
+
+      go : (m : Bool) → marked s ≡ m → getD s (i + 2) 0 ≡ getD (l m) 2 0 → marked s ≡ false
+      go true q h = absurd (false≢true (sym n ∙ ap (markFits 112) (sym e ∙ h) ∙ mark-byte-fits (f .row .joint)))
+      go false q h = q
 
 -- ## The scan for a row's end: an LF stands ahead
 
 pub record Ahead (s : List ℕ) (i k : ℕ) : Type 0 where
   pub scanned : Scanned s i k
-  pub text : i + textOffset (marked s) < k
   pub end : ℕ
   pub ahead : k ≤ end
   pub within : end < length s
   pub lf : getD s end 0 ≡ LF
 
-module _ (s : List ℕ) (i : ℕ) where
-  pub ahead-start : RightRows s i → i < length s → Ahead s i (i + textOffset (marked s) + 1)
-  unfolding last
-  ahead-start w h =
-      let f = first-row s i w h in
-      let n = total s i f in
-      record {
-        scanned = started s i f;
-        text = omega arith;
-        end = last s i f;
-        ahead = omega arith;
-        within = omega (arith, n, h);
-        lf = last-lf s i f;
-      }
+module _ (s : List ℕ) (i : ℕ) (w : RightRows s i) (h : i < length s) where
+  the-first : FirstRow s i
+  the-first = first-row s i w h
 
-  pub ahead-more : (k : ℕ) → (getD s k 0 ≡ LF → ⊥) → Ahead s i k → Ahead s i (k + 1)
-  ahead-more k q a =
+  pub ahead-start : (n : ℕ) → n ≤ textOffset (marked s) + 1 → Ahead s i (i + n)
+  unfolding last
+  ahead-start n k =
       record {
-        scanned = scan-more s i k (omega (arith, a .ahead, a .within)) q (a .scanned);
-        text = omega (arith, a .text);
-        end = a .end;
-        ahead = beyond (leb (a .end) k) refl;
-        within = a .within;
-        lf = a .lf;
+        scanned = started s i the-first n k;
+        end = last s i the-first;
+        ahead = omega arith;
+        within = omega (arith, total s i the-first, h);
+        lf = last-lf s i the-first;
       }
-    where
-      beyond : (b : Bool) → leb (a .end) k ≡ b → k + 1 ≤ a .end
-      beyond true e =
-          let same : k ≡ a .end = omega (arith, leb-true (a .end) k e, a .ahead) in
-          absurd (q (ap (λ (n : ℕ). getD s n 0) same ∙ a .lf))
-      beyond false e = omega (arith, leb-false (a .end) k e)
 
   pub ahead-found : (k : ℕ) → getD s k 0 ≡ LF → Ahead s i k → RowEnd s i k
   ahead-found k q a =
-      let h : k < length s = omega (arith, a .ahead, a .within) in
+      let g : k < length s = omega (arith, a .ahead, a .within) in
+      let text : i + textOffset (marked s) < k = past (leb k (i + textOffset (marked s))) refl in
       record {
         line = record {
           start = a .scanned .start;
           found = λ g. scan-found s i k g q (a .scanned);
-          none = λ g. absurd (omega (arith, g, h));
+          none = λ n. absurd (omega (arith, n, g));
           lf = λ g. q;
         };
-        text = a .text;
-        long = omega (arith, a .text, offset-low (marked s));
-        within = h;
+        text = text;
+        long = omega (arith, text, offset-low (marked s));
+        within = g;
       }
+    where
+      past : (b : Bool) → leb k (i + textOffset (marked s)) ≡ b → i + textOffset (marked s) < k
+      past true e =
+          let n : i + (k - i) ≡ k = omega (arith, a .scanned .start) in
+          absurd (no-lf s i the-first (k - i) (omega (arith, leb-true k (i + textOffset (marked s)) e))
+          (ap (λ (j : ℕ). getD s j 0) n ∙ q))
+      past false e = omega (arith, leb-false k (i + textOffset (marked s)) e)
 
-  pub punct-end : RightRows s i → i < length s → getD s i 0 ≡ 112 → RowEnd s i (i + textOffset (marked s) + 1)
-  punct-end w h k =
-      let f = first-row s i w h in
-      ahead-found (i + textOffset (marked s) + 1) (punct-lf s i f (first-kind s i f ∙ k)) (ahead-start w h)
+  -- a punctuation's end
+  pub punct-end : getD s i 0 ≡ 112 → RowEnd s i (i + textOffset (marked s) + 1)
+  unfolding last
+  punct-end k =
+      let off = textOffset (marked s) in
+      let q = first-kind s i the-first ∙ k in
+      let t = alone s i the-first (λ e. absurd (omega (arith, q, e))) (λ e. absurd (omega (arith, q, e))) in
+      let n : last s i the-first ≡ i + (off + 1) = omega (arith, ap length t) in
+      let to : i + (off + 1) ≡ i + off + 1 = omega arith in
+      subst (RowEnd s i) to
+      (ahead-found (i + (off + 1)) (ap (λ (j : ℕ). getD s j 0) (sym n) ∙ last-lf s i the-first)
+      (ahead-start (off + 1) (omega arith)))
+
+pub ahead-more : (s : List ℕ) (i k : ℕ) → (getD s k 0 ≡ LF → ⊥) → Ahead s i k → Ahead s i (k + 1)
+ahead-more s i k q a =
+    record {
+      scanned = scan-more s i k (omega (arith, a .ahead, a .within)) q (a .scanned);
+      end = a .end;
+      ahead = beyond (leb (a .end) k) refl;
+      within = a .within;
+      lf = a .lf;
+    }
+  where
+    beyond : (b : Bool) → leb (a .end) k ≡ b → k + 1 ≤ a .end
+    beyond true e =
+        let same : k ≡ a .end = omega (arith, leb-true (a .end) k e, a .ahead) in
+        absurd (q (ap (λ (n : ℕ). getD s n 0) same ∙ a .lf))
+    beyond false e = omega (arith, leb-false (a .end) k e)
 
 -- ## The row itself, and the rows after it
 
@@ -279,6 +293,21 @@ pub row-at : (s : List ℕ) (i e : ℕ) → RowEnd s i e → rowsAt s i ≡ rowA
 row-at s i e l =
     ap (rows (marked s)) (l .line .found (l .within))
     ∙ part-row (marked s) s i e (rowsAt s (e + 1)) (l .text) (omega (arith, l .within))
+
+-- the last byte of a text is its first, but of a name or a literal
+pub last-byte : (s : List ℕ) (i e : ℕ) → RightRows s i → RowEnd s i e → (getD s i 0 ≡ 105 → ⊥) →
+    (getD s i 0 ≡ 108 → ⊥) → getD s (e - 1) 0 ≡ first (slice (i + textOffset (marked s)) e s)
+last-byte s i e w l p q =
+    let start = i + textOffset (marked s) in
+    let f = first-row s i w (omega (arith, l .text, l .within)) in
+    let k = first-kind s i f in
+    let t = alone s i f (λ x. p (sym k ∙ x)) (λ x. q (sym k ∙ x)) in
+    let r : rowAt s i e ≡ f .row = cc (f .here, row-at s i e l) in
+    let text : slice start e s ≡ f .first ∷ [] =
+    ap (λ (r : Row). r .text) r ∙ f .texts ∙ ap (λ (t : List ℕ). f .first ∷ t) t in
+    let n : e - 1 ≡ start =
+    omega (arith, l .text, ap length text, length-slice start e s (omega (arith, l .within))) in
+    ap (λ (j : ℕ). getD s j 0) n ∙ sym (first-at s i f) ∙ sym (ap first text)
 
 pub closed-next : (r : Row) (rs : List Row) → allClosed (r ∷ rs) ≡ true → allClosed rs ≡ true
 closed-next r rs w = and-parts (allClosed rs) _ w .0

@@ -1,6 +1,6 @@
 -- Laws that link offsets to streams: the row at an offset, one step, and the way past a group.
 use mathlib.Core.Path.{_≡_, refl, ap, _∙_, sym, subst}
-use mathlib.Core.Bool.{Bool, true, false, cond, false≢true}
+use mathlib.Core.Bool.{Bool, true, false, cond, _&&_, false≢true}
 use mathlib.Core.List.{List, [], _∷_}
 use Prim.Native.Nat.{ℕ, zero, suc, _+_, _-_, _≤_, _<_}
 use native.Mathlib.Omega.{arith}
@@ -9,17 +9,17 @@ use lib.Dec.{leb, eqb}
 use lib.ListN.{length, getD, drop}
 use lib.Seq.{slice, drop-nil}
 use Rattle.token_list.specs.Layout.{marked, textOffset}
-use Rattle.token_list.specs.Row.{Row, first, markOf}
+use Rattle.token_list.specs.Row.{Row, first, markFits, markOf}
 use Rattle.token_list.specs.Stream.{Trees, end, leaf, group, Streams, head, others, before, streams, size}
-use Rattle.token_list.specs.Stream.{firstKind, firstByte, follows, allClosed, rowsAt, at, rowStart}
+use Rattle.token_list.specs.Stream.{firstKind, firstByte, startsPunct, follows, allClosed, rowsAt, at, rowStart}
 use Rattle.token_list.specs.Contract.{RowEnd, RightRows, InList, Looked, TokenAt, LeafAt, GroupAt, Skipped}
 use Rattle.token_list.specs.Contract.{skipped, deeper, rowOf}
 use Rattle.token_list.specs.declared.check.Cursor.{Cursor}
 use Rattle.token_list.specs.declared.stream.Token.{Token}
-use Rattle.token_list.proofs.Texts.{and-parts, chosen, passed-over, slice-next}
+use Rattle.token_list.proofs.Texts.{and-parts, and-last, chosen, passed-over}
 use Rattle.token_list.proofs.Starts.{next-start}
 use Rattle.token_list.proofs.Rows.{rows-none, FirstRow, first-row, first-kind, first-at, some-kind}
-use Rattle.token_list.proofs.Rows.{rowAt, row-at, right-rows-next, punct-end}
+use Rattle.token_list.proofs.Rows.{text-within, plain-at, rowAt, row-at, last-byte, right-rows-next, punct-end}
 
 -- ## The row at an offset
 
@@ -117,7 +117,7 @@ tokenFrom s i e =
     record {
       kind = getD s i 0;
       joint = markOf (marked s) (drop i s);
-      first = getD s (i + textOffset (marked s)) 0;
+      byte = getD s (e - 1) 0;
       start = i + textOffset (marked s);
       end = e;
       next = e + 1;
@@ -133,25 +133,36 @@ token-at s i e w l =
       text = omega (arith, l .text);
       next = refl;
       within = omega (arith, l .within);
-      first = ap first (sym (slice-next s (i + textOffset (marked s)) e (l .text) (omega (arith, l .within))));
+      byte = λ q. last-byte s i e w l (λ n. absurd (omega (arith, q, n))) (λ n. absurd (omega (arith, q, n)));
+      delimiter = λ q. last-byte s i e w l (λ n. absurd (omega (arith, q, n))) (λ n. absurd (omega (arith, q, n)));
       rightRows = right-rows-next s i e l w;
     }
 
 -- the same of a token by its parts, with n bytes before its text
 pub token-of : (s : List ℕ) (i e : ℕ) (t : Token) → RightRows s i → RowEnd s i e → (n : ℕ) →
     n ≡ textOffset (marked s) → t .joint ≡ markOf (marked s) (drop i s) → t .kind ≡ getD s i 0 →
-    t .first ≡ getD s (i + n) 0 → t .start ≡ i + n → t .end ≡ e → t .next ≡ e + 1 → TokenAt s i t
+    t .byte ≡ getD s (e - 1) 0 → t .start ≡ i + n → t .end ≡ e → t .next ≡ e + 1 → TokenAt s i t
 token-of s i e t w l n off joint kind byte start last next =
     subst (TokenAt s i)
     (λ x. record {
       kind = sym kind x;
       joint = sym joint x;
-      first = sym (byte ∙ ap (λ (k : ℕ). getD s (i + k) 0) off) x;
+      byte = sym byte x;
       start = sym (start ∙ ap (λ (k : ℕ). i + k) off) x;
       end = sym last x;
       next = sym next x;
     })
     (token-at s i e w l)
+
+-- the byte of a token counts where it is punctuation
+pub byte-of : {A : Type 0} (s : List ℕ) (i : ℕ) (t : Token) → TokenAt s i t → (f : Bool → ℕ → A) →
+    ((x y : ℕ) → f false x ≡ f false y) →
+    f (eqb (t .kind) 112) (first (slice (t .start) (t .end) s)) ≡ f (eqb (t .kind) 112) (t .byte)
+byte-of s i t k f same = go (eqb (t .kind) 112) refl
+  where
+    go : (p : Bool) → eqb (t .kind) 112 ≡ p → f p (first (slice (t .start) (t .end) s)) ≡ f p (t .byte)
+    go true e = ap (f true) (sym (k .byte (eqb-true _ _ e)))
+    go false e = same _ _
 
 -- what a token is in the streams
 module _ (s : List ℕ) (i : ℕ) (w : RightRows s i) (t : Token) (k : TokenAt s i t) where
@@ -183,40 +194,90 @@ module _ (s : List ℕ) (i : ℕ) (w : RightRows s i) (t : Token) (k : TokenAt s
       record {
         token = k;
         after = head ts;
-        here =
-            ap (λ (t : Streams). t .here) b ∙ ap (λ (d : ℕ). group d (at s (t .next) .here) (head ts)) (sym (k .first));
+        here = ap (λ (t : Streams). t .here) b ∙
+            ap (λ (d : ℕ). group d (at s (t .next) .here) (head ts)) (sym (k .delimiter o));
         outer = followed ts (closed-open (rowOf s t) (rowsAt s (t .next)) row-closed o) ∙
             ap (λ (us : List Trees). head ts ∷ us) (sym (ap (λ (t : Streams). t .outer) b));
       }
 
 -- ## A punctuation at a cursor
 
-module _ (s : List ℕ) (c : Cursor) (inList : InList s c) (p : firstKind (at s (c .at) .here) ≡ 112) where
-  pub punct-within : c .at < length s
-  punct-within = go (leb (length s) (c .at)) refl
-    where
-      go : (b : Bool) → leb (length s) (c .at) ≡ b → c .at < length s
-      go true e = absurd (omega (arith, p, ap firstKind (none-here s c inList (leb-true (length s) (c .at) e))))
-      go false e = omega (arith, leb-false (length s) (c .at) e)
+module _ (s : List ℕ) (c : Cursor) (inList : InList s c) (b : ℕ) where
+  abbrev starting : Bool
+  starting = startsPunct b (at s (c .at) .here)
 
-  punct-kind : getD s (c .at) 0 ≡ 112
-  punct-kind = go (eqb (getD s (c .at) 0) 99) refl
-    where
-      go : (b : Bool) → eqb (getD s (c .at) 0) 99 ≡ b → getD s (c .at) 0 ≡ 112
-      go true e = absurd (omega (arith, p, ap firstKind (close-here s c inList punct-within (eqb-true _ _ e))))
-      go false e = look-here s c inList punct-within (eqb-false _ _ e) .kind ∙ p
+  pub punct-none : length s ≤ c .at → starting ≡ false
+  punct-none h = ap (startsPunct b) (none-here s c inList h)
 
-  -- its text is one byte
-  pub punct-here : (t : Token) (n : ℕ) → n ≡ textOffset (marked s) → t .joint ≡ markOf (marked s) (drop (c .at) s) →
-      t .kind ≡ 112 → t .first ≡ getD s (c .at + n) 0 → t .start ≡ c .at + n → t .end ≡ c .at + n + 1 →
-      t .next ≡ c .at + n + 1 + 1 → LeafAt s (c .at) t
-  punct-here t n off joint kind byte start last next =
-      let w = inList .rightRows in
-      let to = ap (λ (k : ℕ). c .at + k + 1) off in
-      leaf-here s (c .at) w t
-      (token-of s (c .at) _ t w (punct-end s (c .at) w punct-within punct-kind) n off joint (kind ∙ sym punct-kind) byte
-      start (last ∙ to) (next ∙ ap (λ (k : ℕ). k + 1) to))
-      (λ q. absurd (omega (arith, kind, q))) (λ q. absurd (omega (arith, kind, q)))
+  -- it is told by two bytes
+  pub punct-look : c .at < length s →
+      starting ≡ (eqb (getD s (c .at) 0) 112 && eqb (getD s (c .at + textOffset (marked s)) 0) b)
+  punct-look h = go (eqb (getD s (c .at) 0) 99) refl
+    where
+      go : (x : Bool) → eqb (getD s (c .at) 0) 99 ≡ x
+          → starting ≡ (eqb (getD s (c .at) 0) 112 && eqb (getD s (c .at + textOffset (marked s)) 0) b)
+      go true e =
+          let q = eqb-true _ _ e in
+          ap (startsPunct b) (close-here s c inList h q) ∙
+          sym (ap (λ (k : ℕ). eqb k 112 && eqb (getD s (c .at + textOffset (marked s)) 0) b) q)
+      go false e =
+          let l = look-here s c inList h (eqb-false _ _ e) in
+          rw (sym (l .kind), sym (l .first))
+
+  pub punct-by : c .at < length s → getD s (c .at) 0 ≡ 112 → (m : Bool) → marked s ≡ m →
+      starting ≡ eqb (getD s (c .at + textOffset m) 0) b
+  punct-by h k m e =
+      punct-look h ∙ and-last _ _ (eq-eqb _ _ k) ∙ ap (λ (m : Bool). eqb (getD s (c .at + textOffset m) 0) b) e
+
+  -- a byte that is no mark is found where it stands without marks
+  pub no-marks : c .at < length s → markFits 112 b ≡ false → getD s (c .at + 2) 0 ≡ b → marked s ≡ false
+  no-marks h = plain-at s (c .at) (first-row s (c .at) (inList .rightRows) h) b
+
+  -- where it stands
+  module _ (n : markFits 112 b ≡ false) (p : starting ≡ true) where
+    pub punct-within : c .at < length s
+    punct-within = go (leb (length s) (c .at)) refl
+      where
+        go : (x : Bool) → leb (length s) (c .at) ≡ x → c .at < length s
+        go true e = absurd (false≢true (sym (punct-none (leb-true (length s) (c .at) e)) ∙ p))
+        go false e = omega (arith, leb-false (length s) (c .at) e)
+
+    told : (eqb (getD s (c .at) 0) 112 ≡ true) × (eqb (getD s (c .at + textOffset (marked s)) 0) b ≡ true)
+    told = and-parts _ _ (sym (punct-look punct-within) ∙ p)
+
+    punct-kind : getD s (c .at) 0 ≡ 112
+    punct-kind = eqb-true _ _ (told .0)
+
+    punct-byte : getD s (c .at + textOffset (marked s)) 0 ≡ b
+    punct-byte = eqb-true _ _ (told .1)
+
+    pub punct-text : c .at + textOffset (marked s) + 2 ≤ length s
+    punct-text = text-within s (c .at) (first-row s (c .at) (inList .rightRows) punct-within)
+
+    -- how far its text is
+    pub plain-offset : getD s (c .at + 2) 0 ≡ b → 2 ≡ textOffset (marked s)
+    plain-offset e = sym (ap textOffset (no-marks punct-within n e))
+
+    pub marked-offset : (getD s (c .at + 2) 0 ≡ b → ⊥) → 4 ≡ textOffset (marked s)
+    marked-offset e = go (marked s) refl
+      where
+        go : (m : Bool) → marked s ≡ m → 4 ≡ textOffset (marked s)
+        go true q = sym (ap textOffset q)
+        go false q = absurd (e (sym (ap (λ (m : Bool). getD s (c .at + textOffset m) 0) q) ∙ punct-byte))
+
+    -- its text is one byte
+    pub punct-here : (t : Token) → t .joint ≡ markOf (marked s) (drop (c .at) s) → t .kind ≡ 112 → t .byte ≡ b →
+        t .start ≡ c .at + textOffset (marked s) → t .end ≡ t .start + 1 → t .next ≡ t .end + 1 → LeafAt s (c .at) t
+    punct-here t joint kind byte start last next =
+        let w = inList .rightRows in
+        let off = textOffset (marked s) in
+        let e : t .end ≡ c .at + off + 1 = omega (arith, start, last) in
+        let to : c .at + off ≡ c .at + off + 1 - 1 = omega arith in
+        leaf-here s (c .at) w t
+        (token-of s (c .at) (c .at + off + 1) t w (punct-end s (c .at) w punct-within punct-kind) off refl joint
+        (kind ∙ sym punct-kind) (byte ∙ sym punct-byte ∙ ap (λ (j : ℕ). getD s j 0) to) start e
+        (next ∙ ap (λ (k : ℕ). k + 1) e))
+        (λ q. absurd (omega (arith, kind, q))) (λ q. absurd (omega (arith, kind, q)))
 
 -- ## The way past a group
 

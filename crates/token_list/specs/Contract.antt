@@ -142,7 +142,7 @@ pub record RowEnd (s : List ℕ) (i e : ℕ) : Type 0 where
   pub long : i + 3 ≤ e
   pub within : e < length s
 
--- the token t at i: its mark, where its parts stand, its first byte of text, and the next row
+-- the token t at i: its mark, where its parts stand, its byte, if it is punctuation or opens a group, and the next row
 pub record TokenAt (s : List ℕ) (i : ℕ) (t : Token) : Type 0 where
   pub kind : t .kind ≡ getD s i 0
   pub joint : t .joint ≡ markOf (marked s) (drop i s)
@@ -151,7 +151,8 @@ pub record TokenAt (s : List ℕ) (i : ℕ) (t : Token) : Type 0 where
   pub text : t .start ≤ t .end
   pub next : t .next ≡ t .end + 1
   pub within : t .next ≤ length s
-  pub first : t .first ≡ first (slice (t .start) (t .end) s)
+  pub byte : t .kind ≡ PUNCT → t .byte ≡ first (slice (t .start) (t .end) s)
+  pub delimiter : t .kind ≡ OPEN → t .byte ≡ first (slice (t .start) (t .end) s)
   pub rightRows : RightRows s (t .next)
 
 -- a token that is no group, and the stream after it
@@ -164,7 +165,7 @@ pub record LeafAt (s : List ℕ) (i : ℕ) (t : Token) : Type 0 where
 pub record GroupAt (s : List ℕ) (i : ℕ) (t : Token) : Type 0 where
   pub token : TokenAt s i t
   pub after : Trees
-  pub here : at s i .here ≡ group (t .first) (at s (t .next) .here) after
+  pub here : at s i .here ≡ group (t .byte) (at s (t .next) .here) after
   pub outer : at s (t .next) .outer ≡ after ∷ at s i .outer
 
 abbrev pub stands : List ℕ → ℕ → Peeked → Type 0

@@ -6,7 +6,7 @@ use mathlib.Core.List.{List, [], _∷_}
 use Prim.Native.Nat.{ℕ, _+_}
 use lib.Dec.{eqb}
 use lib.ListN.{drop}
-use Rattle.token_list.specs.Layout.{OPEN, CLOSE, marked, firstRow}
+use Rattle.token_list.specs.Layout.{PUNCT, OPEN, CLOSE, marked, firstRow}
 use Rattle.token_list.specs.Row.{Row, rows, lines, first, bytesBefore}
 
 -- What is left of a stream: nothing; a token and the rest; a group with its delimiter, its inside and the rest after
@@ -66,6 +66,10 @@ abbrev pub firstByte : Trees → ℕ
 firstByte end = 0
 firstByte (leaf r ts) = first (r .text)
 firstByte (group d ts us) = d
+
+-- whether a stream begins with the punctuation b
+abbrev pub startsPunct : ℕ → Trees → Bool
+startsPunct b ts = eqb (firstKind ts) PUNCT && eqb (firstByte ts) b
 
 -- every group that opens in the rows is closed in them
 abbrev pub follows : List Trees → Bool

@@ -1,22 +1,29 @@
 // Reading a list row by row: the token at a cursor, and the way past a group.
 use crate::check::Cursor;
+use crate::layout::MARK;
+use crate::layout::MARKED_TEXT;
+use crate::layout::SHORT_MARKED_ROW;
+use crate::layout::SHORT_ROW;
+use crate::layout::TEXT;
 use crate::layout::has_marks;
 use crate::layout::text_offset;
 ghost use mathlib.Core.Path.{_≡_};
+ghost use mathlib.Core.Bool.{true, false};
 ghost use Prim.Native.Nat.{_+_, _^_, _<_};
 ghost use lib.ListN.{length, drop};
 ghost use Rattle.token_list.specs.Layout.{PUNCT, NAMES-DIFFER};
-ghost use Rattle.token_list.specs.Row.{markOf};
-ghost use Rattle.token_list.specs.Stream.{at, firstKind};
+ghost use Rattle.token_list.specs.Row.{markFits, markOf};
+ghost use Rattle.token_list.specs.Stream.{at, startsPunct};
 ghost use Rattle.token_list.specs.Contract.{RightRows, RowEnd, InList, Looked, TokenAt, LeafAt, stands};
 ghost use Rattle.token_list.specs.Contract.{deeper, skipped};
 
-// A row: its kind, its mark, the first byte of its text (a punctuation's byte, a group's delimiter),
-// where its text starts and ends, and where the next row starts.
+// A row: its kind, its mark, the last byte of its text (a punctuation's byte, a group's delimiter: theirs is
+// found with the row's end, whichever names the list has), where its text starts and ends, and where the next
+// row starts.
 pub struct Token {
     pub kind: u8,
     pub joint: bool,
-    pub first: u8,
+    pub byte: u8,
     pub start: usize,
     pub end: usize,
     pub next: usize,
@@ -53,14 +60,14 @@ pub fn look(s: &[u8], c: Cursor) -> Glance
     Glance { kind, first }
 }
 
-// Where the row at `at` ends, at its LF. A byte of text stands before it.
+// Where the row at `at` ends, at its LF. A kind, a space and a byte of text stand before it.
 fn row_end(s: &[u8], at: usize) -> usize
     requires { ⌜ RightRows (now s) at ⌝ }
     requires { ⌜ at < length (now s) ⌝ }
     requires { ⌜ NAMES-DIFFER < length (now s) ⌝ }
     ensures { λ r. ⌜ RowEnd (now (s .entry)) at r ⌝ }
 {
-    let mut i = at + text_offset(has_marks(s)) + 1;
+    let mut i = at + TEXT + 1;
     while s[i] != b'\n' {
         i += 1;
     }
@@ -72,14 +79,15 @@ fn mark(s: &[u8], marked: bool, at: usize) -> bool
     requires { ⌜ at + 2 < length (now s) ⌝ }
     ensures { λ r. ⌜ r ≡ markOf marked (drop at (now (s .entry))) ⌝ }
 {
-    let third = at + 2;
     if marked {
-        return s[third] == b'1';
+        let column = at + MARK;
+        return s[column] == b'1';
     }
     if s[at] != b'p' {
         return false;
     }
-    s[third] == b'\''
+    let start = at + TEXT;
+    s[start] == b'\''
 }
 
 // The row at `at`, of any kind.
@@ -94,12 +102,13 @@ pub fn token_at(s: &[u8], at: usize) -> Token
     let marked = has_marks(s);
     let start = at + text_offset(marked);
     let next = end + 1;
-    let first = s[start];
+    let last = end - 1;
+    let byte = s[last];
     let joint = mark(s, marked, at);
     Token {
         kind,
         joint,
-        first,
+        byte,
         start,
         end,
         next,
@@ -126,23 +135,51 @@ pub fn peek(s: &[u8], c: Cursor) -> Peeked
     }
 }
 
-// The punctuation at c, where a look has found one: its text is one byte, so its end is not looked for.
-pub fn punct_at(s: &[u8], c: Cursor) -> Token
+// Whether the punctuation b stands at c. It is looked for first where it stands without marks; no mark is taken
+// for it there.
+pub fn has_punct(s: &[u8], c: Cursor, b: u8) -> bool
     requires { ⌜ InList (now s) c ⌝ }
-    requires { ⌜ firstKind (at (now s) (c .at) .here) ≡ PUNCT ⌝ }
+    requires { ⌜ markFits PUNCT b ≡ false ⌝ }
+    ensures { λ r. ⌜ r ≡ startsPunct b (at (now (s .entry)) (c .at) .here) ⌝ }
+{
+    let at = c.at;
+    if s.len() <= at {
+        return false;
+    }
+    if s[at] != b'p' {
+        return false;
+    }
+    let plain = at + TEXT;
+    if s[plain] == b {
+        return true;
+    }
+    if !has_marks(s) {
+        return false;
+    }
+    let past_mark = at + MARKED_TEXT;
+    s[past_mark] == b
+}
+
+// The punctuation b at c, where it was found: its text is one byte, so its end is not looked for.
+pub fn punct_at(s: &[u8], c: Cursor, b: u8) -> Token
+    requires { ⌜ InList (now s) c ⌝ }
+    requires { ⌜ markFits PUNCT b ≡ false ⌝ }
+    requires { ⌜ startsPunct b (at (now s) (c .at) .here) ≡ true ⌝ }
     ensures { λ r. ⌜ LeafAt (now (s .entry)) (c .at) r ⌝ }
 {
     let at = c.at;
-    let marked = has_marks(s);
-    let start = at + text_offset(marked);
-    let first = s[start];
-    let joint = mark(s, marked, at);
-    let end = start + 1;
-    let next = end + 1;
+    let plain = at + TEXT;
+    let mut next = at + SHORT_ROW;
+    if s[plain] != b {
+        next = at + SHORT_MARKED_ROW;
+    }
+    let end = next - 1;
+    let start = end - 1;
+    let joint = mark(s, has_marks(s), at);
     Token {
         kind: b'p',
         joint,
-        first,
+        byte: b,
         start,
         end,
         next,

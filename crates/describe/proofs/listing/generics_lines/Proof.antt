@@ -1,5 +1,5 @@
 use Prim.Native.Nat.{ℕ, _<_}
-use mathlib.Core.Path.{_≡_, sym, _∙_, ap}
+use mathlib.Core.Path.{_≡_, refl, sym, _∙_, ap}
 use mathlib.Core.List.{List}
 use native.Mathlib.Omega.{arith}
 use borrow.Author.Tests.{not-true, not-false}
@@ -9,7 +9,7 @@ use Rattle.output.proofs.Texts.{nothing, put-as}
 use Rattle.reading.specs.Declaration.{Generics, without, parametersOf}
 use Rattle.parse.specs.Contract.{stream}
 use Rattle.parse.proofs.Meeting.{past-in-of}
-use Rattle.parse.proofs.Looks.{punct-kind}
+use Rattle.parse.proofs.Looks.{starts-punct}
 use Rattle.parse.proofs.Inside.{generics-angle, generics-none}
 use Rattle.describe.specs.Listing.{numbered, parameterLine}
 use borrow.Author.Needs.{needs}
@@ -34,7 +34,7 @@ punct-at-requires : tie.Need-punct-at-requires
 punct-at-requires c κs =
     let d = c .before .before .before .before .before in
     let angle = sym (c .before .stands-punct .ensures) ∙ not-false _ (c .if1 .left) in
-    (d .pre, punct-kind 60 (stream (d .args .s .now) (d .args .c)) angle)
+    (d .pre, (refl, starts-punct 60 (stream (d .args .s .now) (d .args .c)) ∙ angle))
 
 past-requires : tie.Need-past-requires
 past-requires c κs = search needs

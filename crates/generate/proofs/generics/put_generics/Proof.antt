@@ -1,9 +1,9 @@
-use mathlib.Core.Path.{sym, _∙_}
+use mathlib.Core.Path.{refl, sym, _∙_}
 use borrow.Author.Tests.{not-true, not-false}
 use Rattle.reading.specs.Declaration.{parametersOf}
 use Rattle.parse.specs.Contract.{stream}
 use Rattle.parse.proofs.Meeting.{past-in-of}
-use Rattle.parse.proofs.Looks.{punct-kind}
+use Rattle.parse.proofs.Looks.{starts-punct}
 use Rattle.parse.proofs.Inside.{generics-angle, generics-none}
 use Rattle.generate.specs.Contract.{parametersBy}
 use Rattle.generate.proofs.Answers.{none-built, some-built}
@@ -40,7 +40,7 @@ punct-at-requires c κs =
     in
     let pre = c .before .before .before .before .before .before .before .before .before .before .before .before .pre in
     let angle = sym (c .before .stands-punct .ensures) ∙ not-false _ (c .if1 .left) in
-    (pre .1, punct-kind 60 (stream (args .s .now) (args .c)) angle)
+    (pre .1, (refl, starts-punct 60 (stream (args .s .now) (args .c)) ∙ angle))
 
 past-requires : tie.Need-past-requires
 past-requires c κs = search needs

@@ -4,7 +4,7 @@ use borrow.Author.Tests.{not-true, not-false}
 use Rattle.token_list.specs.declared.check.Cursor.{Cursor}
 use Rattle.reading.specs.Took.{misfit, gaveOut}
 use Rattle.parse.specs.Contract.{TokenIn, stream}
-use Rattle.parse.proofs.Looks.{punct-kind}
+use Rattle.parse.proofs.Looks.{starts-punct}
 use Rattle.parse.proofs.Meeting.{peeked, punct-of, past-in-of}
 use Rattle.parse.proofs.Places.{token-in}
 use Rattle.parse.proofs.Hashes as hashes
@@ -15,7 +15,7 @@ use Rattle.parse.proofs.attributes.after_hash.Tie as tie
 punct-at-requires : tie.Need-punct-at-requires
 punct-at-requires c κs =
     let d = c .before .before in
-    (d .pre .0, punct-kind 35 (stream (d .args .s .now) (d .args .c)) (d .pre .1))
+    (d .pre .0, (refl, starts-punct 35 (stream (d .args .s .now) (d .args .c)) ∙ d .pre .1))
 
 past-requires : tie.Need-past-requires
 past-requires c κs = search needs

@@ -1,3 +1,4 @@
+use mathlib.Core.Path.{refl}
 use borrow.Author.Needs.{needs}
 use Rattle.parse.proofs.Meeting as meeting
 use Rattle.parse.specs.Contract as contract
@@ -20,10 +21,12 @@ consume-punct-if-requires : tie.Need-consume-punct-if-requires
 consume-punct-if-requires c κs =
     let args = c .before .before .before .before .before .before .before .before .before .before .args in
     let read-tokens-until-punct = c .before .before .before .before .before .before .read-tokens-until-punct in
-    let to = c .before .before .to in
-    meeting.landed
-    (meeting.say (contract.runShown (args .s .now) reading.fieldStops role.type (args .c)) contract.runSaid
-    (to .given .1) (read-tokens-until-punct .ensures))
+    let to = c .before .before .to in (
+      meeting.landed
+          (meeting.say (contract.runShown (args .s .now) reading.fieldStops role.type (args .c)) contract.runSaid
+          (to .given .1) (read-tokens-until-punct .ensures)),
+      refl,
+    )
 
 same-length : tie.Need-same-length
 same-length c = search needs

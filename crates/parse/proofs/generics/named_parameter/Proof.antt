@@ -12,7 +12,7 @@ use Rattle.token_list.specs.Byte.{COLON}
 use Rattle.token_list.specs.Stream.{Trees, end}
 use Prim.Native.Nat.{ℕ}
 use mathlib.Core.List.{List}
-use mathlib.Core.Path.{_≡_, subst}
+use mathlib.Core.Path.{_≡_, refl, subst}
 use borrow.Author.Needs.{needs}
 use Rattle.parse.proofs.generics.named_parameter.Statement.{statement}
 use Rattle.parse.proofs.generics.named_parameter.Tie as tie
@@ -45,9 +45,11 @@ optional-run-requires : tie.Need-optional-run-requires
 optional-run-requires c κs =
     let args = c .before .before .before .before .before .before .before .before .before .before .args in
     let parameter-name = c .before .before .before .before .before .before .parameter-name in
-    let name = c .before .before .name in
-    meeting.landed (meeting.say (contract.nameShown (args .s .now) (contract.point (args .s .now) (args .c)))
-    contract.nameSaid (name .given .1) (parameter-name .ensures))
+    let name = c .before .before .name in (
+      meeting.landed (meeting.say (contract.nameShown (args .s .now) (contract.point (args .s .now) (args .c)))
+          contract.nameSaid (name .given .1) (parameter-name .ensures)),
+      refl,
+    )
 
 enum-known-r-2 : tie.Need-enum-known-r-2
 enum-known-r-2 c = search needs

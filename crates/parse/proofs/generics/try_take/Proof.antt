@@ -4,7 +4,7 @@ use Rattle.token_list.proofs.Texts.{chosen}
 use Rattle.reading.specs.Declaration.{angled}
 use Rattle.reading.specs.Reading.{generics, genericsAfter}
 use Rattle.parse.specs.Contract.{stream}
-use Rattle.parse.proofs.Looks.{punct-kind, no-generics}
+use Rattle.parse.proofs.Looks.{starts-punct, no-generics}
 use Rattle.parse.proofs.Meeting.{stands-row, meets-same, meets-from, meets-map, past-in-of}
 use borrow.Author.Needs.{needs}
 use Rattle.parse.proofs.generics.try_take.Statement.{statement}
@@ -25,7 +25,7 @@ punct-at-requires : tie.Need-punct-at-requires
 punct-at-requires c κs =
     let d = c .before .before .before .before in
     let found = sym (c .before .stands-punct .ensures) ∙ not-false _ (c .if1 .left) in
-    (d .pre, punct-kind 60 (stream (d .args .s .now) (d .args .c)) found)
+    (d .pre, (refl, starts-punct 60 (stream (d .args .s .now) (d .args .c)) ∙ found))
 
 take-token-requires : tie.Need-take-token-requires
 take-token-requires c κs = search needs

@@ -1,3 +1,4 @@
+use mathlib.Core.Path.{refl}
 use Prim.Native.Nat.{_+_}
 use Rattle.reading.specs.Place.{literalRow}
 use Rattle.parse.proofs.Bodies as bodies
@@ -19,11 +20,13 @@ enum-known-v c = search needs
 consume-punct-if-requires : tie.Need-consume-punct-if-requires
 consume-punct-if-requires c κs =
     let args = c .before .before .before .before .before .before .before .before .before .before .args in
-    let optional-value = c .before .before .before .before .before .before .optional-value in
-    meeting.landed
-    (meeting.say (contract.valueShown (args .s .now) (literalRow (args .c .row + 1))) contract.valueSaid
-    ((c .before .before .v) .given .1)
-    (optional-value .ensures))
+    let optional-value = c .before .before .before .before .before .before .optional-value in (
+      meeting.landed
+          (meeting.say (contract.valueShown (args .s .now) (literalRow (args .c .row + 1))) contract.valueSaid
+          ((c .before .before .v) .given .1)
+          (optional-value .ensures)),
+      refl,
+    )
 
 same-length : tie.Need-same-length
 same-length c = search needs

@@ -9,8 +9,8 @@ use borrow.Author.Needs.{needs}
 use Rattle.token_list.proofs.stream.mark.Statement.{statement}
 use Rattle.token_list.proofs.stream.mark.Tie as tie
 
-add-third : tie.Need-add-third
-add-third c = search needs
+add-column : tie.Need-add-column
+add-column c = search needs
 
 shared-slice-read-result : tie.Need-shared-slice-read-result
 shared-slice-read-result c = search needs
@@ -31,14 +31,16 @@ returns-2 c =
     (a .at) (c .before .before .before .pre)
     ∙ and-fails _ _ (ne-eqb _ _ (c .if2 .taken)))
 
+add-start : tie.Need-add-start
+add-start c = search needs
+
 shared-slice-read-result-2 : tie.Need-shared-slice-read-result-2
 shared-slice-read-result-2 c = search needs
 
 returns-3 : tie.Need-returns-3
 returns-3 c =
-    let args = c .before .before .before .before .args in
     let pre = c .before .before .before .before .pre in
-    let a = args in
+    let a = c .before .before .before .before .args in
     sym (ap (λ (m : Bool). markOf m (drop (a .at) (a .s .now))) (c .before .before .before .if1 .left) ∙ own-mark
     (a .s .now) (a .at) pre
     ∙ and-last _ _ (eq-eqb _ _ (c .before .if2 .left)))
@@ -47,10 +49,11 @@ pub mark-spec : {M : Type 1} → statement M
 mark-spec =
     tie.close
     (tie.spec
-    add-third
+    add-column
     shared-slice-read-result
     returns
     shared-slice-read-if2
     returns-2
+    add-start
     shared-slice-read-result-2
     returns-3)

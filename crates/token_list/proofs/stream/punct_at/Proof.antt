@@ -1,95 +1,92 @@
-use Rattle.token_list.proofs.Starts.{list-long}
-use mathlib.Core.Path.{refl, ap, _∙_}
+use mathlib.Core.Path.{_≡_, refl, ap, _∙_}
+use mathlib.Core.Logic.{⊎-elim}
 use mathlib.Core.Bool.{Bool}
+use Prim.Native.Nat.{_+_, _≤_}
 use native.Mathlib.Omega.{arith}
-use lib.ListN.{drop}
+use lib.ListN.{length, drop}
 use Rattle.token_list.specs.Layout.{marked, textOffset}
 use Rattle.token_list.specs.Row.{markOf}
 use Rattle.token_list.proofs.Columns.{offset-low}
-use Rattle.token_list.proofs.Rows.{first-row, text-within}
-use Rattle.token_list.proofs.Streams.{punct-within, punct-here}
-use borrow.Author.Needs.{needs}
+use Rattle.token_list.proofs.Starts.{list-long}
+use Rattle.token_list.proofs.Streams.{punct-text, plain-offset, marked-offset, punct-here}
 use Rattle.token_list.proofs.stream.punct_at.Statement.{statement}
 use Rattle.token_list.proofs.stream.punct_at.Tie as tie
 
+-- its row stands in the list
+within : (c : tie.Start) → c .args .c .at + textOffset (marked (c .args .s .now)) + 2 ≤ length (c .args .s .now)
+within c = punct-text (c .args .s .now) (c .args .c) (c .pre .0) (c .args .b) (c .pre .1 .0) (c .pre .1 .1)
+
+low : (c : tie.Start) → 2 ≤ textOffset (marked (c .args .s .now))
+low c = offset-low (marked (c .args .s .now))
+
+-- whichever names the list has, the next row starts past one byte of text and an LF
+next-row : (c : tie.Joined1) → c .if1 .next ≡
+    c .before .before .before .args .c .at + textOffset (marked (c .before .before .before .args .s .now)) + 2
+next-row c =
+    let start = c .before .before .before in
+    let a = start .args in
+    let p = start .pre in
+    ⊎-elim
+    (λ w. let o = marked-offset (a .s .now) (a .c) (p .0) (a .b) (p .1 .0) (p .1 .1) (w .0 .taken) in
+    omega (arith, w .1, o))
+    (λ w. let o = plain-offset (a .s .now) (a .c) (p .0) (a .b) (p .1 .0) (p .1 .1) (w .0 .left) in
+    omega (arith, w .1, o)) (c .if1 .came)
+
+add-plain : tie.Need-add-plain
+add-plain c = omega (arith, within (c .before), c .before .good)
+
+add-next : tie.Need-add-next
+add-next c = omega (arith, within (c .before), low (c .before), c .before .good)
+
+shared-slice-read-if1 : tie.Need-shared-slice-read-if1
+shared-slice-read-if1 c = omega (arith, within (c .before .before), low (c .before .before))
+
+add-next-2 : tie.Need-add-next-2
+add-next-2 c =
+    let start = c .before .before .before in
+    let a = start .args in
+    let p = start .pre in
+    let o = marked-offset (a .s .now) (a .c) (p .0) (a .b) (p .1 .0) (p .1 .1) (c .if1 .taken) in
+    omega (arith, within start, o, start .good)
+
+sub-end : tie.Need-sub-end
+sub-end c = omega (arith, next-row (c .before))
+
+sub-start : tie.Need-sub-start
+sub-start c = omega (arith, next-row (c .before))
+
 has-marks-requires : tie.Need-has-marks-requires
-has-marks-requires c κs = list-long (c .before .pre .0)
-
-text-offset-requires : tie.Need-text-offset-requires
-text-offset-requires c κs = search needs
-
-add-start : tie.Need-add-start
-add-start c =
-    let a = c .before .before .before .args in
-    let p = (c .before .before .before .pre) in
-    let f = first-row (a .s .now) (a .c .at) (p .0 .rightRows) (punct-within (a .s .now) (a .c) (p .0) (p .1)) in
-    let off = c .text-offset .ensures ∙ ap textOffset (c .before .has-marks .ensures) in
-    omega (arith, text-within _ _ f, off, c .before .before .before .good)
-
-shared-slice-read-first : tie.Need-shared-slice-read-first
-shared-slice-read-first c =
-    let args = c .before .before .before .before .args in
+has-marks-requires c κs =
     let pre = c .before .before .before .before .pre in
-    let a = args in
-    let p = pre in
-    let f = first-row (a .s .now) (a .c .at) (p .0 .rightRows) (punct-within (a .s .now) (a .c) (p .0) (p .1)) in
-    let off = c .before .text-offset .ensures ∙ ap textOffset (c .before .before .has-marks .ensures) in
-    omega (arith, text-within _ _ f, off)
+    list-long (pre .0)
 
 mark-requires : tie.Need-mark-requires
 mark-requires c κs =
-    let args = c .before .before .before .before .args in
-    let pre = c .before .before .before .before .pre in
-    let a = args in
-    let p = pre in
-    let f = first-row (a .s .now) (a .c .at) (p .0 .rightRows) (punct-within (a .s .now) (a .c) (p .0) (p .1)) in
-    omega (arith, text-within _ _ f, offset-low (marked (a .s .now)))
-
-add-end : tie.Need-add-end
-add-end c =
-    let args = c .before .before .before .before .before .args in
-    let good = c .before .before .before .before .before .good in
-    let pre = c .before .before .before .before .before .pre in
-    let a = args in
-    let p = pre in
-    let f = first-row (a .s .now) (a .c .at) (p .0 .rightRows) (punct-within (a .s .now) (a .c) (p .0) (p .1)) in
-    let off = c .before .before .text-offset .ensures ∙ ap textOffset (c .before .before .before .has-marks .ensures) in
-    omega (arith, text-within _ _ f, off, good)
-
-add-next : tie.Need-add-next
-add-next c =
-    let args = c .before .before .before .before .before .args in
-    let good = c .before .before .before .before .before .good in
-    let pre = c .before .before .before .before .before .pre in
-    let a = args in
-    let p = pre in
-    let f = first-row (a .s .now) (a .c .at) (p .0 .rightRows) (punct-within (a .s .now) (a .c) (p .0) (p .1)) in
-    let off = c .before .before .text-offset .ensures ∙ ap textOffset (c .before .before .before .has-marks .ensures) in
-    omega (arith, text-within _ _ f, off, good)
+    let start = c .before .before .before .before .before in
+    omega (arith, within start, low start)
 
 returns : tie.Need-returns
 returns c =
-    let args = c .before .before .before .before .before .args in
-    let pre = c .before .before .before .before .before .pre in
-    let has-marks = c .before .before .before .has-marks in
-    let text-offset = c .before .before .text-offset in
-    let a = args in
-    let p = pre in
+    let start = c .before .before .before .before .before .before in
+    let a = start .args in
+    let p = start .pre in
     let s = a .s .now in
-    let i = a .c .at in
-    let off = text-offset .ensures ∙ ap textOffset (has-marks .ensures) in
-    let joint = c .mark .ensures ∙ ap (λ (m : Bool). markOf m (drop i s)) (has-marks .ensures) in
-    punct-here s (a .c) (p .0) (p .1) _ (text-offset .result) off joint refl refl refl refl refl
+    let next = next-row (c .before .before .before) in
+    let has-marks = c .before .has-marks in
+    let joint = c .mark .ensures ∙ ap (λ (m : Bool). markOf m (drop (a .c .at) s)) (has-marks .ensures) in
+    punct-here s (a .c) (p .0) (a .b) (p .1 .0) (p .1 .1) _ joint refl refl (omega (arith, next))
+    (omega (arith, next)) (omega (arith, next))
 
 pub punct-at-spec : {M : Type 1} → statement M
 punct-at-spec =
     tie.close
     (tie.spec
-    has-marks-requires
-    text-offset-requires
-    add-start
-    shared-slice-read-first
-    mark-requires
-    add-end
+    add-plain
     add-next
+    shared-slice-read-if1
+    add-next-2
+    sub-end
+    sub-start
+    has-marks-requires
+    mark-requires
     returns)

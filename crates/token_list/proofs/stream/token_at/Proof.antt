@@ -31,24 +31,22 @@ add-start c =
 add-next : tie.Need-add-next
 add-next c = search needs
 
-shared-slice-read-first : tie.Need-shared-slice-read-first
-shared-slice-read-first c =
-    let row-end = c .before .before .before .row-end in
-    let off = c .before .text-offset .ensures ∙ ap textOffset (c .before .before .has-marks .ensures) in
-    omega (arith, row-end .ensures .text, row-end .ensures .within, off)
+sub-last : tie.Need-sub-last
+sub-last c = search needs
+
+shared-slice-read-byte : tie.Need-shared-slice-read-byte
+shared-slice-read-byte c = search needs
 
 mark-requires : tie.Need-mark-requires
 mark-requires c κs = search needs
 
 returns : tie.Need-returns
 returns c =
-    let args = c .before .before .before .before .before .before .before .args in
     let pre = c .before .before .before .before .before .before .before .pre in
-    let row-end = c .before .before .before .before .row-end in
     let has-marks = c .before .before .before .has-marks in
     let text-offset = c .before .before .text-offset in
-    let a = args in
-    let e = row-end in
+    let a = c .before .before .before .before .before .before .before .args in
+    let e = c .before .before .before .before .row-end in
     let off = text-offset .ensures ∙ ap textOffset (has-marks .ensures) in
     let joint = c .mark .ensures ∙ ap (λ (m : Bool). markOf m (drop (a .at) (a .s .now))) (has-marks .ensures) in
     token-of (a .s .now) (a .at) (e .result) _ (pre .0) (e .ensures) (text-offset .result) off joint refl refl refl
@@ -64,6 +62,7 @@ token-at-spec =
     text-offset-requires
     add-start
     add-next
-    shared-slice-read-first
+    sub-last
+    shared-slice-read-byte
     mark-requires
     returns)
