@@ -2,7 +2,8 @@
 //! pass over the list's bytes that only counts LFs, and the growth from a quarter of the rows. Every ratio is of two times
 //! measured in this one run. Each input is there once more, with `-joint` behind its name: the same tokens under
 //! the names `kind joint text`. Built by oracle/speed.sh.
-//! usage: speed [ours NAME [TIMES]]: all of it, or our reader alone on one input (100 times), for a count of instructions.
+//! usage: speed [ours [NAME [TIMES]]]: all of it; our reader's nanoseconds a row alone; or our reader on one input (100 times), for
+//! a count of instructions.
 extern crate proc_macro2 as proc_macro;
 
 include!("virtue.rs");
@@ -294,14 +295,23 @@ fn table() {
     }
 }
 
+fn ours_alone() {
+    let inputs = inputs();
+    let times = in_turns(|| inputs.iter().map(|(_, input)| [reading(input, a_byte_a_row)]).collect());
+    for ((name, input), [time]) in inputs.iter().zip(times) {
+        println!("{name} {:.3}", time / input.iter().map(a_byte_a_row).sum::<usize>() as f64);
+    }
+}
+
 fn main() {
     let words: Vec<String> = std::env::args().skip(1).collect();
     let words: Vec<&str> = words.iter().map(String::as_str).collect();
     let (name, times) = match words[..] {
         [] => return table(),
+        ["ours"] => return ours_alone(),
         ["ours", name] => (name, 100),
         ["ours", name, times] => (name, times.parse().expect("TIMES is a number")),
-        _ => panic!("usage: speed [ours NAME [TIMES]]"),
+        _ => panic!("usage: speed [ours [NAME [TIMES]]]"),
     };
     let found = inputs().into_iter().find(|(input, _)| *input == name);
     let (_, input) = found.unwrap_or_else(|| panic!("there is no input {name}"));
