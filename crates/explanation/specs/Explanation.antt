@@ -1,6 +1,6 @@
 -- What is written of a list: for one that is read, a line for each row with its role in words; for a refusal its
 -- number, its place and its meaning, and the rows near the place.
-use mathlib.Core.Bool.{Bool, true, false, cond, _&&_}
+use mathlib.Core.Bool.{Bool, true, cond, _&&_}
 use mathlib.Core.List.{List, [], _∷_, _++_}
 use Prim.Native.Nat.{ℕ, suc, _+_, _-_, _*_}
 use lib.Dec.{leb, eqb}

@@ -4,6 +4,7 @@ use crate::rows::put_roles;
 use crate::words::put_meaning;
 use output::put::put_byte;
 use output::put::put_bytes;
+use output::put::put_names;
 use output::put::put_refusal;
 use report::roles::Roles;
 use report::roles::read_roles;
@@ -17,18 +18,12 @@ ghost use Rattle.reading.specs.Answer.{refused, answer, buffer, readNumber};
 ghost use Rattle.output.specs.Contract.{Put, Printed};
 ghost use Rattle.explanation.specs.Explanation.{namesLine, explanation, MOST};
 
-// The line of names, with the list's own.
-fn put_names(out: &mut [u8], marked: bool) -> usize
+// The columns of what is told, and the list's own.
+fn put_names_line(out: &mut [u8], marked: bool) -> usize
     ensures { λ r. ⌜ Put (now (out .entry)) (now (out .exit)) 0 r (namesLine marked) ⌝ }
 {
-    if marked {
-        return put_bytes(
-            out,
-            0,
-            b" row  role                         kind joint text\n",
-        );
-    }
-    put_bytes(out, 0, b" row  role                         kind text\n")
+    let told = put_bytes(out, 0, b" row  role                         ");
+    put_names(out, told, marked)
 }
 
 // The refusal, what it means, and the rows near its place.
@@ -56,7 +51,7 @@ pub fn report_explanation(list: &[u8], roles: &mut [u8], out: &mut [u8]) -> usiz
     match read_roles(list, roles) {
         Roles::Refused(r) => put_refused(out, list, r),
         Roles::Rows(n) => {
-            let names = put_names(out, is_marked(list));
+            let names = put_names_line(out, is_marked(list));
             put_roles(out, names, list, &roles[..n])
         }
     }

@@ -10,7 +10,6 @@ use token_list::reader::Shown;
 use token_list::reader::next_at;
 use token_list::reader::peek_at;
 ghost use mathlib.Core.Path.{_≡_};
-ghost use Prim.Native.Nat.{_≤_};
 ghost use lib.ListN.{length};
 ghost use Rattle.token_list.specs.Layout.{firstRow};
 ghost use Rattle.token_list.specs.Reader.{bytesFrom};

@@ -4,7 +4,6 @@ use token_list::check::Cursor;
 use token_list::reader::Shown;
 use token_list::reader::next_at;
 use token_list::reader::peek_at;
-ghost use mathlib.Core.Path.{_≡_};
 ghost use Rattle.output.specs.Contract.{Put};
 ghost use Rattle.explanation.specs.Words.{lineOf, roleWords, meaning};
 ghost use Rattle.explanation.specs.Contract.{Sought};

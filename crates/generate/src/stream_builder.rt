@@ -3,6 +3,7 @@
 use output::put::FAR;
 use output::put::put_byte;
 use output::put::put_bytes;
+use output::put::put_names;
 use token_list::check::Cursor;
 use token_list::layout::is_marked;
 use token_list::stream::Token;
@@ -12,7 +13,6 @@ ghost use mathlib.Core.List.{[], _∷_};
 ghost use Prim.Native.Nat.{_≤_};
 ghost use lib.ListN.{length};
 ghost use lib.Seq.{slice};
-ghost use Rattle.token_list.specs.Layout.{names};
 ghost use Rattle.token_list.specs.Row.{markByte, markColumn};
 ghost use Rattle.output.specs.Contract.{further, Put};
 ghost use Rattle.writing.specs.Rows.{ident, punct, lifetimeRows};
@@ -37,16 +37,6 @@ fn counted(rows: usize, n: usize) -> usize
         return FAR;
     }
     rows + n
-}
-
-// The line of names, with marks or without.
-fn put_names(out: &mut [u8], marked: bool) -> usize
-    ensures { λ r. ⌜ Put (now (out .entry)) (now (out .exit)) 0 r (names marked) ⌝ }
-{
-    if marked {
-        return put_bytes(out, 0, b"kind joint text\n");
-    }
-    put_bytes(out, 0, b"kind text\n")
 }
 
 // The byte of a mark.
@@ -88,7 +78,7 @@ impl StreamBuilder {
     pub fn new(out: &mut [u8], marked: bool) -> StreamBuilder
         ensures { λ r. ⌜ Built marked (now (out .entry)) (now (out .exit)) r [] ⌝ }
     {
-        let bytes = put_names(out, marked);
+        let bytes = put_names(out, 0, marked);
         StreamBuilder {
             rows: 0,
             bytes,

@@ -5,6 +5,7 @@ use token_list::check::END;
 use token_list::check::Refusal;
 ghost use Prim.Native.Nat.{_≤_};
 ghost use mathlib.Core.List.{[], _∷_};
+ghost use Rattle.token_list.specs.Layout.{names};
 ghost use Rattle.output.specs.Text.{decimal, placeText, refusalText};
 ghost use Rattle.output.specs.Contract.{Put, Printed};
 
@@ -34,6 +35,16 @@ pub fn put_bytes(out: &mut [u8], at: usize, text: &[u8]) -> usize
         i += 1;
     }
     end
+}
+
+// A list's line of names, with marks or without.
+pub fn put_names(out: &mut [u8], at: usize, marked: bool) -> usize
+    ensures { λ r. ⌜ Put (now (out .entry)) (now (out .exit)) at r (names marked) ⌝ }
+{
+    if marked {
+        return put_bytes(out, at, b"kind joint text\n");
+    }
+    put_bytes(out, at, b"kind text\n")
 }
 
 // The decimal digits of n.

@@ -17,13 +17,11 @@ use Rattle.reading.specs.Reading as reading
 use Rattle.reading.specs.Place.{VariantHead, visibilityAt, startAt, itemNameAt, genericsAt, clauseAt, bodyAt, typeAt}
 use Rattle.reading.specs.Place.{variantNameAt, groupAt, valueRow}
 use Rattle.reading.specs.Answer as answers
-use Rattle.parse.specs.Meets.{Said, on, refusal, stream, point, CursorAt, TokenIn, TextOf, InsideAt}
+use Rattle.parse.specs.Meets.{Said, on, refusal, point, CursorAt, TokenIn, TextOf, InsideAt}
 use Rattle.parse.specs.Parts.{NameAt, RunAt, kindOf, ClauseOf}
 use Rattle.parse.specs.declared.utils.PlacedName.{PlacedName}
 use Rattle.parse.specs.declared.utils.PlacedNameStep.{PlacedNameStep}
 use Rattle.parse.specs.declared.utils.PlacedNameStep.the-variants as placedNames
-use Rattle.parse.specs.declared.runs.Run.{Run}
-use Rattle.parse.specs.declared.runs.RunStep.{RunStep}
 use Rattle.parse.specs.declared.data_type.DataType.{DataType}
 use Rattle.parse.specs.declared.data_type.DataType.the-variants as kinds
 use Rattle.parse.specs.declared.generics.CountStep.{CountStep}

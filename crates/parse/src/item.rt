@@ -24,7 +24,6 @@ use token_list::check::start;
 ghost use mathlib.Core.Path.{_≡_};
 ghost use Prim.Native.Nat.{_-_, _≤_};
 ghost use lib.ListN.{length, replicate};
-ghost use lib.Seq.{sets};
 ghost use Rattle.token_list.specs.Check as list;
 ghost use Rattle.token_list.specs.Contract.{InList};
 ghost use Rattle.reading.specs.Role as role;

@@ -3,6 +3,7 @@ pub mod Frame
 pub mod Rounds
 pub mod Conserved
 pub mod Places
+pub mod ReadingMarks
 pub mod Marks
 pub mod SoundTokens
 pub mod GrammarSound

@@ -17,7 +17,7 @@ use Rattle.reading.specs.Grammar.{Obeys, everything}
 use Rattle.reading.specs.Declaration.{Declaration}
 use Rattle.reading.specs.Took.{Took, took, Cause, stopped}
 use Rattle.reading.specs.Reading.{item}
-use Rattle.reading.specs.Answer.{Answer, declared, refused, itemAnswer, answer, buffer, accepts}
+use Rattle.reading.specs.Answer.{Answer, refused, itemAnswer, answer, buffer, accepts}
 use Rattle.reading.specs.Promise.{OneEach, Assigns, Assignment, SingleAssignment}
 use Rattle.reading.proofs.Frame.{framed-cases}
 use Rattle.reading.proofs.Rounds.{both-roles, same-roles}

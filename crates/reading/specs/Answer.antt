@@ -1,14 +1,14 @@
 -- The whole answer of the reader of declarations, and the whole role buffer (document 01, "What the reader hands
 -- back").
 use mathlib.Core.Bool.{Bool, true, false, cond, _||_}
-use mathlib.Core.List.{List, [], _∷_, _++_}
+use mathlib.Core.List.{List, _++_}
 use Prim.Native.Nat.{ℕ, _-_}
 use lib.Dec.{ltb}
 use lib.ListN.{length, replicate}
 use Rattle.token_list.specs.Layout.{firstRow}
 use Rattle.token_list.specs.Text.{between}
 use Rattle.token_list.specs.Check as list
-use Rattle.token_list.specs.Stream.{Trees, size, at}
+use Rattle.token_list.specs.Stream.{size, at}
 use Rattle.reading.specs.Role as role
 use Rattle.reading.specs.Declaration.{Declaration}
 use Rattle.reading.specs.Took.{Took, took, stopped}

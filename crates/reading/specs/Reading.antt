@@ -1,14 +1,14 @@
 -- What the reader of declarations answers (document 01, "Runs", "Role grammar" and the table of refusals), one
 -- definition for each reader of the Rust. Productions are those of the Rust Reference 1.63.
-use mathlib.Core.Bool.{Bool, true, false, cond, not, _&&_, _||_}
+use mathlib.Core.Bool.{Bool, true, false, cond, _&&_}
 use mathlib.Core.List.{List, [], _∷_, _++_}
-use Prim.Native.Nat.{ℕ, zero, suc, _+_, _-_, _*_}
-use lib.Dec.{leb, ltb, eqb}
-use lib.ListN.{length, replicate}
+use Prim.Native.Nat.{ℕ, zero, suc, _+_, _-_}
+use lib.Dec.{ltb, eqb}
+use lib.ListN.{length}
 use Rattle.token_list.specs.Byte.{HASH, QUOTE, COMMA, MINUS, COLON, SEMICOLON, LESS, EQUALS, GREATER}
 use Rattle.token_list.specs.Byte.{PARENTHESIS, BRACKET, BRACE}
 use Rattle.token_list.specs.Layout.{PUNCT}
-use Rattle.token_list.specs.Text.{same, all, digit, member}
+use Rattle.token_list.specs.Text.{same}
 use Rattle.token_list.specs.Row.{Row, first}
 use Rattle.token_list.specs.Check.{END}
 use Rattle.token_list.specs.Stream.{Trees, end, leaf, group, size}
@@ -21,7 +21,7 @@ use Rattle.reading.specs.Declaration.{lifetime, constant, type, Generics
 use Rattle.reading.specs.Declaration.{unconstrained, constrained, UnnamedField, Field, Fields, unit, named, tuple}
 use Rattle.reading.specs.Declaration.{Value, absent, literal, negative, Variant, Body, fields, variants}
 use Rattle.reading.specs.Declaration.{Declaration}
-use Rattle.reading.specs.Took.{Took, took, stopped, refuse, ranOut, Reader, onward, after, _>>=_, pure, placeOf}
+use Rattle.reading.specs.Took.{Took, took, stopped, refuse, ranOut, Reader, onward, after, _>>=_, pure}
 use Rattle.reading.specs.Took.{wrong}
 
 -- ## Words and punctuation (parse/utils.rs)

@@ -1,5 +1,5 @@
 -- What a reader answers: it takes the first rows of a stream, or refuses.
-use mathlib.Core.List.{List, [], _∷_, _++_}
+use mathlib.Core.List.{List, [], _++_}
 use Prim.Native.Nat.{ℕ, _+_}
 use lib.ListN.{length}
 use Rattle.token_list.specs.Check.{END}

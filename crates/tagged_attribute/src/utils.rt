@@ -24,7 +24,6 @@ ghost use mathlib.Core.List.{[]};
 ghost use Prim.Native.Nat.{ℕ, _+_, _-_, _^_, _<_, _≤_};
 ghost use lib.ListN.{length, replicate};
 ghost use lib.Seq.{sets};
-ghost use Rattle.token_list.specs.Layout.{firstRow};
 ghost use Rattle.token_list.specs.Check as list;
 ghost use Rattle.token_list.specs.Contract.{InList, startOf};
 ghost use Rattle.reading.specs.Role.{none as no-role};

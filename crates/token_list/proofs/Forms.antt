@@ -17,7 +17,7 @@ use Rattle.token_list.specs.Contract.{shape, singleForm, oneByte, formed
 use Rattle.token_list.specs.Contract.{TextShaped, ColumnShaped}
 use Rattle.token_list.specs.declared.row.Line.{Line}
 use Rattle.token_list.proofs.Texts.{chosen, passed-over, only, single-only, first-only, slice-next, slice-none}
-use Rattle.token_list.proofs.Texts.{and-last, and-fails, and-both, and-parts, or-holds}
+use Rattle.token_list.proofs.Texts.{and-last, and-both, and-parts, or-holds}
 use Rattle.token_list.proofs.Lines.{lines-byte, lines-end}
 
 pub ident-form : (k : ℕ) (t : List ℕ) → k ≡ 105 → formOf k t ≡ cond (name t) plain wrong

@@ -11,7 +11,7 @@ use lib.Seq.{slice, slice-empty, take-all}
 use Rattle.token_list.specs.Text.{LF, namePart, printable}
 use Rattle.token_list.specs.Row.{Lines, tail, line, lines, front, byte}
 use Rattle.token_list.specs.Contract.{inText}
-use Rattle.token_list.proofs.Texts.{drop-next, slice-more, slice-next}
+use Rattle.token_list.proofs.Texts.{drop-next, slice-more}
 
 -- bytes in front of the first line
 abbrev pub prepend : List ℕ → Lines → Lines

@@ -2,7 +2,7 @@
 use mathlib.Core.Path.{_≡_, refl, ap, _∙_, sym, subst}
 use mathlib.Core.Bool.{Bool, true, false}
 use mathlib.Core.List.{List, [], _∷_}
-use Prim.Native.Nat.{ℕ, zero, suc, _+_, _-_, _≤_, _<_}
+use Prim.Native.Nat.{ℕ, zero, suc, _+_, _≤_, _<_}
 use native.Mathlib.Numerals.{add-one}
 use native.Mathlib.Omega.{arith}
 use lib.Dec.{eqb}
@@ -10,7 +10,7 @@ use lib.ListN.{length, drop}
 use lib.Seq.{slice, length-slice, drop-drop}
 use Rattle.token_list.specs.Text.{LF}
 use Rattle.token_list.specs.Layout.{NAMES-DIFFER, firstRow}
-use Rattle.token_list.specs.Row.{Lines, tail, line, lines, front, byte, bytesBefore}
+use Rattle.token_list.specs.Row.{Lines, tail, line, lines, byte, bytesBefore}
 use Rattle.token_list.specs.Stream.{rowStart}
 use Rattle.token_list.specs.Contract.{RowEnd, InList}
 use Rattle.token_list.specs.declared.check.Cursor.{Cursor}

@@ -26,8 +26,8 @@ enum-known-n c = search needs
 is-marked-requires : tie.Need-is-marked-requires
 is-marked-requires c κs = search needs
 
-put-names-requires : tie.Need-put-names-requires
-put-names-requires c κs = search needs
+put-names-line-requires : tie.Need-put-names-line-requires
+put-names-line-requires c κs = search needs
 
 slice-reshare-prefix-put-roles : tie.Need-slice-reshare-prefix-put-roles
 slice-reshare-prefix-put-roles c =
@@ -90,11 +90,11 @@ returns-2 c =
     .before .before .before .read-roles in
     let n = c .before .before .before .before .before .before .before .before .before .before .before .n in
     let is-marked = c .before .before .before .before .before .before .before .before .is-marked in
-    let put-names = c .before .before .before .before .before .before .before .put-names in
+    let put-names-line = c .before .before .before .before .before .before .before .put-names-line in
     let f = found (n .given .0 .0) (answer (args .list .now) (length (args .roles .now))) (n .given .1)
     (read-roles .ensures .0) in
     let few = explained-few (args .list .now) (length (args .roles .now)) (f .declaration) _ (f .same) in
-    let p = printed (joined (retold (ap namesLine (is-marked .ensures)) (put-names .ensures))
+    let p = printed (joined (retold (ap namesLine (is-marked .ensures)) (put-names-line .ensures))
     (c .before .before .put-roles .ensures)) (omega (arith, few)) in
     (rw (f .same) p, (read-roles .ensures .1 .0, (omega (arith, p .counted, few), read-roles .ensures .1 .1)))
 
@@ -107,7 +107,7 @@ report-explanation-spec =
     put-refused-requires
     enum-known-n
     is-marked-requires
-    put-names-requires
+    put-names-line-requires
     slice-reshare-prefix-put-roles
     slice-aggregate-put-roles
     put-roles-requires

@@ -1,6 +1,5 @@
 use mathlib.Core.Path.{sym, _∙_}
 use Rattle.token_list.proofs.Texts.{or-last, or-holds}
-use mathlib.Core.Path.{_≡_, sym, _∙_, ap}
 use borrow.Author.Needs.{needs}
 use Rattle.token_list.proofs.row.is_never_raw.Statement.{statement}
 use Rattle.token_list.proofs.row.is_never_raw.Tie as tie

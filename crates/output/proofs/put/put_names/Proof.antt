@@ -1,9 +1,9 @@
 use mathlib.Core.Path.{ap, sym}
+use Rattle.token_list.specs.Layout.{names}
 use Rattle.output.proofs.Texts.{retold}
-use Rattle.explanation.specs.Explanation.{namesLine}
 use borrow.Author.Needs.{needs}
-use Rattle.explanation.proofs.explain.put_names.Statement.{statement}
-use Rattle.explanation.proofs.explain.put_names.Tie as tie
+use Rattle.output.proofs.put.put_names.Statement.{statement}
+use Rattle.output.proofs.put.put_names.Tie as tie
 
 slice-aggregate-put-bytes : tie.Need-slice-aggregate-put-bytes
 slice-aggregate-put-bytes c = search needs
@@ -17,7 +17,7 @@ same-length c = search needs
 returns : tie.Need-returns
 returns c =
     let if1 = c .before .before .before .before .before .if1 in
-    retold (ap namesLine (sym (if1 .taken))) (c .before .before .put-bytes .ensures)
+    retold (ap names (sym (if1 .taken))) (c .before .before .put-bytes .ensures)
 
 slice-aggregate-put-bytes-2 : tie.Need-slice-aggregate-put-bytes-2
 slice-aggregate-put-bytes-2 c = search needs
@@ -31,7 +31,7 @@ same-length-2 c = search needs
 returns-2 : tie.Need-returns-2
 returns-2 c =
     let if1 = c .before .before .before .before .before .if1 in
-    retold (ap namesLine (sym (if1 .left))) (c .before .before .put-bytes2 .ensures)
+    retold (ap names (sym (if1 .left))) (c .before .before .put-bytes2 .ensures)
 
 pub put-names-spec : {M : Type 1} → statement M
 put-names-spec =
