@@ -7,6 +7,7 @@ use Prim.Native.Nat.{ℕ, zero, suc, _+_, _*_, _≤_}
 use native.Mathlib.Omega.{arith}
 use lib.Dec.{eqb}
 use lib.ListN.{length}
+use Rattle.token_list.specs.Byte.{BRACE, COLON, COMMA, EQUALS, GREATER, LESS, MINUS, PARENTHESIS, QUOTE, SEMICOLON}
 use Rattle.token_list.specs.Text.{same}
 use Rattle.token_list.specs.Row.{Row}
 use Rattle.token_list.specs.Stream.{Trees, end, leaf, group, size}
@@ -156,7 +157,7 @@ every-covering {A} {cost} {m} w row ts = again (suc (size ts)) row ts
     again (suc n) row ts = after-covered row (more (rounds n m)) (w row ts) (goes-on (again n))
 
 comma-covering : {A : Type 0} {cost : A → ℕ} (a : A) → Covering (maybe cost) (cost a) (r.comma a)
-comma-covering {cost = cost} a = bind (keeps (cost a) (λ b. conserved.punctIf-conserving b 44 role.separator refl))
+comma-covering {cost = cost} a = bind (keeps (cost a) (λ b. conserved.punctIf-conserving b COMMA role.separator refl))
     (λ t. returned (one a))
 
 -- ## Words and the item's name
@@ -212,28 +213,28 @@ parameterName-covering n p row (group d ts us) = refuses
 lifetimeAfter-covering : (q : ℕ) → Covering parameterCost 1 (r.lifetimeAfter q)
 lifetimeAfter-covering q =
     bind (besides 1 (parameterName-covering 24 q))
-    (λ n. bind (keeps _ (λ b. conserved.optional-run-conserving b 58))
+    (λ n. bind (keeps _ (λ b. conserved.optional-run-conserving b COLON))
     (λ b row ts. covers (lifetime n b) [] ts (omega arith)))
 
 constantAfter-covering : Covering parameterCost 0 r.constantAfter
 constantAfter-covering =
     bind (parameterName-covering 27 65535)
-    (λ n. bind (keeps _ (λ b. conserved.optional-run-conserving b 58)) (λ b. returned _))
+    (λ n. bind (keeps _ (λ b. conserved.optional-run-conserving b COLON)) (λ b. returned _))
 
 typeAfter-covering : (n : List ℕ) → Covering parameterCost (nameCost n) (r.typeAfter n)
-typeAfter-covering n = bind (keeps _ (λ b. conserved.punctIf-conserving b 58 role.separator refl)) runs
+typeAfter-covering n = bind (keeps _ (λ b. conserved.punctIf-conserving b COLON role.separator refl)) runs
   where
     runs : (t : Bool) → Covering parameterCost (nameCost n) (r.typeRuns n t)
     runs true = bind (keeps _ (λ b. conserved.run-conserving b r.parameterStops role.bound refl)) (λ b. returned _)
-    runs false = bind (keeps _ (λ b. conserved.optional-run-conserving b 61)) (λ d. returned _)
+    runs false = bind (keeps _ (λ b. conserved.optional-run-conserving b EQUALS)) (λ d. returned _)
 
 parameter-covering : (angle : ℕ) → Covering (maybe parameterCost) 0 (r.parameter angle)
 parameter-covering angle row end = refuses
 parameter-covering angle row (group d ts us) = refuses
 parameter-covering angle row (leaf q us) =
-    choice (r.isPunct 39 q)
+    choice (r.isPunct QUOTE q)
     (from-covered role.parameter-name row q us (omega arith) (bind (lifetimeAfter-covering row) comma-covering))
-    (choice (r.isPunct 62 q) (one-row role.angle q us (omega arith))
+    (choice (r.isPunct GREATER q) (one-row role.angle q us (omega arith))
     (choice (r.isWord r.CONST q) (from-covered role.parameter-name row q us (omega arith)
     (bind constantAfter-covering comma-covering))
     (choice (r.isIdent q) (from-covered role.parameter-name row q us (omega arith)
@@ -243,7 +244,7 @@ generics-covering : Covering (λ g. total parameterCost (parametersOf g)) 0 r.ge
 generics-covering row end = nothing-taken (omega arith)
 generics-covering row (group d ts us) = nothing-taken (omega arith)
 generics-covering row (leaf q us) =
-    choice (r.isPunct 60 q)
+    choice (r.isPunct LESS q)
     (from-covered role.angle row q us (omega arith)
     (bind (every-covering (parameter-covering row)) (λ ps. returned _)))
     (nothing-taken (omega arith))
@@ -258,7 +259,7 @@ fieldStart-covering a v row (leaf q us) =
   where
     rest : (n : List ℕ) → Covering (maybe fieldCost) (nameCost n) (r.fieldAfter a v n)
     rest n =
-        bind (keeps _ (λ b. conserved.punctIf-conserving b 58 role.separator refl))
+        bind (keeps _ (λ b. conserved.punctIf-conserving b COLON role.separator refl))
         (λ t. bind (keeps _ (λ b. conserved.must-conserving b 23 t refl))
         (λ u. bind (keeps _ (λ b. conserved.run-conserving b r.fieldStops role.type refl))
         (λ f. comma-covering _)))
@@ -288,8 +289,8 @@ variantFields-covering : Covering fieldsCost 0 r.variantFields
 variantFields-covering row end = nothing-taken (omega arith)
 variantFields-covering row (leaf q us) = nothing-taken (omega arith)
 variantFields-covering row (group d ts us) =
-    choice (eqb d 123) (enclosed-covered row d ts us namedFields-covering)
-    (choice (eqb d 40) (enclosed-covered row d ts us tupleFields-covering) refuses)
+    choice (eqb d BRACE) (enclosed-covered row d ts us namedFields-covering)
+    (choice (eqb d PARENTHESIS) (enclosed-covered row d ts us tupleFields-covering) refuses)
 
 -- ## Values
 
@@ -308,14 +309,14 @@ discriminant-covering row end = refuses
 discriminant-covering row (group d ts us) = refuses
 discriminant-covering row (leaf q us) =
     choice (r.isLiteral q) (one-row role.value q us (omega arith))
-    (choice (r.isPunct 45 q) (from-covered role.value row q us (omega arith) negativeValue-covering) refuses)
+    (choice (r.isPunct MINUS q) (from-covered role.value row q us (omega arith) negativeValue-covering) refuses)
 
 valueIf-covering : Covering valueCost 0 r.valueIf
 valueIf-covering row end = nothing-taken (omega arith)
 valueIf-covering row (group d ts us) = refuses
 valueIf-covering row (leaf q us) =
-    choice (r.isPunct 61 q) (from-covered role.separator row q us (omega arith) discriminant-covering)
-    (choice (r.isPunct 44 q) (nothing-taken (omega arith)) refuses)
+    choice (r.isPunct EQUALS q) (from-covered role.separator row q us (omega arith) discriminant-covering)
+    (choice (r.isPunct COMMA q) (nothing-taken (omega arith)) refuses)
 
 -- ## Variants and bodies
 
@@ -335,14 +336,14 @@ variant-covering row (group d ts us) = variantHere-covering row (group d ts us)
 
 structBody-covering : Covering bodyCost 0 r.structBody
 structBody-covering row end = refuses
-structBody-covering row (leaf q us) = choice (r.isPunct 59 q) (one-row role.delimiter q us (omega arith)) refuses
+structBody-covering row (leaf q us) = choice (r.isPunct SEMICOLON q) (one-row role.delimiter q us (omega arith)) refuses
 structBody-covering row (group d ts us) =
-    choice (eqb d 123) (enclosed-covered row d ts us (bind namedFields-covering (λ f. returned _)))
-    (choice (eqb d 40) (enclosed-covered row d ts us (bind tupleFields-covering (λ f. returned _))) refuses)
+    choice (eqb d BRACE) (enclosed-covered row d ts us (bind namedFields-covering (λ f. returned _)))
+    (choice (eqb d PARENTHESIS) (enclosed-covered row d ts us (bind tupleFields-covering (λ f. returned _))) refuses)
 
 enumBody-covering : Covering bodyCost 0 r.enumBody
 enumBody-covering row end = refuses
-enumBody-covering row (leaf q us) = choice (r.isPunct 59 q) (one-row role.delimiter q us (omega arith)) refuses
+enumBody-covering row (leaf q us) = choice (r.isPunct SEMICOLON q) (one-row role.delimiter q us (omega arith)) refuses
 enumBody-covering row (group d ts us) =
     enclosed-covered row d ts us (bind (every-covering variant-covering) (λ vs. returned _))
 

@@ -5,6 +5,7 @@ use mathlib.Core.List.{List, [], _∷_, _++_, append-assoc, append-nil}
 use Prim.Native.Nat.{ℕ, suc, _+_, _-_, _≤_, _<_}
 use native.Mathlib.Omega.{arith}
 use lib.ListN.{length, length-append}
+use Rattle.token_list.specs.Byte.{LF, QUOTE, SPACE}
 use Rattle.token_list.specs.Contract.{InList}
 use Rattle.token_list.specs.declared.check.Cursor.{Cursor}
 use Rattle.output.specs.Contract.{FAR, Put}
@@ -30,9 +31,9 @@ use Rattle.parse.proofs.Inside.{inside-more, inside-done, inside-refused, forwa
 
 -- a part and a name, and the rest of the line
 pub put-line : {k l m : List ℕ} {h i j : ℕ} (part name number : List ℕ) → Put k l h i (part ++ name) →
-    Put l m i j (32 ∷ (number ++ 10 ∷ [])) → Put k m h j (line part name number)
+    Put l m i j (SPACE ∷ (number ++ LF ∷ [])) → Put k m h j (line part name number)
 unfolding line
-put-line part name number p q = put-as (sym (append-assoc part name (32 ∷ (number ++ 10 ∷ [])))) (joined p q)
+put-line part name number p q = put-as (sym (append-assoc part name (SPACE ∷ (number ++ LF ∷ [])))) (joined p q)
 
 numbered-more : {A : Type 0} (f : ℕ → A → List ℕ) (k : ℕ) (ys : List A) (a : A) →
     numbered f k (ys ++ a ∷ []) ≡ numbered f k ys ++ f (k + length ys) a
@@ -189,7 +190,7 @@ turn q {s} {c} e w = meeting.say (q .shown s c) (q .said) e w
 
 -- ## Parameters
 
-pub quoted : (a : Parameter) → isLifetime (parameterKind a) ≡ true → parameterName a ≡ 39 ∷ parameterText a
+pub quoted : (a : Parameter) → isLifetime (parameterKind a) ≡ true → parameterName a ≡ QUOTE ∷ parameterText a
 quoted (lifetime n b) e = refl
 quoted (constant n t) e = absurd (false≢true e)
 quoted (type n b d) e = absurd (false≢true e)

@@ -4,6 +4,7 @@ use mathlib.Core.Bool.{Bool, true, false, cond}
 use mathlib.Core.List.{List, []}
 use Prim.Native.Nat.{ℕ, _+_}
 use lib.Dec.{eqb}
+use Rattle.token_list.specs.Byte.{BRACE, PARENTHESIS, SEMICOLON}
 use Rattle.token_list.specs.Stream.{Trees, end, leaf, group, at}
 use Rattle.token_list.specs.Contract.{LeafAt, GroupAt, rowOf}
 use Rattle.token_list.specs.declared.check.Cursor.{Cursor}
@@ -43,10 +44,10 @@ struct-fields : (row : ℕ) (ts : Trees) {b : declaration.Body} {rs : List ℕ} 
     reading.structBody row ts ≡ took b rs us → (f : declaration.Fields) × (b ≡ declaration.fields f)
 struct-fields row end e = took-not-refuse e
 struct-fields row (leaf r us) e =
-    either (reading.isPunct 59 r) (λ h. (declaration.unit, sym (took-value h))) took-not-refuse e
+    either (reading.isPunct SEMICOLON r) (λ h. (declaration.unit, sym (took-value h))) took-not-refuse e
 struct-fields row (group d ts us) e =
-    either (eqb d 123) (λ h. let w = within reading.namedFields declaration.fields row ts us h in (w .0, w .1))
-    (either (eqb d 40) (λ h. let w = within reading.tupleFields declaration.fields row ts us h in (w .0, w .1))
+    either (eqb d BRACE) (λ h. let w = within reading.namedFields declaration.fields row ts us h in (w .0, w .1))
+    (either (eqb d PARENTHESIS) (λ h. let w = within reading.tupleFields declaration.fields row ts us h in (w .0, w .1))
     took-not-refuse) e
 
 pub struct-value : {s : List ℕ} {c : Cursor} {b : declaration.Body} (k : ℕ) → InsideAt reading.structBody s c b →
@@ -74,7 +75,7 @@ module _ {s : List ℕ} {c : Cursor} {b : declaration.Body} (i : InsideAt readin
   -- or `;`
   pub enum-leaf : (t : Token) → LeafAt s (c .at) t → b ≡ declaration.variants []
   enum-leaf t l =
-      either (reading.isPunct 59 (rowOf s t)) (λ h. sym (took-value h)) took-not-refuse
+      either (reading.isPunct SEMICOLON (rowOf s t)) (λ h. sym (took-value h)) took-not-refuse
       (ap (reading.enumBody (c .row)) (sym (l .here)) ∙ i .gives)
 
   pub enum-end : {B : Type 0} → stream s c ≡ end → B
@@ -91,7 +92,7 @@ module _ {s : List ℕ} {c : Cursor} {b : declaration.Body} (i : InsideAt readin
   -- a struct's body is a group of fields
   pub struct-group : (t : Token) (d : Cursor) → GroupAt s (c .at) t → d ≡ pastOf c t → (f : declaration.Fields) ×
       (b ≡ declaration.fields f) × StructAt s (t .byte) d f
-  struct-group t d g e = go (eqb (t .byte) 123) (ap (reading.structBody (c .row)) (sym (g .here)) ∙ i .gives)
+  struct-group t d g e = go (eqb (t .byte) BRACE) (ap (reading.structBody (c .row)) (sym (g .here)) ∙ i .gives)
     where
       here : {A : Type 0} (m : Reader A) {a : A} {qs : List ℕ} {ws : Trees} →
           m (c .row + 1) (at s (t .next) .here) ≡ took a qs ws → InsideAt m s d a
@@ -102,7 +103,7 @@ module _ {s : List ℕ} {c : Cursor} {b : declaration.Body} (i : InsideAt readin
       go : (z : Bool)
           → cond z
           (reading.enclosed (reading.structFields reading.namedFields) (c .row) (at s (t .next) .here) (g .after))
-          (cond (eqb (t .byte) 40)
+          (cond (eqb (t .byte) PARENTHESIS)
           (reading.enclosed (reading.structFields reading.tupleFields) (c .row) (at s (t .next) .here) (g .after))
           (refuse 17 (c .row)))
           ≡ took b (i .roles) (i .rest)
@@ -113,7 +114,7 @@ module _ {s : List ℕ} {c : Cursor} {b : declaration.Body} (i : InsideAt readin
           (at s (t .next) .here)) (w .4) in
           (w .0, w .1, (v .0, v .1, here (reading.every reading.namedField) (v .4)))
       go false h =
-          either (eqb (t .byte) 40)
+          either (eqb (t .byte) PARENTHESIS)
           (λ h.
           let w = within reading.tupleFields declaration.fields (c .row) (at s (t .next) .here) (g .after) h in
           let v = made declaration.tuple (c .row + 1) (reading.every reading.tupleField (c .row + 1)
@@ -123,7 +124,7 @@ module _ {s : List ℕ} {c : Cursor} {b : declaration.Body} (i : InsideAt readin
 
   pub struct-leaf : (t : Token) → LeafAt s (c .at) t → b ≡ declaration.fields declaration.unit
   struct-leaf t l =
-      either (reading.isPunct 59 (rowOf s t)) (λ h. sym (took-value h)) took-not-refuse
+      either (reading.isPunct SEMICOLON (rowOf s t)) (λ h. sym (took-value h)) took-not-refuse
       (ap (reading.structBody (c .row)) (sym (l .here)) ∙ i .gives)
 
   pub struct-end : {B : Type 0} → stream s c ≡ end → B

@@ -6,6 +6,7 @@ use Prim.Native.Nat.{ℕ, _+_}
 use native.Mathlib.Omega.{arith}
 use borrow.Author.Tests.{eq-eqb, ne-eqb}
 use lib.ListN.{length, set, length-replicate}
+use Rattle.token_list.specs.Byte.{BRACKET, HASH}
 use Rattle.token_list.specs.Check.{END}
 use Rattle.token_list.specs.Stream.{Trees, end, head, at}
 use Rattle.token_list.specs.Contract.{InList, LeafAt, GroupAt, rowOf}
@@ -23,9 +24,9 @@ module _ (s : List ℕ) (c : Cursor) (inList : InList s c) (t : Token) (l : Leaf
   abbrev here : Took (List Trees)
   here = attributes (c .row) (stream s c)
 
-  module _ (e : starts (isPunct 35) (stream s c) ≡ true) (d : Cursor) (p : d ≡ pastOf c t) where
+  module _ (e : starts (isPunct HASH) (stream s c) ≡ true) (d : Cursor) (p : d ≡ pastOf c t) where
     past-hash : (us : Trees) → stream s d ≡ us → here ≡ afterHash (c .row) us
-    past-hash us q = ap (attributes (c .row)) (leaf-then s c d t us l p q) ∙ chosen _ _ _ (stands-row 35 l e)
+    past-hash us q = ap (attributes (c .row)) (leaf-then s c d t us l p q) ∙ chosen _ _ _ (stands-row HASH l e)
 
     pub hash-end : stream s d ≡ end → here ≡ ranOut 13 END
     hash-end q = past-hash end q
@@ -34,10 +35,10 @@ module _ (s : List ℕ) (c : Cursor) (inList : InList s c) (t : Token) (l : Leaf
     below = ap (λ (x : Cursor). x .row) p
 
     module _ (q : Token) (n : LeafAt s (d .at) q) where
-      pub hash-other : isPunct 35 (rowOf s q) ≡ false → here ≡ refuse 13 (d .row)
+      pub hash-other : isPunct HASH (rowOf s q) ≡ false → here ≡ refuse 13 (d .row)
       hash-other f = past-hash _ (n .here) ∙ passed-over _ _ _ f ∙ ap (λ (n : ℕ). refuse 13 n) (sym below)
 
-      pub hash-idle : (b0 b1 : List ℕ) → b1 ≡ set b0 (c .row) 3 → isPunct 35 (rowOf s q) ≡ true →
+      pub hash-idle : (b0 b1 : List ℕ) → b1 ≡ set b0 (c .row) 3 → isPunct HASH (rowOf s q) ≡ true →
           Gained s c d b0 b1 [] here (attributes (d .row) (stream s d))
       hash-idle b0 b1 w f =
           record {
@@ -56,11 +57,11 @@ module _ (s : List ℕ) (c : Cursor) (inList : InList s c) (t : Token) (l : Leaf
       abbrev aft : Trees
       aft = head (at s (q .next) .outer)
 
-      pub hash-wrong : (q .byte ≡ 91 → ⊥) → here ≡ refuse 12 (d .row)
+      pub hash-wrong : (q .byte ≡ BRACKET → ⊥) → here ≡ refuse 12 (d .row)
       hash-wrong f = past-hash _ (group-stream s d q k g) ∙ passed-over _ _ _ (ne-eqb _ _ f) ∙
           ap (λ (n : ℕ). refuse 12 n) (sym below)
 
-      pub hash-group : (b0 b1 b2 : List ℕ) (x : Cursor) → q .byte ≡ 91 → b1 ≡ set b0 (c .row) 1 →
+      pub hash-group : (b0 b1 b2 : List ℕ) (x : Cursor) → q .byte ≡ BRACKET → b1 ≡ set b0 (c .row) 1 →
           Moved s d x (copied 2 ins) aft b1 b2
           → Gained s c x b0 b2 (ins ∷ []) here (attributes (x .row) (stream s x))
       hash-group b0 b1 b2 x f w m =

@@ -4,6 +4,8 @@ use mathlib.Core.Bool.{Bool, true, false, _&&_}
 use mathlib.Core.List.{List, [], _∷_}
 use Prim.Native.Nat.{ℕ}
 use borrow.Author.Tests.{ne-eqb}
+use Rattle.token_list.specs.Layout.{OPEN}
+use Rattle.token_list.specs.Byte.{HASH, LESS, code}
 use Rattle.token_list.specs.Text.{same}
 use Rattle.token_list.specs.Row.{first}
 use Rattle.token_list.specs.Stream.{Trees, end, leaf, group, firstKind, firstByte, startsPunct}
@@ -29,26 +31,26 @@ no-punct b n row end e = refl
 no-punct b n row (leaf r us) e = passed-over _ _ _ e
 no-punct b n row (group d ts us) e = refl
 
-pub no-attribute : (row : ℕ) (ts : Trees) → starts (isPunct 35) ts ≡ false → attributes row ts ≡ took [] [] ts
+pub no-attribute : (row : ℕ) (ts : Trees) → starts (isPunct HASH) ts ≡ false → attributes row ts ≡ took [] [] ts
 no-attribute row end e = refl
 no-attribute row (leaf r us) e = passed-over _ _ _ e
 no-attribute row (group d ts us) e = refl
 
-pub no-generics : (row : ℕ) (ts : Trees) → starts (isPunct 60) ts ≡ false → generics row ts ≡ took without [] ts
+pub no-generics : (row : ℕ) (ts : Trees) → starts (isPunct LESS) ts ≡ false → generics row ts ≡ took without [] ts
 no-generics row end e = refl
 no-generics row (leaf r us) e = passed-over _ _ _ e
 no-generics row (group d ts us) e = refl
 
 -- a text that does not begin with `p`
-no-pub : (t : List ℕ) → (first t ≡ 112 → ⊥) → same t PUB ≡ false
+no-pub : (t : List ℕ) → (first t ≡ code "p" → ⊥) → same t PUB ≡ false
 no-pub [] n = refl
-no-pub (b ∷ t) n = and-fails _ _ (ne-eqb b 112 n)
+no-pub (b ∷ t) n = and-fails _ _ (ne-eqb b (code "p") n)
 
 last-fails : (a b : Bool) → b ≡ false → (a && b) ≡ false
 last-fails true b e = e
 last-fails false b e = refl
 
-pub no-visibility : (row : ℕ) (ts : Trees) → (firstKind ts ≡ 111 → ⊥) → (firstByte ts ≡ 112 → ⊥) →
+pub no-visibility : (row : ℕ) (ts : Trees) → (firstKind ts ≡ OPEN → ⊥) → (firstByte ts ≡ code "p" → ⊥) →
     visibility row ts ≡ took default [] ts
 no-visibility row end k m = refl
 no-visibility row (leaf r us) k m = passed-over _ _ _ (last-fails (isIdent r) _ (no-pub (r .text) m))

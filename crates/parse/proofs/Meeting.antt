@@ -7,6 +7,7 @@ use native.Mathlib.Omega.{arith}
 use lib.Dec.{eqb}
 use lib.ListN.{length, set, replicate, length-append, length-replicate}
 use lib.Seq.{sets, length-sets}
+use Rattle.token_list.specs.Layout.{PUNCT}
 use Rattle.token_list.specs.Row.{Row}
 use Rattle.token_list.specs.Stream.{Trees, end, leaf, group, size, head, others, follows, at}
 use Rattle.token_list.specs.Contract.{InList, TokenAt, LeafAt, GroupAt, Skipped, rowOf, stands as standsAt}
@@ -286,7 +287,7 @@ leaf-then s c d t us l e n = l .here ∙ ap (leaf (rowOf s t)) (sym (ap (λ (x :
 
 -- the test for a punctuation, on the token
 pub punct-of : (s : List ℕ) (i : ℕ) (t : Token) (b : ℕ) → TokenAt s i t →
-    isPunct b (rowOf s t) ≡ (eqb (t .kind) 112 && eqb (t .byte) b)
+    isPunct b (rowOf s t) ≡ (eqb (t .kind) PUNCT && eqb (t .byte) b)
 punct-of s i t b k = byte-of s i t k (λ (p : Bool) (x : ℕ). p && eqb x b) (λ x y. refl)
 
 -- the same on the stream, where the token stands

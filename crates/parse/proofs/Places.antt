@@ -5,6 +5,7 @@ use mathlib.Core.List.{List, [], _∷_}
 use Prim.Native.Nat.{ℕ, _+_}
 use native.Mathlib.Omega.{arith}
 use lib.ListN.{length, length-replicate}
+use Rattle.token_list.specs.Byte.{QUOTE}
 use Rattle.token_list.specs.Stream.{Trees, end, leaf, group, head, at}
 use Rattle.token_list.specs.Contract.{InList, TokenAt, LeafAt, GroupAt, rowOf}
 use Rattle.token_list.specs.declared.check.Cursor.{Cursor}
@@ -104,15 +105,15 @@ module _ (s : List ℕ) (c d : Cursor) (t : Token) (i : InList s c) (l : LeafAt 
       ap (λ (ts : Trees). cond (starts beforeName ts) (pastToken (point s c)) (point s c)) (l .here) ∙
       ap (λ (x : Bool). cond x (pastToken (point s c)) (point s c)) q
 
-  pub after-quote : d ≡ pastOf c t → isPunct 39 (rowOf s t) ≡ true → point s d ≡ parameterNameAt (point s c)
+  pub after-quote : d ≡ pastOf c t → isPunct QUOTE (rowOf s t) ≡ true → point s d ≡ parameterNameAt (point s c)
   after-quote e q =
       token-past s c d t i l e .here ∙ sym (name-at (ap (λ (b : Bool). b || isWord CONST (rowOf s t)) q))
 
-  pub after-const : d ≡ pastOf c t → isPunct 39 (rowOf s t) ≡ false → isWord CONST (rowOf s t) ≡ true →
+  pub after-const : d ≡ pastOf c t → isPunct QUOTE (rowOf s t) ≡ false → isWord CONST (rowOf s t) ≡ true →
       point s d ≡ parameterNameAt (point s c)
   after-const e q r = token-past s c d t i l e .here ∙ sym (name-at (λ j. q j || r j))
 
-  pub name-itself : isPunct 39 (rowOf s t) ≡ false → isWord CONST (rowOf s t) ≡ false →
+  pub name-itself : isPunct QUOTE (rowOf s t) ≡ false → isWord CONST (rowOf s t) ≡ false →
       point s c ≡ parameterNameAt (point s c)
   name-itself q r = sym (name-at (λ j. q j || r j))
 

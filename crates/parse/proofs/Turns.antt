@@ -6,6 +6,8 @@ use Prim.Native.Nat.{ℕ, _+_, _-_, _≤_}
 use native.Mathlib.Omega.{arith}
 use lib.Dec.{eqb}
 use lib.ListN.{length, set}
+use Rattle.token_list.specs.Layout.{PUNCT}
+use Rattle.token_list.specs.Byte.{COMMA, GREATER, LESS, MINUS}
 use Rattle.token_list.specs.Row.{Row, first}
 use Rattle.token_list.specs.Stream.{Trees, end, leaf, head, at}
 use Rattle.token_list.specs.Contract.{InList, TokenAt, LeafAt, GroupAt, rowOf}
@@ -25,7 +27,7 @@ use Rattle.parse.proofs.Meeting.{leaf-belonged, group-belonged, group-s
 use Rattle.parse.proofs.Places.{meets-beyond}
 
 pub judge-of : (st : Stops) (depth : ℕ) (m : Bool) (s : List ℕ) (i : ℕ) (t : Token) → TokenAt s i t
-    → judge st depth m (rowOf s t) ≡ cond (eqb (t .kind) 112) (judgePunct st depth m (t .byte)) (belongs depth false)
+    → judge st depth m (rowOf s t) ≡ cond (eqb (t .kind) PUNCT) (judgePunct st depth m (t .byte)) (belongs depth false)
 judge-of st depth m s i t k =
     byte-of s i t k (λ (p : Bool) (b : ℕ). cond p (judgePunct st depth m b) (belongs depth false)) (λ x y. refl)
 
@@ -38,15 +40,16 @@ depthOf unopened = 0
 deepened : (st : Stops) (depth : ℕ) (m : Bool) (r : Row) → depthOf (judge st depth m r) ≤ depth + 1
 unfolding depthOf
 deepened st depth m r =
-    go (eqb (r .kind) 112) (m && eqb (first (r .text)) 62) (eqb (first (r .text)) 60) (eqb (first (r .text)) 62)
+    go (eqb (r .kind) PUNCT) (m && eqb (first (r .text)) GREATER) (eqb (first (r .text)) LESS)
+    (eqb (first (r .text)) GREATER)
     (eqb depth 0) (st .angle)
-    (eqb (first (r .text)) 44 && (eqb depth 0 && st .comma))
+    (eqb (first (r .text)) COMMA && (eqb depth 0 && st .comma))
   where
     go : (p a o c z x k : Bool)
         → depthOf
         (cond p (cond a (belongs depth false) (cond o (belongs (depth + 1) false)
         (cond c (cond z (cond x (ends atAngle) unopened) (belongs (depth - 1) false))
-        (cond k (ends atComma) (belongs depth (eqb (first (r .text)) 45)))))) (belongs depth false)) ≤ depth + 1
+        (cond k (ends atComma) (belongs depth (eqb (first (r .text)) MINUS)))))) (belongs depth false)) ≤ depth + 1
     go false a o c z x k = omega arith
     go true true o c z x k = omega arith
     go true false true c z x k = omega arith

@@ -7,6 +7,8 @@ use Prim.Native.Nat.{ℕ, _+_, _-_}
 use borrow.Author.Tests.{eqb-true}
 use lib.Dec.{eqb}
 use lib.ListN.{length}
+use Rattle.token_list.specs.Layout.{IDENT, LITERAL, PUNCT}
+use Rattle.token_list.specs.Byte.{BRACKET, COMMA, GREATER, HASH, LESS, MINUS}
 use Rattle.token_list.specs.Text.{same}
 use Rattle.token_list.specs.Row.{Row, first}
 use Rattle.token_list.specs.Stream.{Trees, end, leaf, group}
@@ -81,19 +83,20 @@ and-pure {us = us} {rs = rs} f h k = with-roles (append-nil rs) (and-then h (λ 
 pub eqb-other : (x a b : ℕ) → eqb x a ≡ true → eqb a b ≡ false → eqb x b ≡ false
 eqb-other x a b e f = ap (λ (y : ℕ). eqb y b) (eqb-true x a e) ∙ f
 
-punct-parts : (b : ℕ) (q : Row) → isPunct b q ≡ true → (eqb (q .kind) 112 ≡ true) × (eqb (first (q .text)) b ≡ true)
-punct-parts b q e = and-parts (eqb (q .kind) 112) (eqb (first (q .text)) b) e
+punct-parts : (b : ℕ) (q : Row) → isPunct b q ≡ true → (eqb (q .kind) PUNCT ≡ true) × (eqb (first (q .text)) b ≡ true)
+punct-parts b q e = and-parts (eqb (q .kind) PUNCT) (eqb (first (q .text)) b) e
 
 pub punct-other : (a b : ℕ) (q : Row) → isPunct a q ≡ true → eqb a b ≡ false → isPunct b q ≡ false
 punct-other a b q e f =
     let p = punct-parts a q e in
-    and-last (eqb (q .kind) 112) (eqb (first (q .text)) b) (p .0) ∙ eqb-other (first (q .text)) a b (p .1) f
+    and-last (eqb (q .kind) PUNCT) (eqb (first (q .text)) b) (p .0) ∙ eqb-other (first (q .text)) a b (p .1) f
 
 pub ident-no-punct : (b : ℕ) (q : Row) → isIdent q ≡ true → isPunct b q ≡ false
-ident-no-punct b q e = and-fails (eqb (q .kind) 112) (eqb (first (q .text)) b) (eqb-other (q .kind) 105 112 e refl)
+ident-no-punct b q e =
+    and-fails (eqb (q .kind) PUNCT) (eqb (first (q .text)) b) (eqb-other (q .kind) IDENT PUNCT e refl)
 
 pub punct-no-literal : (b : ℕ) (q : Row) → isPunct b q ≡ true → isLiteral q ≡ false
-punct-no-literal b q e = eqb-other (q .kind) 112 108 (punct-parts b q e .0) refl
+punct-no-literal b q e = eqb-other (q .kind) PUNCT LITERAL (punct-parts b q e .0) refl
 
 -- ## Runs
 
@@ -108,46 +111,49 @@ judging depth minus k lt gt co z cm ang mi =
     (belongs depth false)
 
 module _ (st : Stops) (depth : ℕ) (q : Row) where
-  judged-by : {k lt gt co z cm ang : Bool} (minus : Bool) → eqb (q .kind) 112 ≡ k → eqb (first (q .text)) 60 ≡ lt →
-      eqb (first (q .text)) 62 ≡ gt
-      → eqb (first (q .text)) 44 ≡ co
+  judged-by : {k lt gt co z cm ang : Bool} (minus : Bool) → eqb (q .kind) PUNCT ≡ k → eqb (first (q .text)) LESS ≡ lt →
+      eqb (first (q .text)) GREATER ≡ gt
+      → eqb (first (q .text)) COMMA ≡ co
       → eqb depth 0 ≡ z → st .comma ≡ cm → st .angle ≡ ang →
-      r.judge st depth minus q ≡ judging depth minus k lt gt co z cm ang (eqb (first (q .text)) 45)
+      r.judge st depth minus q ≡ judging depth minus k lt gt co z cm ang (eqb (first (q .text)) MINUS)
   judged-by minus a b c d e f h =
-      λ i. judging depth minus (a i) (b i) (c i) (d i) (e i) (f i) (h i) (eqb (first (q .text)) 45)
+      λ i. judging depth minus (a i) (b i) (c i) (d i) (e i) (f i) (h i) (eqb (first (q .text)) MINUS)
 
-  judge-arrow : isPunct 62 q ≡ true → r.judge st depth true q ≡ belongs depth false
-  judge-arrow e = let p = punct-parts 62 q e in judged-by true (p .0) refl (p .1) refl refl refl refl
+  judge-arrow : isPunct GREATER q ≡ true → r.judge st depth true q ≡ belongs depth false
+  judge-arrow e = let p = punct-parts GREATER q e in judged-by true (p .0) refl (p .1) refl refl refl refl
 
-  judge-deeper : (minus : Bool) → isPunct 60 q ≡ true → r.judge st depth minus q ≡ belongs (depth + 1) false
-  judge-deeper true e = let p = punct-parts 60 q e in judged-by true (p .0) (p .1)
-      (eqb-other (first (q .text)) 60 62 (p .1) refl) refl refl refl refl
-  judge-deeper false e = let p = punct-parts 60 q e in judged-by false (p .0) (p .1) refl refl refl refl refl
+  judge-deeper : (minus : Bool) → isPunct LESS q ≡ true → r.judge st depth minus q ≡ belongs (depth + 1) false
+  judge-deeper true e = let p = punct-parts LESS q e in judged-by true (p .0) (p .1)
+      (eqb-other (first (q .text)) LESS GREATER (p .1) refl) refl refl refl refl
+  judge-deeper false e = let p = punct-parts LESS q e in judged-by false (p .0) (p .1) refl refl refl refl refl
 
-  judge-back : isPunct 62 q ≡ true → eqb depth 0 ≡ false → r.judge st depth false q ≡ belongs (depth - 1) false
-  judge-back e z = let p = punct-parts 62 q e in judged-by false (p .0) (eqb-other (first (q .text)) 62 60 (p .1) refl)
+  judge-back : isPunct GREATER q ≡ true → eqb depth 0 ≡ false → r.judge st depth false q ≡ belongs (depth - 1) false
+  judge-back e z = let p = punct-parts GREATER q e in judged-by false (p .0)
+      (eqb-other (first (q .text)) GREATER LESS (p .1) refl)
       (p .1) refl z refl refl
 
-  judge-angle : isPunct 62 q ≡ true → eqb depth 0 ≡ true → st .angle ≡ true → r.judge st depth false q ≡ ends r.atAngle
-  judge-angle e z h = let p = punct-parts 62 q e in judged-by false (p .0)
-      (eqb-other (first (q .text)) 62 60 (p .1) refl) (p .1) refl z refl h
+  judge-angle : isPunct GREATER q ≡ true → eqb depth 0 ≡ true → st .angle ≡ true →
+      r.judge st depth false q ≡ ends r.atAngle
+  judge-angle e z h = let p = punct-parts GREATER q e in judged-by false (p .0)
+      (eqb-other (first (q .text)) GREATER LESS (p .1) refl) (p .1) refl z refl h
 
-  judge-comma : (minus : Bool) → isPunct 44 q ≡ true → eqb depth 0 ≡ true → st .comma ≡ true →
+  judge-comma : (minus : Bool) → isPunct COMMA q ≡ true → eqb depth 0 ≡ true → st .comma ≡ true →
       r.judge st depth minus q ≡ ends r.atComma
   judge-comma true e z h =
-      let p = punct-parts 44 q e in judged-by true (p .0) (eqb-other (first (q .text)) 44 60 (p .1) refl)
-      (eqb-other (first (q .text)) 44 62 (p .1) refl) (p .1) z h refl
+      let p = punct-parts COMMA q e in judged-by true (p .0) (eqb-other (first (q .text)) COMMA LESS (p .1) refl)
+      (eqb-other (first (q .text)) COMMA GREATER (p .1) refl) (p .1) z h refl
   judge-comma false e z h =
-      let p = punct-parts 44 q e in judged-by false (p .0) (eqb-other (first (q .text)) 44 60 (p .1) refl)
-      (eqb-other (first (q .text)) 44 62 (p .1) refl) (p .1) z h refl
+      let p = punct-parts COMMA q e in judged-by false (p .0) (eqb-other (first (q .text)) COMMA LESS (p .1) refl)
+      (eqb-other (first (q .text)) COMMA GREATER (p .1) refl) (p .1) z h refl
 
-  judge-token : (minus : Bool) → g.ordinary st depth q ≡ true → r.judge st depth minus q ≡ belongs depth (isPunct 45 q)
-  judge-token minus = go minus (eqb (q .kind) 112) (eqb (first (q .text)) 60) (eqb (first (q .text)) 62)
-      (eqb (first (q .text)) 44) (eqb depth 0) (st .comma)
+  judge-token : (minus : Bool) → g.ordinary st depth q ≡ true →
+      r.judge st depth minus q ≡ belongs depth (isPunct MINUS q)
+  judge-token minus = go minus (eqb (q .kind) PUNCT) (eqb (first (q .text)) LESS) (eqb (first (q .text)) GREATER)
+      (eqb (first (q .text)) COMMA) (eqb depth 0) (st .comma)
     where
       go : (minus k lt gt co z cm : Bool) → not (k && lt || k && gt || k && co && (z && cm)) ≡ true
-          → judging depth minus k lt gt co z cm (st .angle) (eqb (first (q .text)) 45) ≡
-          belongs depth (k && eqb (first (q .text)) 45)
+          → judging depth minus k lt gt co z cm (st .angle) (eqb (first (q .text)) MINUS) ≡
+          belongs depth (k && eqb (first (q .text)) MINUS)
       go minus false lt gt co z cm e = refl
       go minus true true gt co z cm e = absurd (false≢true e)
       go minus true false true co z cm e = absurd (false≢true e)
@@ -208,23 +214,23 @@ module _ (st : Stops) (n : ℕ) where
 
 -- ## Attributes and visibility
 
-attributes-none : (ts : Trees) → starts (isPunct 35) ts ≡ false → (row : ℕ) → r.attributes row ts ≡ took [] [] ts
+attributes-none : (ts : Trees) → starts (isPunct HASH) ts ≡ false → (row : ℕ) → r.attributes row ts ≡ took [] [] ts
 attributes-none end e row = refl
 attributes-none (group d ts us) e row = refl
-attributes-none (leaf q us) e row = passed-over (isPunct 35 q) _ _ e
+attributes-none (leaf q us) e row = passed-over (isPunct HASH q) _ _ e
 
 attributes-taken : {ts us : Trees} {rs : List ℕ} → g.Attributes everything ts us rs → (row : ℕ) →
     Taken Any (r.attributes row ts) rs us
 attributes-taken (g.Attributes.none {ts = ts} e) row = taken-as [] [] ts tt (attributes-none ts e row)
 attributes-taken (g.Attributes.attribute {q = q} {d = d} {ts = ts} {us = us} {vs = vs} {rs = rs} e f h) row =
     let below = row + 1 + r.groupSize ts in
-    same-as (chosen (isPunct 35 q) _ _ e ∙ chosen (eqb d 91) _ _ f)
+    same-as (chosen (isPunct HASH q) _ _ e ∙ chosen (eqb d BRACKET) _ _ f)
     (onward-taken (role.attribute-mark ∷ copied role.attribute-group ts)
     (and-pure {Q = Any} {m = r.attributes} {ts = us} {us = vs} {rs = rs} (λ xs. ts ∷ xs)
     (record { from = λ n. attributes-taken h n }) (λ x y. tt) .from below))
 attributes-taken (g.Attributes.idle {q = q} {p = p} {us = us} a e f h) row =
-    same-as (chosen (isPunct 35 q) _ _ e ∙ chosen (isPunct 35 p) _ _ f)
-    (onward-taken (role.idle-mark ∷ []) (same-as (sym (chosen (isPunct 35 p) _ _ f)) (attributes-taken h (row + 1))))
+    same-as (chosen (isPunct HASH q) _ _ e ∙ chosen (isPunct HASH p) _ _ f)
+    (onward-taken (role.idle-mark ∷ []) (same-as (sym (chosen (isPunct HASH p) _ _ f)) (attributes-taken h (row + 1))))
 
 pub attributes-complete : {ts us : Trees} {rs : List ℕ} → g.Attributes everything ts us rs →
     Takes Any r.attributes ts us rs

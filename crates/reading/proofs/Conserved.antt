@@ -6,6 +6,9 @@ use mathlib.Core.List.{List, [], _∷_}
 use Prim.Native.Nat.{ℕ, suc, _+_, _≤_, _<_, max}
 use native.Mathlib.Omega.{arith}
 use lib.Dec.{eqb}
+use Rattle.token_list.specs.Layout.{PUNCT}
+use Rattle.token_list.specs.Byte.{BRACE, BRACKET, COLON, COMMA, EQUALS, GREATER, HASH, LESS}
+use Rattle.token_list.specs.Byte.{MINUS, PARENTHESIS, QUOTE, SEMICOLON}
 use Rattle.token_list.specs.Text.{same}
 use Rattle.token_list.specs.Row.{Row, first}
 use Rattle.token_list.specs.Check.{END}
@@ -26,13 +29,13 @@ use Rattle.reading.proofs.Rounds.{told-end, told-row, closing-conserved
 use Rattle.reading.proofs.Rounds.{turn-wider, bind-turning, AnyRest, Empty}
 
 -- a field's run ends at a comma or at the end
-judge-comma : (q : Row) (e : Ending) → r.judge r.fieldStops 0 false q ≡ ends e → r.isPunct 44 q ≡ true
+judge-comma : (q : Row) (e : Ending) → r.judge r.fieldStops 0 false q ≡ ends e → r.isPunct COMMA q ≡ true
 judge-comma q e =
-    go (eqb (q .kind) 112) (eqb (first (q .text)) 60) (eqb (first (q .text)) 62) (eqb (first (q .text)) 44)
+    go (eqb (q .kind) PUNCT) (eqb (first (q .text)) LESS) (eqb (first (q .text)) GREATER) (eqb (first (q .text)) COMMA)
   where
     go : (k lt gt co : Bool)
         → cond k (cond lt (belongs 1 false) (cond gt unopened
-        (cond (co && true) (ends r.atComma) (belongs 0 (eqb (first (q .text)) 45))))) (belongs 0 false) ≡ ends e
+        (cond (co && true) (ends r.atComma) (belongs 0 (eqb (first (q .text)) MINUS))))) (belongs 0 false) ≡ ends e
         → (k && co) ≡ true
     go true true gt co x = cc
     go true false true co x = cc
@@ -116,13 +119,13 @@ module _ (b : ℕ) where
     pub attributes-conserving : Conserving b r.attributes
     attributes-conserving row end l = nothing-taken
     attributes-conserving row (group d ts us) l = nothing-taken
-    attributes-conserving row (leaf q us) l = choice (r.isPunct 35 q) (afterHash-conserved row q us l) nothing-taken
+    attributes-conserving row (leaf q us) l = choice (r.isPunct HASH q) (afterHash-conserved row q us l) nothing-taken
 
     afterHash-conserved : (row : ℕ) (q : Row) (us : Trees) → row + size (leaf q us) ≤ b →
         Conserved b Any (leaf q us) (r.afterHash row us)
     afterHash-conserved row q end l = told-end refl
     afterHash-conserved row q (group d ts us) l =
-        choice (eqb d 91)
+        choice (eqb d BRACKET)
         (onward-conserved (role.attribute-mark ∷ r.copied role.attribute-group ts)
         (past-both (role.attribute-mark ∷ []) (r.copied role.attribute-group ts)
         (past-leaf role.attribute-mark refl q (group d ts us)) (past-group role.attribute-group refl d ts us))
@@ -130,14 +133,14 @@ module _ (b : ℕ) where
         (attributes-conserving (row + 1 + r.groupSize ts) us (omega arith)) (λ xs us h s row l. nothing-taken)))
         (told-row (row + 1) refl (omega arith))
     afterHash-conserved row q (leaf p us) l =
-        choice (r.isPunct 35 p) (onward-conserved (role.idle-mark ∷ []) (past-leaf role.idle-mark refl q (leaf p us))
+        choice (r.isPunct HASH p) (onward-conserved (role.idle-mark ∷ []) (past-leaf role.idle-mark refl q (leaf p us))
         (afterHash-conserved (row + 1) p us (omega arith))) (told-row (row + 1) refl (omega arith))
 
   scopeAfter-conserving : Conserving b r.scopeAfter
   scopeAfter-conserving row end l = nothing-taken
   scopeAfter-conserving row (leaf q us) l = nothing-taken
   scopeAfter-conserving row (group d ts us) l =
-      choice (eqb d 40 && r.scoped ts) (copied-alone role.scope refl d ts us) nothing-taken
+      choice (eqb d PARENTHESIS && r.scoped ts) (copied-alone role.scope refl d ts us) nothing-taken
 
   anyScope-conserving : Conserving b r.anyScope
   anyScope-conserving row end l = nothing-taken
@@ -182,7 +185,7 @@ module _ (b : ℕ) where
       bind (punctIf-conserving x role.separator refl) (λ t. runIf-conserving t r.parameterStops role.bound refl)
 
   comma-another : {A : Type 0} (a : A) → Keeping b Another (r.comma a)
-  comma-another a = bind (punctIf-conserving 44 role.separator refl) (λ t row us l. taken [] us (past-none us) tt)
+  comma-another a = bind (punctIf-conserving COMMA role.separator refl) (λ t row us l. taken [] us (past-none us) tt)
 
   -- one more is read after a row was taken
   turned : {A : Type 0} {E : Trees → Type 0} {k : ℕ} {ts : Trees} {t : Took (Maybe A)} → size ts < k →
@@ -193,19 +196,19 @@ module _ (b : ℕ) where
 
   typeRuns-conserving : (n : List ℕ) (t : Bool) → Conserving b (r.typeRuns n t)
   typeRuns-conserving n true = bind (run-conserving r.parameterStops role.bound refl) (λ x. pure-conserving _)
-  typeRuns-conserving n false = bind (optional-run-conserving 61) (λ x. pure-conserving _)
+  typeRuns-conserving n false = bind (optional-run-conserving EQUALS) (λ x. pure-conserving _)
 
   parameter-turning : (angle : ℕ) → angle < b → Turning b AnyRest (r.parameter angle)
   parameter-turning angle k row end l = told-row angle refl k
   parameter-turning angle k row (group d ts us) l = told-row row refl (omega arith)
   parameter-turning angle k row (leaf q us) l =
-      choice (r.isPunct 39 q) (first (bind (parameterName-conserving 24 row refl (at-row (omega arith)))
-      (λ n. bind (optional-run-conserving 58) (λ x. pure-conserving _))))
-      (choice (r.isPunct 62 q) (taken (role.angle ∷ []) us (past-leaf role.angle refl q us) tt)
+      choice (r.isPunct QUOTE q) (first (bind (parameterName-conserving 24 row refl (at-row (omega arith)))
+      (λ n. bind (optional-run-conserving COLON) (λ x. pure-conserving _))))
+      (choice (r.isPunct GREATER q) (taken (role.angle ∷ []) us (past-leaf role.angle refl q us) tt)
       (choice (r.isWord r.CONST q) (first (bind (parameterName-conserving 27 END refl at-end)
-      (λ n. bind (optional-run-conserving 58) (λ x. pure-conserving _))))
+      (λ n. bind (optional-run-conserving COLON) (λ x. pure-conserving _))))
       (choice (r.isIdent q)
-      (first (bind (punctIf-conserving 58 role.separator refl) (typeRuns-conserving (q .text))))
+      (first (bind (punctIf-conserving COLON role.separator refl) (typeRuns-conserving (q .text))))
       (told-row row refl (omega arith)))))
     where
       first : {A : Type 0} {m : Reader A} → Conserving b m →
@@ -217,7 +220,7 @@ module _ (b : ℕ) where
   generics-conserving row end l = nothing-taken
   generics-conserving row (group d ts us) l = nothing-taken
   generics-conserving row (leaf q us) l =
-      choice (r.isPunct 60 q)
+      choice (r.isPunct LESS q)
       (from-conserved role.angle refl row q us l
       (bind-pure _ (every-conserving (parameter-turning row (omega arith)))))
       nothing-taken
@@ -239,7 +242,7 @@ module _ (b : ℕ) where
 
   fieldAfter-another : (a : List Trees) (v : Visibility) (n : List ℕ) → Keeping b Another (r.fieldAfter a v n)
   fieldAfter-another a v n =
-      bind (punctIf-conserving 58 role.separator refl) (λ t. bind (must-conserving 23 t refl)
+      bind (punctIf-conserving COLON role.separator refl) (λ t. bind (must-conserving 23 t refl)
       (λ u. bind (run-conserving r.fieldStops role.type refl) (λ f. comma-another _)))
 
   fieldStart-turning : (a : List Trees) (v : Visibility) → Turning b Empty (r.fieldStart a v)
@@ -270,7 +273,7 @@ module _ (b : ℕ) where
         → Conserved b (Turn Empty (size (leaf q us))) (leaf q us)
         (after row (r.kept (leaf q us) (r.judged 0 v go (leaf q us) row)) withComma)
     tail-leaf row q us (belongs e m) go l j k = tail-then row l (k e m)
-    tail-leaf row q us (ends e) go l j k = taken-comma (r.isPunct 44 q) (judge-comma q e j)
+    tail-leaf row q us (ends e) go l j k = taken-comma (r.isPunct COMMA q) (judge-comma q e j)
       where
         taken-comma : (t : Bool) → t ≡ true
             → Conserved b (Turn Empty (size (leaf q us))) (leaf q us) (after row (took end [] (leaf q us))
@@ -325,8 +328,9 @@ module _ (b : ℕ) where
   variantFields-conserving row end l = nothing-taken
   variantFields-conserving row (leaf q us) l = nothing-taken
   variantFields-conserving row (group d ts us) l =
-      choice (eqb d 123) (enclosed-conserved namedFields-ended row d ts us l)
-      (choice (eqb d 40) (enclosed-conserved tupleFields-ended row d ts us l) (told-row row refl (omega arith)))
+      choice (eqb d BRACE) (enclosed-conserved namedFields-ended row d ts us l)
+      (choice (eqb d PARENTHESIS) (enclosed-conserved tupleFields-ended row d ts us l)
+      (told-row row refl (omega arith)))
 
   negativeValue-conserving : Conserving b r.negativeValue
   negativeValue-conserving row end l = told-end refl
@@ -340,15 +344,15 @@ module _ (b : ℕ) where
   discriminant-conserving row (group d ts us) l = told-row row refl (omega arith)
   discriminant-conserving row (leaf q us) l =
       choice (r.isLiteral q) (one-row role.value refl q us)
-      (choice (r.isPunct 45 q) (from-conserved role.value refl row q us l negativeValue-conserving)
+      (choice (r.isPunct MINUS q) (from-conserved role.value refl row q us l negativeValue-conserving)
       (told-row row refl (omega arith)))
 
   valueIf-conserving : Conserving b r.valueIf
   valueIf-conserving row end l = nothing-taken
   valueIf-conserving row (group d ts us) l = told-row row refl (omega arith)
   valueIf-conserving row (leaf q us) l =
-      choice (r.isPunct 61 q) (from-conserved role.separator refl row q us l discriminant-conserving)
-      (choice (r.isPunct 44 q) nothing-taken (told-row row refl (omega arith)))
+      choice (r.isPunct EQUALS q) (from-conserved role.separator refl row q us l discriminant-conserving)
+      (choice (r.isPunct COMMA q) nothing-taken (told-row row refl (omega arith)))
 
   -- a word that must stand here takes a row
   variantNamed : (a : List Trees) → Turning b Empty (r.word role.variant-name >>= λ w. r.named! w >>= variantRest a)
@@ -375,16 +379,17 @@ module _ (b : ℕ) where
   structBody-conserving : Conserving b r.structBody
   structBody-conserving row end l = told-end refl
   structBody-conserving row (leaf q us) l =
-      choice (r.isPunct 59 q) (one-row role.delimiter refl q us) (told-row row refl (omega arith))
+      choice (r.isPunct SEMICOLON q) (one-row role.delimiter refl q us) (told-row row refl (omega arith))
   structBody-conserving row (group d ts us) l =
-      choice (eqb d 123) (enclosed-conserved (bind-pure {E = Empty} Body.fields namedFields-ended) row d ts us l)
-      (choice (eqb d 40) (enclosed-conserved (bind-pure {E = Empty} Body.fields tupleFields-ended) row d ts us l)
+      choice (eqb d BRACE) (enclosed-conserved (bind-pure {E = Empty} Body.fields namedFields-ended) row d ts us l)
+      (choice (eqb d PARENTHESIS)
+      (enclosed-conserved (bind-pure {E = Empty} Body.fields tupleFields-ended) row d ts us l)
       (told-row row refl (omega arith)))
 
   enumBody-conserving : Conserving b r.enumBody
   enumBody-conserving row end l = told-end refl
   enumBody-conserving row (leaf q us) l =
-      choice (r.isPunct 59 q) (one-row role.delimiter refl q us) (told-row row refl (omega arith))
+      choice (r.isPunct SEMICOLON q) (one-row role.delimiter refl q us) (told-row row refl (omega arith))
   enumBody-conserving row (group d ts us) l =
       enclosed-conserved (bind-pure {E = Empty} Body.variants (every-conserving variant-turning)) row d ts us l
 

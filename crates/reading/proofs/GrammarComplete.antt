@@ -6,6 +6,7 @@ use mathlib.Core.List.{List, [], _∷_, _++_, append-nil}
 use Prim.Native.Nat.{ℕ, _+_}
 use lib.Dec.{eqb}
 use lib.ListN.{replicate}
+use Rattle.token_list.specs.Byte.{BRACE, COLON, COMMA, EQUALS, GREATER, LESS, MINUS, PARENTHESIS, QUOTE, SEMICOLON}
 use Rattle.token_list.specs.Text.{same}
 use Rattle.token_list.specs.Row.{Row}
 use Rattle.token_list.specs.Stream.{Trees, end, leaf, group, size}
@@ -62,7 +63,7 @@ optional-run-some : {b : ℕ} {c : Row} {us vs : Trees} {rs : List ℕ} → isPu
 optional-run-some {b} {c} e h =
     separator-then {b = b} {t = true} (g.Separator.present {q = c} e) (run-complete parameterStops role.bound h)
 
-bound-complete : {ts us : Trees} {rs : List ℕ} → g.Bound everything ts us rs → Takes Any (r.optional-run 58) ts us rs
+bound-complete : {ts us : Trees} {rs : List ℕ} → g.Bound everything ts us rs → Takes Any (r.optional-run COLON) ts us rs
 bound-complete (g.Bound.none e) = optional-run-none e
 bound-complete (g.Bound.bound e h) = optional-run-some e h
 
@@ -75,7 +76,8 @@ abbrev Last : {A : Type 0} → Maybe A → Type 0
 Last done = Unit {0}
 Last (one a) = ⊥
 
-comma-complete : {A : Type 0} {t : Bool} {us vs : Trees} {cs : List ℕ} (a : A) → g.Separator everything 44 t us vs cs →
+comma-complete : {A : Type 0} {t : Bool} {us vs : Trees} {cs : List ℕ} (a : A) →
+    g.Separator everything COMMA t us vs cs →
     Takes Another (r.comma a) us vs cs
 comma-complete a m = and-pure (λ t. one a) (punctIf-complete m) (λ x e. tt)
 
@@ -93,8 +95,8 @@ parameterName-complete n k p us e =
 type-chosen : (angle row : ℕ) (q : Row) (us : Trees) → isWord CONST q ≡ false → isIdent q ≡ true
     → r.parameter angle row (leaf q us) ≡ r.from role.parameter-name row us (r.typeAfter (q .text) >>= r.comma)
 type-chosen angle row q us e f =
-    passed-over (isPunct 39 q) _ _ (ident-no-punct 39 q f)
-    ∙ passed-over (isPunct 62 q) _ _ (ident-no-punct 62 q f)
+    passed-over (isPunct QUOTE q) _ _ (ident-no-punct QUOTE q f)
+    ∙ passed-over (isPunct GREATER q) _ _ (ident-no-punct GREATER q f)
     ∙ passed-over (isWord CONST q) _ _ e
     ∙ chosen (isIdent q) _ _ f
 
@@ -111,42 +113,42 @@ constantAfter-complete p {us} f b = and-then (parameterName-complete 27 65535 p 
     (λ n y. and-pure (Parameter.constant n) (bound-complete b) (λ x y. tt))
 
 module _ (n : List ℕ) where
-  typeAfter-plain : {us : Trees} → starts (isPunct 58) us ≡ false → starts (isPunct 61) us ≡ false →
+  typeAfter-plain : {us : Trees} → starts (isPunct COLON) us ≡ false → starts (isPunct EQUALS) us ≡ false →
       Takes Any (r.typeAfter n) us us []
   typeAfter-plain {us} h k =
-      separator-then {f = r.typeRuns n} {b = 58} {t = false} {us = us} (g.Separator.absent h)
+      separator-then {f = r.typeRuns n} {b = COLON} {t = false} {us = us} (g.Separator.absent h)
       (and-pure (Parameter.type n end) (optional-run-none k) (λ x y. tt))
 
-  typeAfter-bounded : (c : Row) {us vs : Trees} {rs : List ℕ} → isPunct 58 c ≡ true →
+  typeAfter-bounded : (c : Row) {us vs : Trees} {rs : List ℕ} → isPunct COLON c ≡ true →
       g.Run everything parameterStops role.bound 0 false us vs rs
       → Takes Any (r.typeAfter n) (leaf c us) vs (role.separator ∷ rs)
   typeAfter-bounded c i h =
-      separator-then {f = r.typeRuns n} {b = 58} {t = true} (g.Separator.present {q = c} i)
+      separator-then {f = r.typeRuns n} {b = COLON} {t = true} (g.Separator.present {q = c} i)
       (and-pure (λ b. Parameter.type n b end) (run-complete parameterStops role.bound h) (λ x y. tt))
 
-  typeAfter-defaulted : (c : Row) {us vs : Trees} {rs : List ℕ} → isPunct 61 c ≡ true →
+  typeAfter-defaulted : (c : Row) {us vs : Trees} {rs : List ℕ} → isPunct EQUALS c ≡ true →
       g.Run everything parameterStops role.bound 0 false us vs rs
       → Takes Any (r.typeAfter n) (leaf c us) vs (role.separator ∷ rs)
   typeAfter-defaulted c {us} i h =
-      separator-then {f = r.typeRuns n} {b = 58} {t = false} {us = leaf c us}
-      (g.Separator.absent (punct-other 61 58 c i refl))
-      (and-pure (Parameter.type n end) (optional-run-some {b = 61} {c = c} i h) (λ x y. tt))
+      separator-then {f = r.typeRuns n} {b = COLON} {t = false} {us = leaf c us}
+      (g.Separator.absent (punct-other EQUALS COLON c i refl))
+      (and-pure (Parameter.type n end) (optional-run-some {b = EQUALS} {c = c} i h) (λ x y. tt))
 
 and-comma : {A : Type 0} {t : Bool} {m : Reader A} {ts us vs : Trees} {rs cs : List ℕ} → Takes Any m ts us rs →
-    g.Separator everything 44 t us vs cs
+    g.Separator everything COMMA t us vs cs
     → Takes Another (m >>= r.comma) ts vs (rs ++ cs)
 and-comma h k = and-then h (λ a y. comma-complete a k)
 
 parameter-complete : {t : Bool} {ts us vs : Trees} {ps cs : List ℕ} (angle : ℕ) → g.Parameter everything ts us ps →
-    g.Separator everything 44 t us vs cs
+    g.Separator everything COMMA t us vs cs
     → (row : ℕ) → Taken Another (r.parameter angle row ts) (ps ++ cs) vs
 parameter-complete angle (g.Parameter.lifetime {q = q} {p = p} e f u b) m row =
-    same-as (chosen (isPunct 39 q) _ _ e) (from-complete role.parameter-name row
+    same-as (chosen (isPunct QUOTE q) _ _ e) (from-complete role.parameter-name row
     (and-comma (lifetimeAfter-complete row p f b) m))
 parameter-complete angle (g.Parameter.constant {q = q} {p = p} e f b u) m row =
     let i = and-parts (isIdent q) (same (q .text) CONST) e .0 in
-    same-as (passed-over (isPunct 39 q) _ _ (ident-no-punct 39 q i) ∙
-    passed-over (isPunct 62 q) _ _ (ident-no-punct 62 q i) ∙ chosen (isWord CONST q) _ _ e)
+    same-as (passed-over (isPunct QUOTE q) _ _ (ident-no-punct QUOTE q i) ∙
+    passed-over (isPunct GREATER q) _ _ (ident-no-punct GREATER q i) ∙ chosen (isWord CONST q) _ _ e)
     (from-complete role.parameter-name row (and-comma (constantAfter-complete p f b) m))
 parameter-complete angle (g.Parameter.plain {q = q} {us = us} e f h k) m row =
     same-as (type-chosen angle row q us e f) (from-complete role.parameter-name row
@@ -186,8 +188,8 @@ pub parameters-complete : {ts us : Trees} {rs : List ℕ} (angle : ℕ) → g.Pa
 parameters-complete angle (g.Parameters.close {q = q} {us = us} e) =
     every-last (r.parameter angle) (c.parameter-round angle)
     (record {
-      from = λ row. taken-as done (role.angle ∷ []) us tt (passed-over (isPunct 39 q) _ _
-          (punct-other 62 39 q e refl) ∙ chosen (isPunct 62 q) _ _ e);
+      from = λ row. taken-as done (role.angle ∷ []) us tt (passed-over (isPunct QUOTE q) _ _
+          (punct-other GREATER QUOTE q e refl) ∙ chosen (isPunct GREATER q) _ _ e);
     })
 parameters-complete angle (g.Parameters.next h m x y k) =
     every-next (r.parameter angle) (c.parameter-round angle) (record { from = parameter-complete angle h m })
@@ -196,12 +198,12 @@ parameters-complete angle (g.Parameters.next h m x y k) =
 pub generics-complete : {ts us : Trees} {rs : List ℕ} → g.Generics everything ts us rs → Takes Any r.generics ts us rs
 generics-complete (g.Generics.none {ts = ts} e) = record { from = λ row. taken-as without [] ts tt (none ts e row) }
   where
-    none : (ts : Trees) → starts (isPunct 60) ts ≡ false → (row : ℕ) → r.generics row ts ≡ took without [] ts
+    none : (ts : Trees) → starts (isPunct LESS) ts ≡ false → (row : ℕ) → r.generics row ts ≡ took without [] ts
     none end e row = refl
     none (group d ts us) e row = refl
-    none (leaf q us) e row = passed-over (isPunct 60 q) _ _ e
+    none (leaf q us) e row = passed-over (isPunct LESS q) _ _ e
 generics-complete (g.Generics.generics {q = q} e h) = record {
-  from = λ row. same-as (chosen (isPunct 60 q) _ _ e)
+  from = λ row. same-as (chosen (isPunct LESS q) _ _ e)
       (from-complete role.angle row (and-pure angled (parameters-complete row h) (λ x y. tt)));
 }
 
@@ -221,13 +223,13 @@ clause-complete (g.Clause.clause {q = q} e h u) =
 -- ## Fields
 
 fieldAfter-complete : (a : List Trees) (v : Visibility) (n : List ℕ) (c : Row) {t : Bool} {vs ws xs : Trees}
-    {rs cs : List ℕ} → isPunct 58 c ≡ true
+    {rs cs : List ℕ} → isPunct COLON c ≡ true
     → g.Run everything fieldStops role.type 0 false vs ws rs
-    → g.Separator everything 44 t ws xs cs
+    → g.Separator everything COMMA t ws xs cs
     → Takes Another (r.fieldAfter a v n) (leaf c vs) xs (role.separator ∷ (rs ++ cs))
 fieldAfter-complete a v n c {vs = vs} i j m =
     let made : Trees → Field = λ f. record { name = n; field = record { attributes = a; visibility = v; type = f } } in
-    separator-then {f = λ t. r.must 23 t >>= λ u. r.run fieldStops role.type >>= λ f. r.comma (made f)} {b = 58}
+    separator-then {f = λ t. r.must 23 t >>= λ u. r.run fieldStops role.type >>= λ f. r.comma (made f)} {b = COLON}
     {t = true}
     {us = vs} (g.Separator.present {q = c} i)
     (and-then {m = r.must 23 true} (pure-takes {P = Any} tt vs tt)
@@ -236,9 +238,9 @@ fieldAfter-complete a v n c {vs = vs} i j m =
 
 fieldStart-complete : (a : List Trees) (v : Visibility) (q c : Row) {t : Bool} {vs ws xs : Trees} {rs cs : List ℕ}
     → isIdent q ≡ true →
-    isPunct 58 c ≡ true
+    isPunct COLON c ≡ true
     → g.Run everything fieldStops role.type 0 false vs ws rs
-    → g.Separator everything 44 t ws xs cs → Takes Another (r.fieldStart a v) (leaf q (leaf c vs)) xs
+    → g.Separator everything COMMA t ws xs cs → Takes Another (r.fieldStart a v) (leaf q (leaf c vs)) xs
     (role.field-name ∷ role.separator ∷ (rs ++ cs))
 fieldStart-complete a v q c e i j m =
     record {
@@ -304,11 +306,15 @@ variantFields-complete (g.VariantFields.none {ts = ts} e) = record {
     none (leaf q us) e row = refl
     none (group d ts us) e row = absurd (false≢true (sym e))
 variantFields-complete (g.VariantFields.named {d = d} {us = us} e h) =
-    record { from = λ row. same-as (chosen (eqb d 123) _ _ e) (closing-complete us (named-complete h .from (row + 1))) }
+    record {
+      from = λ row. same-as (chosen (eqb d BRACE) _ _ e)
+          (closing-complete us (named-complete h .from (row + 1)));
+    }
 variantFields-complete (g.VariantFields.tuple {d = d} {us = us} e h) =
     record {
       from =
-          λ row. same-as (passed-over (eqb d 123) _ _ (eqb-other d 40 123 e refl) ∙ chosen (eqb d 40) _ _ e)
+          λ row. same-as (passed-over (eqb d BRACE) _ _ (eqb-other d PARENTHESIS BRACE e refl) ∙
+          chosen (eqb d PARENTHESIS) _ _ e)
           (closing-complete us (tuple-complete h .from (row + 1)));
     }
 
@@ -316,21 +322,22 @@ value-taken : {ts us : Trees} {rs : List ℕ} → g.Value everything ts us rs �
     Taken Any (r.valueIf row ts) rs us
 value-taken (g.Value.literal {e = e} {q = q} {us = us} a b) row =
     taken-as (Value.literal (q .text)) (role.separator ∷ role.value ∷ []) us tt
-    (chosen (isPunct 61 e) _ _ a ∙ ap (onward (role.separator ∷ [])) (chosen (isLiteral q) _ _ b))
+    (chosen (isPunct EQUALS e) _ _ a ∙ ap (onward (role.separator ∷ [])) (chosen (isLiteral q) _ _ b))
 value-taken (g.Value.negative {e = e} {m = m} {q = q} {us = us} a b k d) row =
     taken-as (Value.negative (r.worth (q .text))) (role.separator ∷ role.value ∷ role.value ∷ []) us tt
-    (chosen (isPunct 61 e) _ _ a
+    (chosen (isPunct EQUALS e) _ _ a
     ∙ ap (onward (role.separator ∷ []))
-    (passed-over (isLiteral m) _ _ (punct-no-literal 45 m b)
-    ∙ chosen (isPunct 45 m) _ _ b
+    (passed-over (isLiteral m) _ _ (punct-no-literal MINUS m b)
+    ∙ chosen (isPunct MINUS m) _ _ b
     ∙ ap (onward (role.value ∷ [])) (chosen (isLiteral q) _ _ k ∙ chosen (negatable (q .text)) _ _ d)))
 
 -- without a value: a `,` or the end of the group follows
-no-value : {t : Bool} {ws xs : Trees} {cs : List ℕ} → g.Separator everything 44 t ws xs cs → (t || isEnd xs) ≡ true →
+no-value : {t : Bool} {ws xs : Trees} {cs : List ℕ} → g.Separator everything COMMA t ws xs cs → (t || isEnd xs) ≡ true →
     (row : ℕ)
     → r.valueIf row ws ≡ took absent [] ws
-no-value (g.Separator.present {q = q} e) p row = passed-over (isPunct 61 q) _ _ (punct-other 44 61 q e refl) ∙
-    chosen (isPunct 44 q) _ _ e
+no-value (g.Separator.present {q = q} e) p row =
+    passed-over (isPunct EQUALS q) _ _ (punct-other COMMA EQUALS q e refl) ∙
+    chosen (isPunct COMMA q) _ _ e
 no-value (g.Separator.absent {ts = ts} e) p row = at-end ts p
   where
     at-end : (ts : Trees) → isEnd ts ≡ true → r.valueIf row ts ≡ took absent [] ts
@@ -343,7 +350,7 @@ abbrev valueComma : List Trees → List ℕ → Fields → Reader (Maybe Variant
 valueComma a n f = r.valueIf >>= λ v. r.comma (record { attributes = a; name = n; fields = f; value = v })
 
 valueComma-complete : {t : Bool} {ws xs ys : Trees} {es cs : List ℕ} (a : List Trees) (n : List ℕ) (f : Fields) →
-    Takes Any r.valueIf ws xs es → g.Separator everything 44 t xs ys cs
+    Takes Any r.valueIf ws xs es → g.Separator everything COMMA t xs ys cs
     → Takes Another (valueComma a n f) ws ys (es ++ cs)
 valueComma-complete a n f h m =
     and-then h (λ v y. comma-complete {A = Variant} (record { attributes = a; name = n; fields = f; value = v }) m)
@@ -381,23 +388,24 @@ variants-complete (g.Variants.next {ts = ts} e h k) =
 pub structBody-complete : {tuple : Bool} {ts us : Trees} {rs : List ℕ} → g.StructBody everything tuple ts us rs →
     Takes Any r.structBody ts us rs
 structBody-complete (g.StructBody.unit {q = q} {us = us} e) = record {
-  from = λ row. taken-as (Body.fields Fields.unit) (role.delimiter ∷ []) us tt (chosen (isPunct 59 q) _ _ e);
+  from = λ row. taken-as (Body.fields Fields.unit) (role.delimiter ∷ []) us tt (chosen (isPunct SEMICOLON q) _ _ e);
 }
 structBody-complete (g.StructBody.named {d = d} {us = us} e h) =
     record {
-      from = λ row. same-as (chosen (eqb d 123) _ _ e) (closing-complete us
+      from = λ row. same-as (chosen (eqb d BRACE) _ _ e) (closing-complete us
           (and-pure Body.fields (named-complete h) (λ x y. tt) .from (row + 1)));
     }
 structBody-complete (g.StructBody.tuple {d = d} {us = us} e h) =
     record {
       from =
-          λ row. same-as (passed-over (eqb d 123) _ _ (eqb-other d 40 123 e refl) ∙ chosen (eqb d 40) _ _ e)
+          λ row. same-as (passed-over (eqb d BRACE) _ _ (eqb-other d PARENTHESIS BRACE e refl) ∙
+          chosen (eqb d PARENTHESIS) _ _ e)
           (closing-complete us (and-pure Body.fields (tuple-complete h) (λ x y. tt) .from (row + 1)));
     }
 
 pub enumBody-complete : {ts us : Trees} {rs : List ℕ} → g.EnumBody everything ts us rs → Takes Any r.enumBody ts us rs
 enumBody-complete (g.EnumBody.unit {q = q} {us = us} a e) = record {
-  from = λ row. taken-as (Body.variants []) (role.delimiter ∷ []) us tt (chosen (isPunct 59 q) _ _ e);
+  from = λ row. taken-as (Body.variants []) (role.delimiter ∷ []) us tt (chosen (isPunct SEMICOLON q) _ _ e);
 }
 enumBody-complete (g.EnumBody.variants {us = us} u h) = record {
   from = λ row. closing-complete us (and-pure Body.variants (variants-complete h) (λ x y. tt) .from (row + 1));

@@ -5,6 +5,7 @@ use mathlib.Core.List.{List, [], _∷_, _++_, append-nil}
 use Prim.Native.Nat.{ℕ, zero, suc, _+_}
 use lib.Dec.{eqb}
 use lib.ListN.{replicate}
+use Rattle.token_list.specs.Byte.{BRACE, COLON, COMMA, EQUALS, GREATER, LESS, MINUS, PARENTHESIS, QUOTE, SEMICOLON}
 use Rattle.token_list.specs.Row.{Row}
 use Rattle.token_list.specs.Stream.{Trees, end, leaf, group, size}
 use Rattle.reading.specs.Role as role
@@ -51,19 +52,19 @@ optional-run-sound b row ts = after-met row (punctIf-sound b row ts) go
         weaken (run-sound parameterStops role.bound row us) (λ x qs vs h. some e h)
     go false rs us (g.Separator.absent e) row = met [] us (none e)
 
-bound-of : {ts us : Trees} {rs : List ℕ} → OptionalRun 58 ts rs us → g.Bound everything ts us rs
+bound-of : {ts us : Trees} {rs : List ℕ} → OptionalRun COLON ts rs us → g.Bound everything ts us rs
 bound-of (none e) = g.Bound.none e
 bound-of (some e h) = g.Bound.bound e h
 
 -- a `,` that may follow what P says
 data Commaed {A : Type 0} (P : List ℕ → Trees → Type 0) : Maybe A → List ℕ → Trees → Type 0 where
-  commaed : {t : Bool} {a : A} {us vs : Trees} {rs cs : List ℕ} → P rs us → g.Separator everything 44 t us vs cs →
+  commaed : {t : Bool} {a : A} {us vs : Trees} {rs cs : List ℕ} → P rs us → g.Separator everything COMMA t us vs cs →
       Commaed P (one a) (rs ++ cs) vs
 
 comma-sound : {A : Type 0} (P : List ℕ → Trees → Type 0) (a : A) (rs : List ℕ) (us : Trees) → P rs us → (row : ℕ)
     → Sound (λ m qs vs. Commaed P m (rs ++ qs) vs) (r.comma a row us)
 comma-sound P a rs us h row =
-    after-met row (punctIf-sound 44 row us) (λ t cs vs m row. met [] vs (rw append-nil (commaed h m)))
+    after-met row (punctIf-sound COMMA row us) (λ t cs vs m row. met [] vs (rw append-nil (commaed h m)))
 
 data ParameterName : Trees → List ℕ → Trees → Type 0 where
   name : {p : Row} {us : Trees} → isIdent p ≡ true → ParameterName (leaf p us) (role.parameter-name ∷ []) us
@@ -79,15 +80,15 @@ module _ (q : Row) where
   abbrev Named : Trees → List ℕ → Trees → Type 0
   Named us rs vs = g.Parameter everything (leaf q us) vs (role.parameter-name ∷ rs)
 
-  lifetime-sound : (quote row : ℕ) (us : Trees) → isPunct 39 q ≡ true →
+  lifetime-sound : (quote row : ℕ) (us : Trees) → isPunct QUOTE q ≡ true →
       Sound (λ x rs vs. Named us rs vs) (r.lifetimeAfter quote row us)
   lifetime-sound quote row us e = after-met row (parameterName-sound 24 quote row us) go
     where
       go : {us : Trees} (n rs : List ℕ) (vs : Trees) → ParameterName us rs vs → (row : ℕ)
           → Sound (λ x qs ws. Named us (rs ++ qs) ws)
-          ((r.optional-run 58 >>= λ b. pure (Parameter.lifetime n b)) row vs)
+          ((r.optional-run COLON >>= λ b. pure (Parameter.lifetime n b)) row vs)
       go n rs vs (name f) row =
-          after-met row (optional-run-sound 58 row vs)
+          after-met row (optional-run-sound COLON row vs)
           (λ b qs ws h row. met [] ws (rw append-nil (g.Parameter.lifetime e f refl (bound-of h))))
 
   constant-sound : (row : ℕ) (us : Trees) → isWord CONST q ≡ true →
@@ -96,41 +97,43 @@ module _ (q : Row) where
     where
       go : {us : Trees} (n rs : List ℕ) (vs : Trees) → ParameterName us rs vs → (row : ℕ)
           → Sound (λ x qs ws. Named us (rs ++ qs) ws)
-          ((r.optional-run 58 >>= λ b. pure (Parameter.constant n b)) row vs)
+          ((r.optional-run COLON >>= λ b. pure (Parameter.constant n b)) row vs)
       go n rs vs (name f) row =
-          after-met row (optional-run-sound 58 row vs) (λ b qs ws h row. met [] ws
+          after-met row (optional-run-sound COLON row vs) (λ b qs ws h row. met [] ws
           (rw append-nil (g.Parameter.constant e f (bound-of h) refl)))
 
   type-sound : (row : ℕ) (us : Trees) (n : List ℕ) → isWord CONST q ≡ false → isIdent q ≡ true →
       Sound (λ x rs vs. Named us rs vs) (r.typeAfter n row us)
-  type-sound row us n e f = after-met row (punctIf-sound 58 row us) go
+  type-sound row us n e f = after-met row (punctIf-sound COLON row us) go
     where
-      default : {us : Trees} → starts (isPunct 58) us ≡ false → (rs : List ℕ) (vs : Trees) → OptionalRun 61 us rs vs →
+      default : {us : Trees} → starts (isPunct COLON) us ≡ false → (rs : List ℕ) (vs : Trees) →
+          OptionalRun EQUALS us rs vs →
           Named us rs vs
       default a rs vs (none b) = g.Parameter.plain e f a b
       default a rs vs (some b h) = g.Parameter.defaulted e f b h refl
 
-      go : {us : Trees} (t : Bool) (rs : List ℕ) (vs : Trees) → g.Separator everything 58 t us vs rs → (row : ℕ)
+      go : {us : Trees} (t : Bool) (rs : List ℕ) (vs : Trees) → g.Separator everything COLON t us vs rs → (row : ℕ)
           → Sound (λ x qs ws. Named us (rs ++ qs) ws) (r.typeRuns n t row vs)
       go true rs vs (g.Separator.present a) row =
           after-met row (run-sound parameterStops role.bound row vs)
           (λ x qs ws h row. met [] ws (rw append-nil (g.Parameter.bounded e f a h)))
       go false rs vs (g.Separator.absent a) row =
-          after-met row (optional-run-sound 61 row vs) (λ x qs ws h row. met [] ws (rw append-nil (default a qs ws h)))
+          after-met row (optional-run-sound EQUALS row vs)
+          (λ x qs ws h row. met [] ws (rw append-nil (default a qs ws h)))
 
 data ParameterRead : Trees → Maybe Parameter → List ℕ → Trees → Type 0 where
   another : {t : Bool} {a : Parameter} {ts us vs : Trees} {ps cs : List ℕ} → g.Parameter everything ts us ps →
-      g.Separator everything 44 t us vs cs
+      g.Separator everything COMMA t us vs cs
       → ParameterRead ts (one a) (ps ++ cs) vs
-  last : {q : Row} {us : Trees} → isPunct 62 q ≡ true → ParameterRead (leaf q us) done (role.angle ∷ []) us
+  last : {q : Row} {us : Trees} → isPunct GREATER q ≡ true → ParameterRead (leaf q us) done (role.angle ∷ []) us
 
 parameter-read : (angle row : ℕ) (ts : Trees) → Sound (ParameterRead ts) (r.parameter angle row ts)
 parameter-read angle row end = refused
 parameter-read angle row (group d ts us) = refused
 parameter-read angle row (leaf q us) =
-    choice (isPunct 39 q) (λ e. from (after-met (row + 1) (lifetime-sound q row (row + 1) us e)
+    choice (isPunct QUOTE q) (λ e. from (after-met (row + 1) (lifetime-sound q row (row + 1) us e)
     (comma-sound (Named q us))))
-    (λ x. choice (isPunct 62 q) (λ e. met (role.angle ∷ []) us (last e))
+    (λ x. choice (isPunct GREATER q) (λ e. met (role.angle ∷ []) us (last e))
     (λ y. choice (isWord CONST q) (λ e. from (after-met (row + 1) (constant-sound q (row + 1) us e)
     (comma-sound (Named q us))))
     (λ e. choice (isIdent q) (λ f. from (after-met (row + 1) (type-sound q (row + 1) us (q .text) e f)
@@ -182,7 +185,7 @@ pub generics-sound : (row : ℕ) (ts : Trees) → Sound (λ x rs us. g.Generics 
 generics-sound row end = met [] end (g.Generics.none refl)
 generics-sound row (group d ts us) = met [] (group d ts us) (g.Generics.none refl)
 generics-sound row (leaf q us) =
-    choice (isPunct 60 q)
+    choice (isPunct LESS q)
     (λ e. onward-met (role.angle ∷ []) (after-met (row + 1) (parameters-sound row (row + 1) us)
     (λ x rs vs h row. met [] vs (rw append-nil h))) (λ x rs vs h. g.Generics.generics e h))
     (λ e. met [] (leaf q us) (g.Generics.none e))
@@ -207,10 +210,10 @@ module _ (ts us : Trees) (ks : List ℕ) (h : g.Attributes everything ts us ks) 
   fieldAfter-read : (bs : List ℕ) (q : Row) (vs : Trees) → g.Visibility everything us (leaf q vs) bs →
       isIdent q ≡ true → (a : List Trees) (v : Visibility) (n : List ℕ) (row : ℕ)
       → Sound (λ m qs ws. FieldRead ts m (ks ++ (bs ++ (role.field-name ∷ qs))) ws) (r.fieldAfter a v n row vs)
-  fieldAfter-read bs q vs i e a v n row = after-met row (punctIf-sound 58 row vs) (go i)
+  fieldAfter-read bs q vs i e a v n row = after-met row (punctIf-sound COLON row vs) (go i)
     where
       go : {vs : Trees} → g.Visibility everything us (leaf q vs) bs → (t : Bool) (rs : List ℕ) (ws : Trees) →
-          g.Separator everything 58 t vs ws rs → (row : ℕ)
+          g.Separator everything COLON t vs ws rs → (row : ℕ)
           → Sound (λ m qs xs. FieldRead ts m (ks ++ (bs ++ (role.field-name ∷ (rs ++ qs)))) xs)
           ((r.must 23 t >>= λ u. r.run fieldStops role.type >>= λ f. r.comma (record {
             name = n;
@@ -219,7 +222,7 @@ module _ (ts us : Trees) (ks : List ℕ) (h : g.Attributes everything ts us ks) 
       go i true rs ws (g.Separator.present c) row =
           onward-still []
           (after-met (row + 0) (run-sound fieldStops role.type (row + 0) ws)
-          (λ f qs xs j row. after-met row (punctIf-sound 44 row xs)
+          (λ f qs xs j row. after-met row (punctIf-sound COMMA row xs)
           (λ t cs ys m row. met [] ys (rw append-nil (another (g.NamedField.field h i e c j refl m))))))
       go i false rs ws m row = refused
 
@@ -261,7 +264,7 @@ tupleType-read row ts e =
     after-met row (attributes-sound row ts)
     (λ x ks us h row. after-met row (visibility-sound row us)
     (λ y bs vs i row. after-met row (run-sound fieldStops role.type row vs)
-    (λ z qs ws j row. after-met row (punctIf-sound 44 row ws)
+    (λ z qs ws j row. after-met row (punctIf-sound COMMA row ws)
     (λ t cs ys m row. met [] ys (rw append-nil (another e (g.TupleField.field h i j refl m)))))))
 
 tupleField-read : (row : ℕ) (ts : Trees) → Sound (TypeRead ts) (r.tupleField row ts)
@@ -301,20 +304,20 @@ pub variantFields-sound : (row : ℕ) (ts : Trees) → Sound (λ x rs us. g.Vari
 variantFields-sound row end = met [] end (g.VariantFields.none refl)
 variantFields-sound row (leaf q us) = met [] (leaf q us) (g.VariantFields.none refl)
 variantFields-sound row (group d ts us) =
-    choice (eqb d 123)
+    choice (eqb d BRACE)
     (λ e. closing-met {P = g.NamedFields everything ts} {M = λ rs vs. g.VariantFields everything (group d ts us) vs rs}
     us (named-inside (row + 1) ts) (λ rs h. g.VariantFields.named e h))
-    (λ x. choice (eqb d 40)
+    (λ x. choice (eqb d PARENTHESIS)
     (λ e. closing-met {P = g.TupleFields everything ts} {M = λ rs vs. g.VariantFields everything (group d ts us) vs rs}
     us (tuple-inside (row + 1) ts) (λ rs h. g.VariantFields.tuple e h))
     (λ e. refused))
 
 -- without a value a `,` or the end of the group follows
 data ValueRead : Trees → Value → List ℕ → Trees → Type 0 where
-  none : {ts : Trees} → (starts (isPunct 44) ts || isEnd ts) ≡ true → ValueRead ts absent [] ts
+  none : {ts : Trees} → (starts (isPunct COMMA) ts || isEnd ts) ≡ true → ValueRead ts absent [] ts
   some : {v : Value} {ts us : Trees} {rs : List ℕ} → g.Value everything ts us rs → ValueRead ts v rs us
 
-negativeValue-read : (e m : Row) → isPunct 61 e ≡ true → isPunct 45 m ≡ true → (row : ℕ) (ts : Trees)
+negativeValue-read : (e m : Row) → isPunct EQUALS e ≡ true → isPunct MINUS m ≡ true → (row : ℕ) (ts : Trees)
     → Sound (λ v rs us. ValueRead (leaf e (leaf m ts)) v (role.separator ∷ role.value ∷ rs) us) (r.negativeValue row ts)
 negativeValue-read e m a b row end = refused
 negativeValue-read e m a b row (group d ts us) = refused
@@ -322,36 +325,36 @@ negativeValue-read e m a b row (leaf q us) =
     choice (isLiteral q) (λ c. choice (negatable (q .text))
     (λ d. met (role.value ∷ []) us (some (g.Value.negative a b c d))) (λ d. refused)) (λ c. refused)
 
-discriminant-read : (e : Row) → isPunct 61 e ≡ true → (row : ℕ) (ts : Trees)
+discriminant-read : (e : Row) → isPunct EQUALS e ≡ true → (row : ℕ) (ts : Trees)
     → Sound (λ v rs us. ValueRead (leaf e ts) v (role.separator ∷ rs) us) (r.discriminant row ts)
 discriminant-read e a row end = refused
 discriminant-read e a row (group d ts us) = refused
 discriminant-read e a row (leaf q us) =
     choice (isLiteral q) (λ c. met (role.value ∷ []) us (some (g.Value.literal a c)))
-    (λ c. choice (isPunct 45 q) (λ b. onward-still (role.value ∷ []) (negativeValue-read e q a b (row + 1) us))
+    (λ c. choice (isPunct MINUS q) (λ b. onward-still (role.value ∷ []) (negativeValue-read e q a b (row + 1) us))
     (λ b. refused))
 
 valueIf-read : (row : ℕ) (ts : Trees) → Sound (ValueRead ts) (r.valueIf row ts)
 valueIf-read row end = met [] end (none refl)
 valueIf-read row (group d ts us) = refused
 valueIf-read row (leaf q us) =
-    choice (isPunct 61 q) (λ e. onward-still (role.separator ∷ []) (discriminant-read q e (row + 1) us))
-    (λ e. choice (isPunct 44 q) (λ f. met [] (leaf q us) (none (ap (λ (b : Bool). b || false) f))) (λ f. refused))
+    choice (isPunct EQUALS q) (λ e. onward-still (role.separator ∷ []) (discriminant-read q e (row + 1) us))
+    (λ e. choice (isPunct COMMA q) (λ f. met [] (leaf q us) (none (ap (λ (b : Bool). b || false) f))) (λ f. refused))
 
 data VariantRead : Trees → Maybe Variant → List ℕ → Trees → Type 0 where
   another : {a : Variant} {ts us : Trees} {rs : List ℕ} → isEnd ts ≡ false → g.Variant everything ts us rs →
       VariantRead ts (one a) rs us
   last : VariantRead end done [] end
 
-parted : {t : Bool} {ws xs : Trees} {cs : List ℕ} → g.Separator everything 44 t ws xs cs →
-    (starts (isPunct 44) ws || isEnd ws) ≡ true → (t || isEnd xs) ≡ true
+parted : {t : Bool} {ws xs : Trees} {cs : List ℕ} → g.Separator everything COMMA t ws xs cs →
+    (starts (isPunct COMMA) ws || isEnd ws) ≡ true → (t || isEnd xs) ≡ true
 parted (g.Separator.present e) p = refl
 parted (g.Separator.absent {ts = ts} e) p = sym (ap (λ (b : Bool). b || isEnd ts) e) ∙ p
 
 variant-of : {t : Bool} {v : Value} {ts us vs ws xs ys : Trees} {ks bs fs es cs : List ℕ} →
     g.Attributes everything ts us ks
     → g.Word everything isIdent role.variant-name us vs bs
-    → g.VariantFields everything vs ws fs → ValueRead ws v es xs → g.Separator everything 44 t xs ys cs
+    → g.VariantFields everything vs ws fs → ValueRead ws v es xs → g.Separator everything COMMA t xs ys cs
     → g.Variant everything ts ys (ks ++ (bs ++ (fs ++ (es ++ cs))))
 variant-of h i j (none p) m = g.Variant.plain h i j m (parted m p)
 variant-of h i j (some k) m = g.Variant.valued h i j k m refl refl
@@ -362,7 +365,7 @@ variantHere-read row ts e =
     (λ x ks us h row. name-then role.variant-name row us
     (λ n bs vs i row. after-met row (variantFields-sound row vs)
     (λ f fs ws j row. after-met row (valueIf-read row ws)
-    (λ v es xs k row. after-met row (punctIf-sound 44 row xs)
+    (λ v es xs k row. after-met row (punctIf-sound COMMA row xs)
     (λ t cs ys m row. met [] ys (rw append-nil (another e (variant-of h i j k m))))))))
 
 variant-read : (row : ℕ) (ts : Trees) → Sound (VariantRead ts) (r.variant row ts)
@@ -391,13 +394,13 @@ pub data BodyRead : Kind → Trees → Trees → List ℕ → Type 0 where
 structBody-sound : (row : ℕ) (ts : Trees) → Sound (λ x rs us. BodyRead Kind.struct ts us rs) (r.structBody row ts)
 structBody-sound row end = refused
 structBody-sound row (leaf q us) =
-    choice (isPunct 59 q) (λ e. met (role.delimiter ∷ []) us (ofStruct (g.StructBody.unit e))) (λ e. refused)
+    choice (isPunct SEMICOLON q) (λ e. met (role.delimiter ∷ []) us (ofStruct (g.StructBody.unit e))) (λ e. refused)
 structBody-sound row (group d ts us) =
-    choice (eqb d 123)
+    choice (eqb d BRACE)
     (λ e. closing-met {P = g.NamedFields everything ts} {M = λ rs vs. BodyRead Kind.struct (group d ts us) vs rs} us
     (pure-met {P = λ rs us. g.NamedFields everything ts rs} (row + 1) Body.fields (named-inside (row + 1) ts))
     (λ rs h. ofStruct (g.StructBody.named e h)))
-    (λ x. choice (eqb d 40)
+    (λ x. choice (eqb d PARENTHESIS)
     (λ e. closing-met {P = g.TupleFields everything ts} {M = λ rs vs. BodyRead Kind.struct (group d ts us) vs rs} us
     (pure-met {P = λ rs us. g.TupleFields everything ts rs} (row + 1) Body.fields (tuple-inside (row + 1) ts))
     (λ rs h. ofStruct (g.StructBody.tuple e h)))
@@ -406,7 +409,7 @@ structBody-sound row (group d ts us) =
 enumBody-sound : (row : ℕ) (ts : Trees) → Sound (λ x rs us. BodyRead Kind.enum ts us rs) (r.enumBody row ts)
 enumBody-sound row end = refused
 enumBody-sound row (leaf q us) =
-    choice (isPunct 59 q) (λ e. met (role.delimiter ∷ []) us (ofEnum (g.EnumBody.unit refl e))) (λ e. refused)
+    choice (isPunct SEMICOLON q) (λ e. met (role.delimiter ∷ []) us (ofEnum (g.EnumBody.unit refl e))) (λ e. refused)
 enumBody-sound row (group d ts us) =
     closing-met {P = g.Variants everything ts} {M = λ rs vs. BodyRead Kind.enum (group d ts us) vs rs} us
     (pure-met {P = λ rs us. g.Variants everything ts rs} (row + 1) Body.variants (variants-sound (row + 1) ts))

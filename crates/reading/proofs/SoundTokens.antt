@@ -5,6 +5,8 @@ use mathlib.Core.List.{List, [], _∷_, _++_, append-nil}
 use Prim.Native.Nat.{ℕ, _+_, _-_}
 use lib.Dec.{eqb}
 use lib.ListN.{length}
+use Rattle.token_list.specs.Layout.{PUNCT}
+use Rattle.token_list.specs.Byte.{BRACKET, COMMA, GREATER, HASH, LESS, MINUS}
 use Rattle.token_list.specs.Text.{same}
 use Rattle.token_list.specs.Row.{Row, first}
 use Rattle.token_list.specs.Stream.{Trees, end, leaf, group}
@@ -59,35 +61,35 @@ pure-met row f refused = refused
 -- ## Runs
 
 module _ (st : Stops) (n depth : ℕ) (q : Row) (us : Trees) where
-  ordinary-by : {k lt gt co z cm : Bool} → eqb (q .kind) 112 ≡ k → eqb (first (q .text)) 60 ≡ lt →
-      eqb (first (q .text)) 62 ≡ gt
-      → eqb (first (q .text)) 44 ≡ co → eqb depth 0 ≡ z → st .comma ≡ cm
+  ordinary-by : {k lt gt co z cm : Bool} → eqb (q .kind) PUNCT ≡ k → eqb (first (q .text)) LESS ≡ lt →
+      eqb (first (q .text)) GREATER ≡ gt
+      → eqb (first (q .text)) COMMA ≡ co → eqb depth 0 ≡ z → st .comma ≡ cm
       → g.ordinary st depth q ≡ not (k && lt || k && gt || k && co && (z && cm))
   ordinary-by a b c d e f = λ i. not (a i && b i || a i && c i || a i && d i && (e i && f i))
 
   -- a token that is neither `<` nor `>`
   run-rest : (minus co z cm : Bool) (row : ℕ) (go : ℕ → Bool → Took RunEnd)
       → ((e : ℕ) (m : Bool) → Sound (λ x rs vs. g.Run everything st n e m us vs rs) (go e m))
-      → eqb (q .kind) 112 ≡ true → eqb (first (q .text)) 60 ≡ false → eqb (first (q .text)) 62 ≡ false →
-      eqb (first (q .text)) 44 ≡ co
+      → eqb (q .kind) PUNCT ≡ true → eqb (first (q .text)) LESS ≡ false → eqb (first (q .text)) GREATER ≡ false →
+      eqb (first (q .text)) COMMA ≡ co
       → eqb depth 0 ≡ z → st .comma ≡ cm
       → Sound (λ x rs vs. g.Run everything st n depth minus (leaf q us) vs rs)
-      (r.judged depth (cond (co && (z && cm)) (ends r.atComma) (belongs depth (eqb (first (q .text)) 45)))
+      (r.judged depth (cond (co && (z && cm)) (ends r.atComma) (belongs depth (eqb (first (q .text)) MINUS)))
       (λ e m. onward (n ∷ []) (go e m)) (leaf q us) row)
   run-rest minus co z cm row go ih a b c d e f = by co z cm d e f
     where
-      belonging : {co z cm : Bool} → eqb (first (q .text)) 44 ≡ co → eqb depth 0 ≡ z → st .comma ≡ cm →
+      belonging : {co z cm : Bool} → eqb (first (q .text)) COMMA ≡ co → eqb depth 0 ≡ z → st .comma ≡ cm →
           (co && (z && cm)) ≡ false
           → Sound (λ x rs vs. g.Run everything st n depth minus (leaf q us) vs rs)
-          (onward (n ∷ []) (go depth (eqb (first (q .text)) 45)))
+          (onward (n ∷ []) (go depth (eqb (first (q .text)) MINUS)))
       belonging d e f x =
-          onward-met (n ∷ []) (ih depth (eqb (first (q .text)) 45))
+          onward-met (n ∷ []) (ih depth (eqb (first (q .text)) MINUS))
           (λ y rs vs t. g.Run.token (ordinary-by a b c d e f ∙ ap not x)
           (subst (λ (m : Bool). g.Run everything st n depth m us vs rs) (sym (and-last _ _ a)) t))
 
-      by : (co z cm : Bool) → eqb (first (q .text)) 44 ≡ co → eqb depth 0 ≡ z → st .comma ≡ cm
+      by : (co z cm : Bool) → eqb (first (q .text)) COMMA ≡ co → eqb depth 0 ≡ z → st .comma ≡ cm
           → Sound (λ x rs vs. g.Run everything st n depth minus (leaf q us) vs rs)
-          (r.judged depth (cond (co && (z && cm)) (ends r.atComma) (belongs depth (eqb (first (q .text)) 45)))
+          (r.judged depth (cond (co && (z && cm)) (ends r.atComma) (belongs depth (eqb (first (q .text)) MINUS)))
           (λ e m. onward (n ∷ []) (go e m)) (leaf q us) row)
       by true true true d e f = met [] (leaf q us) (g.Run.comma (and-both _ _ a d) e f)
       by true true false d e f = belonging d e f refl
@@ -99,17 +101,18 @@ module _ (st : Stops) (n depth : ℕ) (q : Row) (us : Trees) where
       → Sound (λ x rs vs. g.Run everything st n depth minus (leaf q us) vs rs)
       (r.judged depth (r.judge st depth minus q) (λ e m. onward (n ∷ []) (go e m)) (leaf q us) row)
   run-leaf minus row go ih =
-      by (eqb (q .kind) 112) minus (eqb (first (q .text)) 60) (eqb (first (q .text)) 62) (eqb (first (q .text)) 44)
+      by (eqb (q .kind) PUNCT) minus (eqb (first (q .text)) LESS) (eqb (first (q .text)) GREATER)
+      (eqb (first (q .text)) COMMA)
       (eqb depth 0) (st .comma) (st .angle) refl refl refl refl refl refl refl
     where
-      by : (k minus lt gt co z cm ang : Bool) → eqb (q .kind) 112 ≡ k → eqb (first (q .text)) 60 ≡ lt →
-          eqb (first (q .text)) 62 ≡ gt
-          → eqb (first (q .text)) 44 ≡ co → eqb depth 0 ≡ z → st .comma ≡ cm → st .angle ≡ ang
+      by : (k minus lt gt co z cm ang : Bool) → eqb (q .kind) PUNCT ≡ k → eqb (first (q .text)) LESS ≡ lt →
+          eqb (first (q .text)) GREATER ≡ gt
+          → eqb (first (q .text)) COMMA ≡ co → eqb depth 0 ≡ z → st .comma ≡ cm → st .angle ≡ ang
           → Sound (λ x rs vs. g.Run everything st n depth minus (leaf q us) vs rs)
           (r.judged depth (cond k (cond (minus && gt) (belongs depth false)
           (cond lt (belongs (depth + 1) false) (cond gt
           (cond z (cond ang (ends r.atAngle) unopened) (belongs (depth - 1) false))
-          (cond (co && (z && cm)) (ends r.atComma) (belongs depth (eqb (first (q .text)) 45))))))
+          (cond (co && (z && cm)) (ends r.atComma) (belongs depth (eqb (first (q .text)) MINUS))))))
           (belongs depth false))
           (λ e m. onward (n ∷ []) (go e m)) (leaf q us) row)
       by false minus lt gt co z cm ang a b c d e f h =
@@ -157,19 +160,19 @@ mutual
   attributes-sound row end = met [] end (g.Attributes.none refl)
   attributes-sound row (group d ts us) = met [] (group d ts us) (g.Attributes.none refl)
   attributes-sound row (leaf q us) =
-      choice (isPunct 35 q) (λ e. afterHash-sound row q us e) (λ e. met [] (leaf q us) (g.Attributes.none e))
+      choice (isPunct HASH q) (λ e. afterHash-sound row q us e) (λ e. met [] (leaf q us) (g.Attributes.none e))
 
-  afterHash-sound : (row : ℕ) (q : Row) (us : Trees) → isPunct 35 q ≡ true →
+  afterHash-sound : (row : ℕ) (q : Row) (us : Trees) → isPunct HASH q ≡ true →
       Sound (λ x rs vs. g.Attributes everything (leaf q us) vs rs) (r.afterHash row us)
   afterHash-sound row q end e = refused
   afterHash-sound row q (group d ts us) e =
-      choice (eqb d 91)
+      choice (eqb d BRACKET)
       (λ f. onward-met (role.attribute-mark ∷ copied role.attribute-group ts)
       (pure-met {P = λ rs vs. g.Attributes everything us vs rs} (row + 1 + r.groupSize ts) (λ xs. ts ∷ xs)
       (attributes-sound (row + 1 + r.groupSize ts) us)) (λ x rs vs h. g.Attributes.attribute e f h))
       (λ f. refused)
   afterHash-sound row q (leaf p us) e =
-      choice (isPunct 35 p) (λ f. onward-met (role.idle-mark ∷ []) (afterHash-sound (row + 1) p us f)
+      choice (isPunct HASH p) (λ f. onward-met (role.idle-mark ∷ []) (afterHash-sound (row + 1) p us f)
       (λ x rs vs h. g.Attributes.idle refl e f h)) (λ f. refused)
 
 scopeAfter-sound : (row : ℕ) (q : Row) (us : Trees) → isWord PUB q ≡ true

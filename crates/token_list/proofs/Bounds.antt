@@ -10,7 +10,7 @@ use borrow.Author.Tests.{eqb-true, eqb-false, leb-true, leb-false, ltb-false}
 use lib.Dec.{eqb, leb, ltb}
 use lib.ListN.{length, drop, length-append, length-drop}
 use Rattle.token_list.specs.Text.{LF, closer}
-use Rattle.token_list.specs.Layout.{marked, firstRow}
+use Rattle.token_list.specs.Layout.{marked, firstRow, CLOSE, MAX-DEPTH, OPEN}
 use Rattle.token_list.specs.Row.{Row, Lines, tail, line, lines, written, begun, Form, plain, opens, closed, wrong}
 use Rattle.token_list.specs.Row.{form, markColumn}
 use Rattle.token_list.specs.Check.{Answer, passed, refused, END, Open, step, walk, named, check}
@@ -60,7 +60,7 @@ step-limited : {b : ℕ} (r : ℕ) (gs : List Open) (f : Form) (go : List Open �
 step-limited r gs wrong go l h o k = low refl l h
 step-limited r gs plain go l h o k = k gs (below-next r gs o)
 step-limited r gs (opens d) go l h o k =
-    choice (leb 32 (length gs)) (low refl l h) (k _ (omega arith, below-next r gs o))
+    choice (leb MAX-DEPTH (length gs)) (low refl l h) (k _ (omega arith, below-next r gs o))
 step-limited r [] (closed d) go l h o k = low refl l h
 step-limited r (g ∷ gs) (closed d) go l h o k =
     choice (eqb (closer (g .delimiter)) d) (k gs (below-next r gs (o .1))) (low refl l h)
@@ -130,7 +130,7 @@ streams-texts : (m : Bool) (rs : List Row) → texts (streams rs .here) + around
     (written m rs)
 unfolding around
 streams-texts m [] = omega arith
-streams-texts m (r ∷ rs) = kind (streams-texts m rs) (eqb (r .kind) 111) (eqb (r .kind) 99) refl refl
+streams-texts m (r ∷ rs) = kind (streams-texts m rs) (eqb (r .kind) OPEN) (eqb (r .kind) CLOSE) refl refl
   where
     total : Streams → ℕ
     total st = texts (st .here) + around (st .outer)
@@ -147,7 +147,8 @@ streams-texts m (r ∷ rs) = kind (streams-texts m rs) (eqb (r .kind) 111) (eqb 
         → total (before r (streams rs)) ≤ length (written m (r ∷ rs))
     within e h ih = let same = ap total e in omega (arith, long)
 
-    kind : total (streams rs) ≤ length (written m rs) → (o c : Bool) → eqb (r .kind) 111 ≡ o → eqb (r .kind) 99 ≡ c →
+    kind : total (streams rs) ≤ length (written m rs) → (o c : Bool) →
+        eqb (r .kind) OPEN ≡ o → eqb (r .kind) CLOSE ≡ c →
         total (before r (streams rs)) ≤ length (written m (r ∷ rs))
     kind ih true c a b = within (before-open r (streams rs) (eqb-true _ _ a))
         (omega (arith, around-parts (streams rs .outer))) ih

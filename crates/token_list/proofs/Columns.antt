@@ -9,8 +9,9 @@ use lib.Dec.{eqb, leb, ltb}
 use lib.ListN.{length, getD, take, drop, length-drop}
 use lib.ListN.{List·getD-eq-default}
 use lib.Seq.{drop-drop, getD-drop}
+use Rattle.token_list.specs.Byte.{ONE, QUOTE, SPACE, ZERO, code}
 use Rattle.token_list.specs.Text.{LF}
-use Rattle.token_list.specs.Layout.{names, marked, firstRow, textOffset}
+use Rattle.token_list.specs.Layout.{names, marked, firstRow, textOffset, PUNCT}
 use Rattle.token_list.specs.Row.{Row, Lines, tail, line, lines, front, byte, wrong, form, textForm, first}
 use Rattle.token_list.specs.Row.{markFits, columnsFit, ownMark, markOf, lineRow, rowOf, markByte, markColumn}
 use Rattle.token_list.specs.Row.{rightMark}
@@ -43,27 +44,27 @@ first-row-low s = go (marked s)
 
 -- `0`, or `1` of punctuation
 data Fits (k j : ℕ) : Type 0 where
-  zero-mark : j ≡ 48 → Fits k j
-  one-mark : j ≡ 49 → eqb k 112 ≡ true → Fits k j
+  zero-mark : j ≡ ZERO → Fits k j
+  one-mark : j ≡ ONE → eqb k PUNCT ≡ true → Fits k j
 
 fits : (k j : ℕ) → markFits k j ≡ true → Fits k j
-fits k j e = go (eqb j 48) refl e
+fits k j e = go (eqb j ZERO) refl e
   where
-    go : (b : Bool) → eqb j 48 ≡ b → (b || (eqb k 112 && eqb j 49)) ≡ true → Fits k j
-    go true q e = zero-mark (eqb-true j 48 q)
-    go false q e = let p = and-parts (eqb k 112) (eqb j 49) e in one-mark (eqb-true j 49 (p .1)) (p .0)
+    go : (b : Bool) → eqb j ZERO ≡ b → (b || (eqb k PUNCT && eqb j ONE)) ≡ true → Fits k j
+    go true q e = zero-mark (eqb-true j ZERO q)
+    go false q e = let p = and-parts (eqb k PUNCT) (eqb j ONE) e in one-mark (eqb-true j ONE (p .1)) (p .0)
 
 mark-no-lf : (k j : ℕ) → Fits k j → eqb j LF ≡ false
 mark-no-lf k j (zero-mark e) = ap (λ (x : ℕ). eqb x LF) e
 mark-no-lf k j (one-mark e p) = ap (λ (x : ℕ). eqb x LF) e
 
-mark-again : (k j : ℕ) → Fits k j → j ≡ markByte (eqb j 49)
-mark-again k j (zero-mark e) = e ∙ sym (ap (λ (x : ℕ). markByte (eqb x 49)) e)
-mark-again k j (one-mark e p) = e ∙ sym (ap (λ (x : ℕ). markByte (eqb x 49)) e)
+mark-again : (k j : ℕ) → Fits k j → j ≡ markByte (eqb j ONE)
+mark-again k j (zero-mark e) = e ∙ sym (ap (λ (x : ℕ). markByte (eqb x ONE)) e)
+mark-again k j (one-mark e p) = e ∙ sym (ap (λ (x : ℕ). markByte (eqb x ONE)) e)
 
-mark-right : (k j : ℕ) → Fits k j → (not (eqb j 49) || eqb k 112) ≡ true
-mark-right k j (zero-mark e) = ap (λ (x : ℕ). not (eqb x 49) || eqb k 112) e
-mark-right k j (one-mark e p) = ap (λ (x : ℕ). not (eqb x 49) || eqb k 112) e ∙ p
+mark-right : (k j : ℕ) → Fits k j → (not (eqb j ONE) || eqb k PUNCT) ≡ true
+mark-right k j (zero-mark e) = ap (λ (x : ℕ). not (eqb x ONE) || eqb k PUNCT) e
+mark-right k j (one-mark e p) = ap (λ (x : ℕ). not (eqb x ONE) || eqb k PUNCT) e ∙ p
 
 pub beq-self : (b : Bool) → Bool·beq b b ≡ true
 beq-self true = refl
@@ -72,29 +73,29 @@ beq-self false = refl
 -- ## A line whose columns fit
 
 record Four (k s j u : ℕ) : Type 0 where
-  space : s ≡ 32
+  space : s ≡ SPACE
   mark : Fits k j
-  after : u ≡ 32
+  after : u ≡ SPACE
 
-four : (k s j u : ℕ) → (eqb s 32 && (markFits k j && eqb u 32)) ≡ true → Four k s j u
+four : (k s j u : ℕ) → (eqb s SPACE && (markFits k j && eqb u SPACE)) ≡ true → Four k s j u
 four k s j u e =
-    let p = and-parts (eqb s 32) _ e in
-    let q = and-parts (markFits k j) (eqb u 32) (p .1) in
-    record { space = eqb-true s 32 (p .0); mark = fits k j (q .0); after = eqb-true u 32 (q .1) }
+    let p = and-parts (eqb s SPACE) _ e in
+    let q = and-parts (markFits k j) (eqb u SPACE) (p .1) in
+    record { space = eqb-true s SPACE (p .0); mark = fits k j (q .0); after = eqb-true u SPACE (q .1) }
 
 -- the bytes of a line are those of its row
 pub line-bytes : (m : Bool) (l : List ℕ) → columnsFit m l ≡ true →
-    l ≡ first l ∷ 32 ∷ markColumn m (markOf m l) ++ drop (textOffset m) l
+    l ≡ first l ∷ SPACE ∷ markColumn m (markOf m l) ++ drop (textOffset m) l
 line-bytes m [] e = absurd (false≢true e)
 line-bytes m (k ∷ []) e = absurd (false≢true e)
-line-bytes false (k ∷ s ∷ t) e = ap (λ (x : ℕ). k ∷ x ∷ t) (eqb-true s 32 e)
+line-bytes false (k ∷ s ∷ t) e = ap (λ (x : ℕ). k ∷ x ∷ t) (eqb-true s SPACE e)
 line-bytes true (k ∷ s ∷ []) e = absurd (false≢true e)
 line-bytes true (k ∷ s ∷ j ∷ []) e = absurd (false≢true e)
 line-bytes true (k ∷ s ∷ j ∷ u ∷ t) e =
     let f = four k s j u e in
     ap (λ (x : ℕ). k ∷ x ∷ j ∷ u ∷ t) (f .space)
-    ∙ ap (λ (x : ℕ). k ∷ 32 ∷ x ∷ u ∷ t) (mark-again k j (f .mark))
-    ∙ ap (λ (x : ℕ). k ∷ 32 ∷ markByte (eqb j 49) ∷ x ∷ t) (f .after)
+    ∙ ap (λ (x : ℕ). k ∷ SPACE ∷ x ∷ u ∷ t) (mark-again k j (f .mark))
+    ∙ ap (λ (x : ℕ). k ∷ SPACE ∷ markByte (eqb j ONE) ∷ x ∷ t) (f .after)
 
 pub line-long : (m : Bool) (l : List ℕ) → columnsFit m l ≡ true → leb (textOffset m) (length l) ≡ true
 line-long m [] e = absurd (false≢true e)
@@ -121,7 +122,7 @@ line-mark true (k ∷ s ∷ j ∷ u ∷ t) e = mark-right k j (four k s j u e .m
 fronted : (b : ℕ) (bs : List ℕ) → eqb b LF ≡ false → lines (b ∷ bs) ≡ front b (lines bs)
 fronted b bs e = ap (λ (t : Bool). byte t b (lines bs)) e
 
-no-lf : (s : ℕ) → s ≡ 32 → eqb s LF ≡ false
+no-lf : (s : ℕ) → s ≡ SPACE → eqb s LF ≡ false
 no-lf s e = ap (λ (x : ℕ). eqb x LF) e
 
 two-fronts : (k s : ℕ) (ls : Lines) → front k (front s ls) ≡ prepend (k ∷ s ∷ []) ls
@@ -138,7 +139,7 @@ pub columns-line : (m : Bool) (bs : List ℕ) → columnsFit m bs ≡ true → e
 columns-line m [] e n = absurd (false≢true e)
 columns-line m (k ∷ []) e n = absurd (false≢true e)
 columns-line false (k ∷ s ∷ t) e n =
-    fronted k (s ∷ t) n ∙ ap (front k) (fronted s t (no-lf s (eqb-true s 32 e))) ∙ two-fronts k s (lines t)
+    fronted k (s ∷ t) n ∙ ap (front k) (fronted s t (no-lf s (eqb-true s SPACE e))) ∙ two-fronts k s (lines t)
 columns-line true (k ∷ s ∷ []) e n = absurd (false≢true e)
 columns-line true (k ∷ s ∷ j ∷ []) e n = absurd (false≢true e)
 columns-line true (k ∷ s ∷ j ∷ u ∷ t) e n =
@@ -275,12 +276,12 @@ module _ (s : List ℕ) (i : ℕ) where
   columns-plain = go (ltb (i + 1) (length s)) refl
     where
       go : (b : Bool) → ltb (i + 1) (length s) ≡ b →
-          columnsFit false (drop i s) ≡ (b && eqb (getD s (i + 1) 0) 32)
+          columnsFit false (drop i s) ≡ (b && eqb (getD s (i + 1) 0) SPACE)
       go true e = ap (columnsFit false) (two (ltb-true _ _ e))
       go false e = columns-short false (omega (arith, ltb-false (i + 1) (length s) e))
 
-  columns-four : i + 3 < length s → columnsFit true (drop i s) ≡ (eqb (getD s (i + 1) 0) 32 &&
-      (markFits (getD s i 0) (getD s (i + 2) 0) && eqb (getD s (i + 3) 0) 32))
+  columns-four : i + 3 < length s → columnsFit true (drop i s) ≡ (eqb (getD s (i + 1) 0) SPACE &&
+      (markFits (getD s i 0) (getD s (i + 2) 0) && eqb (getD s (i + 3) 0) SPACE))
   columns-four h =
       let n : i + 2 + 1 ≡ i + 3 = omega arith in
       ap (columnsFit true)
@@ -294,16 +295,16 @@ module _ (s : List ℕ) (i : ℕ) where
   columns-marked = go (ltb (i + 3) (length s)) refl
     where
       fit : Bool
-      fit = eqb (getD s (i + 1) 0) 32 && markFits (getD s i 0) (getD s (i + 2) 0)
+      fit = eqb (getD s (i + 1) 0) SPACE && markFits (getD s i 0) (getD s (i + 2) 0)
 
       go : (b : Bool) → ltb (i + 3) (length s) ≡ b →
           columnsFit true (drop i s) ≡ ((b && fit) && spaced s (i + 2))
       go true e =
           let n : i + 2 + 1 ≡ i + 3 = omega arith in
-          let same : eqb (getD s (i + 3) 0) 32 ≡ spaced s (i + 2) =
-          sym (ap (λ (k : ℕ). ltb k (length s) && eqb (getD s k 0) 32) n ∙ and-last _ _ e) in
+          let same : eqb (getD s (i + 3) 0) SPACE ≡ spaced s (i + 2) =
+          sym (ap (λ (k : ℕ). ltb k (length s) && eqb (getD s k 0) SPACE) n ∙ and-last _ _ e) in
           columns-four (ltb-true _ _ e)
-          ∙ and-assoc (eqb (getD s (i + 1) 0) 32) (markFits (getD s i 0) (getD s (i + 2) 0)) _
+          ∙ and-assoc (eqb (getD s (i + 1) 0) SPACE) (markFits (getD s i 0) (getD s (i + 2) 0)) _
           ∙ ap (λ (x : Bool). fit && x) same
       go false e = columns-short true (omega (arith, ltb-false (i + 3) (length s) e))
 
@@ -355,22 +356,22 @@ module _ (m : Bool) (s : List ℕ) (at : ℕ) where
 
 -- ## Marks byte by byte
 
-pub mark-column : (s : List ℕ) (i : ℕ) → eqb (getD s (i + 2) 0) 49 ≡ markOf true (drop i s)
-mark-column s i = ap (λ (b : ℕ). eqb b 49) (sym (getD-drop i s 2 0))
+pub mark-column : (s : List ℕ) (i : ℕ) → eqb (getD s (i + 2) 0) ONE ≡ markOf true (drop i s)
+mark-column s i = ap (λ (b : ℕ). eqb b ONE) (sym (getD-drop i s 2 0))
 
 pub own-mark : (s : List ℕ) (i : ℕ) → i + 2 < length s →
-    markOf false (drop i s) ≡ (eqb (getD s i 0) 112 && eqb (getD s (i + 2) 0) 39)
+    markOf false (drop i s) ≡ (eqb (getD s i 0) PUNCT && eqb (getD s (i + 2) 0) QUOTE)
 own-mark s i h =
     ap (markOf false) (two s i (omega arith))
-    ∙ ap (λ (t : List ℕ). eqb (getD s i 0) 112 && eqb (first t) 39) (drop-next s (i + 2) h)
+    ∙ ap (λ (t : List ℕ). eqb (getD s i 0) PUNCT && eqb (first t) QUOTE) (drop-next s (i + 2) h)
 
 -- ## The names of a list
 
 pub marked-short : (s : List ℕ) → length s ≤ 5 → marked s ≡ false
 unfolding marked
-marked-short s h = ap (λ (b : ℕ). eqb b 106) (List·getD-eq-default s 0 h)
+marked-short s h = ap (λ (b : ℕ). eqb b (code "j")) (List·getD-eq-default s 0 h)
 
-pub marked-byte : (s : List ℕ) → eqb (getD s 5 0) 106 ≡ marked s
+pub marked-byte : (s : List ℕ) → eqb (getD s 5 0) (code "j") ≡ marked s
 unfolding marked
 marked-byte s = refl
 

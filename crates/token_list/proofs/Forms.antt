@@ -8,6 +8,8 @@ use borrow.Author.Tests.{eq-eqb, ne-eqb, eqb-true, eqb-false, le-leb, lt-leb, le
 use lib.Dec.{eqb, leb, ltb}
 use lib.ListN.{length, getD, drop}
 use lib.Seq.{slice, length-slice}
+use Rattle.token_list.specs.Layout.{CLOSE, IDENT, LITERAL, OPEN, PUNCT}
+use Rattle.token_list.specs.Byte.{LF, SPACE}
 use Rattle.token_list.specs.Text.{LF, all, member, name, nameStart, namePart, digit, literal, literalStart}
 use Rattle.token_list.specs.Text.{printable, single, punctuation, opening, closing}
 use Rattle.token_list.specs.Row.{line, lines, front, Form, plain, opens, closed, wrong, formOf, textForm}
@@ -20,11 +22,11 @@ use Rattle.token_list.proofs.Texts.{chosen, passed-over, only, single-o
 use Rattle.token_list.proofs.Texts.{and-last, and-both, and-parts, or-holds}
 use Rattle.token_list.proofs.Lines.{lines-byte, lines-end}
 
-pub ident-form : (k : ℕ) (t : List ℕ) → k ≡ 105 → formOf k t ≡ cond (name t) plain wrong
+pub ident-form : (k : ℕ) (t : List ℕ) → k ≡ IDENT → formOf k t ≡ cond (name t) plain wrong
 unfolding formOf
 ident-form k t e = chosen _ _ _ (eq-eqb _ _ e)
 
-pub literal-form : (k : ℕ) (t : List ℕ) → k ≡ 108 → formOf k t ≡ cond (literal t) plain wrong
+pub literal-form : (k : ℕ) (t : List ℕ) → k ≡ LITERAL → formOf k t ≡ cond (literal t) plain wrong
 unfolding formOf
 literal-form k t e = rw e
 
@@ -37,14 +39,14 @@ single-choice p f t e = rw (single-only p t e) (go (p (only t)) refl)
     go true q = ap f (first-only p t e q)
     go false q = refl
 
-pub single-form : (k : ℕ) (t : List ℕ) → (k ≡ 105 → ⊥) → (k ≡ 108 → ⊥) → formOf k t ≡ singleForm k (only t)
+pub single-form : (k : ℕ) (t : List ℕ) → (k ≡ IDENT → ⊥) → (k ≡ LITERAL → ⊥) → formOf k t ≡ singleForm k (only t)
 unfolding formOf
 single-form k t a b =
     passed-over _ _ _ (ne-eqb _ _ a)
     ∙ passed-over _ _ _ (ne-eqb _ _ b)
-    ∙ (λ i. cond (eqb k 112) (cond (single-only punctuation t refl i) plain wrong)
-    (cond (eqb k 111) (single-choice opening opens t refl i)
-    (cond (eqb k 99) (single-choice closing closed t refl i) wrong)))
+    ∙ (λ i. cond (eqb k PUNCT) (cond (single-only punctuation t refl i) plain wrong)
+    (cond (eqb k OPEN) (single-choice opening opens t refl i)
+    (cond (eqb k CLOSE) (single-choice closing closed t refl i) wrong)))
 
 -- ## Texts of one byte
 
@@ -92,12 +94,12 @@ text-right k t h = chosen _ _ _ (le-leb _ _ h)
 
 -- ## Rows of which one look at each byte tells the form
 
-pub name-fits : (k b : ℕ) (t : List ℕ) → k ≡ 105 → nameStart b ≡ true → all namePart (b ∷ t) ≡ true →
+pub name-fits : (k b : ℕ) (t : List ℕ) → k ≡ IDENT → nameStart b ≡ true → all namePart (b ∷ t) ≡ true →
     formOf k (b ∷ t) ≡ plain
 name-fits k b t e n f =
     ident-form k (b ∷ t) e ∙ chosen _ _ _ (or-holds _ _ (and-both _ _ n (sym (and-last _ _ (or-holds _ _ n)) ∙ f)))
 
-pub literal-fits : (k b : ℕ) (t : List ℕ) → k ≡ 108 → literalStart b ≡ true → all printable (b ∷ t) ≡ true →
+pub literal-fits : (k b : ℕ) (t : List ℕ) → k ≡ LITERAL → literalStart b ≡ true → all printable (b ∷ t) ≡ true →
     formOf k (b ∷ t) ≡ plain
 literal-fits k b t e n f = literal-form k (b ∷ t) e ∙ chosen _ _ _ (and-both _ _ n f)
 
@@ -126,32 +128,32 @@ chosen-wrong false false false false false = refl
 
 pub lf-text : (k b : ℕ) (t : List ℕ) → b ≡ LF → formOf k (b ∷ t) ≡ wrong
 unfolding formOf
-lf-text k b [] e = rw e (chosen-wrong (eqb k 105) (eqb k 108) (eqb k 112) (eqb k 111) (eqb k 99))
-lf-text k b (c ∷ t) e = rw e (chosen-wrong (eqb k 105) (eqb k 108) (eqb k 112) (eqb k 111) (eqb k 99))
+lf-text k b [] e = rw e (chosen-wrong (eqb k IDENT) (eqb k LITERAL) (eqb k PUNCT) (eqb k OPEN) (eqb k CLOSE))
+lf-text k b (c ∷ t) e = rw e (chosen-wrong (eqb k IDENT) (eqb k LITERAL) (eqb k PUNCT) (eqb k OPEN) (eqb k CLOSE))
 
 pub no-text : (k : ℕ) → formOf k [] ≡ wrong
 unfolding formOf
-no-text k = chosen-wrong (eqb k 105) (eqb k 108) (eqb k 112) (eqb k 111) (eqb k 99)
+no-text k = chosen-wrong (eqb k IDENT) (eqb k LITERAL) (eqb k PUNCT) (eqb k OPEN) (eqb k CLOSE)
 
 -- a text that is not of one byte is none of kind p, o or c
-pub single-wrong : (k : ℕ) (t : List ℕ) → (k ≡ 105 → ⊥) → (k ≡ 108 → ⊥) → 0 ≡ only t → formOf k t ≡ wrong
+pub single-wrong : (k : ℕ) (t : List ℕ) → (k ≡ IDENT → ⊥) → (k ≡ LITERAL → ⊥) → 0 ≡ only t → formOf k t ≡ wrong
 single-wrong k t a b e =
-    single-form k t a b ∙ ap (singleForm k) (sym e) ∙ chosen-wrong false false (eqb k 112) (eqb k 111) (eqb k 99)
+    single-form k t a b ∙ ap (singleForm k) (sym e) ∙ chosen-wrong false false (eqb k PUNCT) (eqb k OPEN) (eqb k CLOSE)
 
 pub record OneByte (s : List ℕ) (i : ℕ) : Type 0 where
   pub within : i + 3 < length s
-  pub space : getD s (i + 1) 0 ≡ 32
-  pub lf : getD s (i + 3) 0 ≡ 10
+  pub space : getD s (i + 1) 0 ≡ SPACE
+  pub lf : getD s (i + 3) 0 ≡ LF
 
 pub one-byte-parts : (s : List ℕ) (i : ℕ) → oneByte s i ≡ true → OneByte s i
 one-byte-parts s i e =
     let p = and-parts (ltb (i + 3) (length s)) _ e in
-    let q = and-parts (eqb (getD s (i + 1) 0) 32) _ (p .1) in
+    let q = and-parts (eqb (getD s (i + 1) 0) SPACE) _ (p .1) in
     record { within = ltb-true _ _ (p .0); space = eqb-true _ _ (q .0); lf = eqb-true _ _ (q .1) }
 
 -- a text behind a space that is not of one byte
-pub not-one-byte : (s : List ℕ) (i e : ℕ) → oneByte s i ≡ false → getD s (i + 1) 0 ≡ 32 → e < length s →
-    getD s e 0 ≡ 10 → i + 2 + 1 ≡ e → ⊥
+pub not-one-byte : (s : List ℕ) (i e : ℕ) → oneByte s i ≡ false → getD s (i + 1) 0 ≡ SPACE → e < length s →
+    getD s e 0 ≡ LF → i + 2 + 1 ≡ e → ⊥
 not-one-byte s i e o space h q n =
     let last : e ≡ i + 3 = omega (arith, n) in
     false≢true
@@ -221,12 +223,12 @@ module _ (k : ℕ) (s : List ℕ) (at : ℕ) (r : Line) where
 -- ## Rows by what stands behind a column
 
 module _ (k : ℕ) (s : List ℕ) (i : ℕ) (r : Line) where
-  pub behind-space : i + 1 < length s → getD s (i + 1) 0 ≡ 32 → TextShaped k s (i + 2) r → ColumnShaped k s i r
+  pub behind-space : i + 1 < length s → getD s (i + 1) 0 ≡ SPACE → TextShaped k s (i + 2) r → ColumnShaped k s i r
   behind-space h e t =
       let yes = and-both _ _ (lt-ltb (i + 1) (length s) h) (eq-eqb _ _ e) in
       record { text = λ x. t; none = λ no. absurd (false≢true (sym no ∙ yes)) }
 
-  pub no-space : (i + 1 < length s → getD s (i + 1) 0 ≡ 32 → ⊥) → shape (r .shape) ≡ wrong → ColumnShaped k s i r
+  pub no-space : (i + 1 < length s → getD s (i + 1) 0 ≡ SPACE → ⊥) → shape (r .shape) ≡ wrong → ColumnShaped k s i r
   no-space n w =
       record {
         text = λ yes. let p = and-parts (ltb (i + 1) (length s)) _ yes in

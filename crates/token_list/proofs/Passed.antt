@@ -7,8 +7,10 @@ use native.Mathlib.Omega.{arith}
 use borrow.Author.Tests.{lt-ltb, eqb-true, eqb-false, leb-false}
 use lib.Dec.{eqb, leb, ltb}
 use lib.ListN.{length, drop}
+use Rattle.token_list.specs.Byte.{SPACE}
 use Rattle.token_list.specs.Text.{LF, name, literal, single, punctuation, opening, closing, closer}
 use Rattle.token_list.specs.Layout.{marked, firstRow, textOffset}
+use Rattle.token_list.specs.Layout.{CLOSE, IDENT, LITERAL, MAX-BYTES, MAX-DEPTH, MAX-ROWS, OPEN, PUNCT}
 use Rattle.token_list.specs.Row.{Row, Lines, tail, line, lines, rows, written, Form, plain, opens}
 use Rattle.token_list.specs.Row.{closed, wrong, form, formOf, textForm, first, columnsFit, markOf, lineRow}
 use Rattle.token_list.specs.Row.{markColumn}
@@ -27,26 +29,28 @@ never p n m e = let z : _≡_ {A = ℕ} 0 1 = cc in omega arith
 
 -- ## The form of a row of a kind that opens, closes, or does neither
 
-pub open-form : (k : ℕ) (t : List ℕ) → eqb k 111 ≡ true → formOf k t ≡ cond (single opening t) (opens (first t)) wrong
+pub open-form : (k : ℕ) (t : List ℕ) → eqb k OPEN ≡ true →
+    formOf k t ≡ cond (single opening t) (opens (first t)) wrong
 unfolding formOf
-open-form k t e = rw (eqb-true k 111 e)
+open-form k t e = rw (eqb-true k OPEN e)
 
-pub close-form : (k : ℕ) (t : List ℕ) → eqb k 99 ≡ true → formOf k t ≡ cond (single closing t) (closed (first t)) wrong
+pub close-form : (k : ℕ) (t : List ℕ) → eqb k CLOSE ≡ true →
+    formOf k t ≡ cond (single closing t) (closed (first t)) wrong
 unfolding formOf
-close-form k t e = rw (eqb-true k 99 e)
+close-form k t e = rw (eqb-true k CLOSE e)
 
-pub plain-form : (k : ℕ) (t : List ℕ) → eqb k 111 ≡ false → eqb k 99 ≡ false → (b : Bool) ×
+pub plain-form : (k : ℕ) (t : List ℕ) → eqb k OPEN ≡ false → eqb k CLOSE ≡ false → (b : Bool) ×
     (formOf k t ≡ cond b plain wrong)
 unfolding formOf
-plain-form k t o c = go (eqb k 105) (eqb k 108) (eqb k 112)
+plain-form k t o c = go (eqb k IDENT) (eqb k LITERAL) (eqb k PUNCT)
   where
     go : (x y z : Bool)
         → (b : Bool)
         × (cond x (cond (name t) plain wrong)
         (cond y (cond (literal t) plain wrong)
         (cond z (cond (single punctuation t) plain wrong)
-        (cond (eqb k 111) (cond (single opening t) (opens (first t)) wrong)
-        (cond (eqb k 99) (cond (single closing t) (closed (first t)) wrong) wrong))))
+        (cond (eqb k OPEN) (cond (single opening t) (opens (first t)) wrong)
+        (cond (eqb k CLOSE) (cond (single closing t) (closed (first t)) wrong) wrong))))
         ≡ cond b plain wrong)
     go true y z = (name t, refl)
     go false true z = (literal t, refl)
@@ -85,8 +89,8 @@ module _ (m : Bool) (ls : Lines)
 
   -- the row is right, and the rest was seen
   row-seen : isRow (formOf k t) ≡ true → (hs : List Open) → Seen m ls (r + 1) hs n
-      → cond (eqb k 111) (ltb (length (delimiters gs)) 32 && nested m (first t ∷ delimiters gs) (rows m ls))
-      (cond (eqb k 99) (closedBy (delimiters gs) (first t) && nested m (enclosing (delimiters gs)) (rows m ls))
+      → cond (eqb k OPEN) (ltb (length (delimiters gs)) MAX-DEPTH && nested m (first t ∷ delimiters gs) (rows m ls))
+      (cond (eqb k CLOSE) (closedBy (delimiters gs) (first t) && nested m (enclosing (delimiters gs)) (rows m ls))
       (nested m (delimiters gs) (rows m ls)))
       ≡ true
       → Seen m (line l ls) r gs n
@@ -95,8 +99,8 @@ module _ (m : Bool) (ls : Lines)
       record {
         written =
             ap (λ (x : List ℕ). x ++ LF ∷ joined ls) (line-bytes m l fit)
-            ∙ ap (λ (x : List ℕ). k ∷ 32 ∷ x) (append-assoc (markColumn m (markOf m l)) t (LF ∷ joined ls))
-            ∙ ap (λ (x : List ℕ). k ∷ 32 ∷ markColumn m (markOf m l) ++ (t ++ LF ∷ x)) (sn .written)
+            ∙ ap (λ (x : List ℕ). k ∷ SPACE ∷ x) (append-assoc (markColumn m (markOf m l)) t (LF ∷ joined ls))
+            ∙ ap (λ (x : List ℕ). k ∷ SPACE ∷ markColumn m (markOf m l) ++ (t ++ LF ∷ x)) (sn .written)
             ∙ sym (ap (written m) row);
         count = omega (arith, sn .count, ap length row);
         nests = ap (nested m (delimiters gs)) row ∙ and-both _ _ (and-both _ _ f (and-both _ _ short
@@ -107,29 +111,30 @@ module _ (m : Bool) (ls : Lines)
   abbrev go : List Open → Answer
   go hs = walk m (r + 1) hs ls
 
-  open-seen : eqb k 111 ≡ true → step r gs (formOf k t) go ≡ passed n → Seen m (line l ls) r gs n
+  open-seen : eqb k OPEN ≡ true → step r gs (formOf k t) go ≡ passed n → Seen m (line l ls) r gs n
   unfolding delimiters
   open-seen o e = pick (single opening t) refl
     where
       pick : (b : Bool) → single opening t ≡ b → Seen m (line l ls) r gs n
       pick false q =
           absurd (never _ _ _ (sym (ap (λ (f : Form). step r gs f go) (open-form k t o ∙ passed-over _ _ _ q)) ∙ e))
-      pick true q = deep (leb 32 (length gs)) refl
+      pick true q = deep (leb MAX-DEPTH (length gs)) refl
         where
           f : formOf k t ≡ opens (first t)
           f = open-form k t o ∙ chosen _ _ _ q
 
-          deep : (b : Bool) → leb 32 (length gs) ≡ b → Seen m (line l ls) r gs n
+          deep : (b : Bool) → leb MAX-DEPTH (length gs) ≡ b → Seen m (line l ls) r gs n
           deep true d = absurd (never _ _ _ (sym (ap (λ (g : Form). step r gs g go) f ∙ chosen _ _ _ d) ∙ e))
           deep false d =
               let sn = ih (r + 1) (record { delimiter = first t; row = r } ∷ gs) n
               (sym (ap (λ (g : Form). step r gs g go) f ∙ passed-over _ _ _ d) ∙ e) in
               row-seen (ap isRow f) _ sn
               (chosen _ _ _ o ∙ and-both _ _
-              (lt-ltb (length (delimiters gs)) 32 (omega (arith, leb-false 32 (length gs) d, delimiters-length gs)))
+              (lt-ltb (length (delimiters gs)) MAX-DEPTH
+              (omega (arith, leb-false MAX-DEPTH (length gs) d, delimiters-length gs)))
               (sn .nests))
 
-  plain-seen : eqb k 111 ≡ false → eqb k 99 ≡ false → step r gs (formOf k t) go ≡ passed n →
+  plain-seen : eqb k OPEN ≡ false → eqb k CLOSE ≡ false → step r gs (formOf k t) go ≡ passed n →
       Seen m (line l ls) r gs n
   plain-seen o c e = pick (plain-form k t o c)
     where
@@ -143,7 +148,8 @@ module _ (m : Bool) (ls : Lines)
               row-seen (ap isRow q) gs sn (passed-over _ _ _ o ∙ passed-over _ _ _ c ∙ sn .nests)
 
   -- the closing row, by the groups that are open
-  close-seen : eqb k 111 ≡ false → eqb k 99 ≡ true → step r gs (formOf k t) go ≡ passed n → Seen m (line l ls) r gs n
+  close-seen : eqb k OPEN ≡ false → eqb k CLOSE ≡ true → step r gs (formOf k t) go ≡ passed n →
+      Seen m (line l ls) r gs n
   unfolding delimiters
   close-seen o c e = pick (single closing t) refl
     where
@@ -194,9 +200,9 @@ line-seen m ls ih l r n gs e = pick (columnsFit m l) refl e
         length? : (b : Bool) → leb (length t) 255 ≡ b → by (cond b (formOf k t) wrong) ≡ passed n →
             Seen m (line l ls) r gs n
         length? false q e = absurd (never _ _ _ e)
-        length? true short e = kind (eqb k 111) (eqb k 99) refl refl
+        length? true short e = kind (eqb k OPEN) (eqb k CLOSE) refl refl
           where
-            kind : (o c : Bool) → eqb k 111 ≡ o → eqb k 99 ≡ c → Seen m (line l ls) r gs n
+            kind : (o c : Bool) → eqb k OPEN ≡ o → eqb k CLOSE ≡ c → Seen m (line l ls) r gs n
             kind true c a b = open-seen m ls ih r n gs l fit short a e
             kind false true a b = close-seen m ls ih r n gs l fit short a b e
             kind false false a b = plain-seen m ls ih r n gs l fit short a b e
@@ -205,15 +211,15 @@ seen : (m : Bool) (ls : Lines) (r : ℕ) (gs : List Open) (n : ℕ) → walk m r
 unfolding delimiters
 seen m (tail []) r [] n e = let same : r ≡ n = cc in record { written = refl; count = omega arith; nests = refl }
 seen m (tail []) r (g ∷ gs) n e = absurd (never _ _ _ e)
-seen m (tail (b ∷ bs)) r gs n e = absurd (go (leb 4096 r) e)
+seen m (tail (b ∷ bs)) r gs n e = absurd (go (leb MAX-ROWS r) e)
   where
-    go : (t : Bool) → cond t (refused 4 4096) (refused 3 r) ≡ passed n → ⊥
+    go : (t : Bool) → cond t (refused 4 MAX-ROWS) (refused 3 r) ≡ passed n → ⊥
     go true e = never _ _ _ e
     go false e = never _ _ _ e
-seen m (line l ls) r gs n e = go (seen m ls) (leb 4096 r) e
+seen m (line l ls) r gs n e = go (seen m ls) (leb MAX-ROWS r) e
   where
     go : ((r : ℕ) (gs : List Open) (n : ℕ) → walk m r gs ls ≡ passed n → Seen m ls r gs n) → (t : Bool)
-        → cond t (refused 4 4096) (step r gs (form m l) (λ hs. walk m (r + 1) hs ls)) ≡ passed n
+        → cond t (refused 4 MAX-ROWS) (step r gs (form m l) (λ hs. walk m (r + 1) hs ls)) ≡ passed n
         → Seen m (line l ls) r gs n
     go ih true e = absurd (never _ _ _ e)
     go ih false e = line-seen m ls ih l r n gs e
@@ -222,8 +228,8 @@ seen m (line l ls) r gs n e = go (seen m ls) (leb 4096 r) e
 
 module _ (m : Bool) (r : Row) (rs : List Row) (ds : List ℕ) where
   nest-rest : nested m ds (r ∷ rs) ≡ true
-      → cond (eqb (r .kind) 111) (ltb (length ds) 32 && nested m (first (r .text) ∷ ds) rs)
-      (cond (eqb (r .kind) 99) (closedBy ds (first (r .text)) && nested m (enclosing ds) rs) (nested m ds rs))
+      → cond (eqb (r .kind) OPEN) (ltb (length ds) MAX-DEPTH && nested m (first (r .text) ∷ ds) rs)
+      (cond (eqb (r .kind) CLOSE) (closedBy ds (first (r .text)) && nested m (enclosing ds) rs) (nested m ds rs))
       ≡ true
   nest-rest e = and-parts (right m r) _ e .1
 
@@ -247,14 +253,14 @@ pub record Balanced (m : Bool) (rs : List Row) (ds : List ℕ) : Type 0 where
 balanced-row : (m : Bool) (r : Row) (rs : List Row) (ds : List ℕ) → ((es : List ℕ) → nested m es rs ≡ true
     → Balanced m rs es) →
     nested m ds (r ∷ rs) ≡ true → Balanced m (r ∷ rs) ds
-balanced-row m r rs ds ih e = kind (eqb (r .kind) 111) (eqb (r .kind) 99) refl refl
+balanced-row m r rs ds ih e = kind (eqb (r .kind) OPEN) (eqb (r .kind) CLOSE) refl refl
   where
     forms : {es : List ℕ} → Balanced m rs es → allRight m (r ∷ rs) ≡ true
     forms bl = and-both _ _ (and-parts (right m r) _ e .0) (bl .right)
 
-    kind : (o c : Bool) → eqb (r .kind) 111 ≡ o → eqb (r .kind) 99 ≡ c → Balanced m (r ∷ rs) ds
+    kind : (o c : Bool) → eqb (r .kind) OPEN ≡ o → eqb (r .kind) CLOSE ≡ c → Balanced m (r ∷ rs) ds
     kind true c a b =
-        let bl = ih (first (r .text) ∷ ds) (and-parts (ltb (length ds) 32) _
+        let bl = ih (first (r .text) ∷ ds) (and-parts (ltb (length ds) MAX-DEPTH) _
         (sym (chosen _ _ _ a) ∙ nest-rest m r rs ds e) .1) in
         record {
           outer = ap (λ (st : Streams). length (st .outer)) (before-open r (streams rs) (eqb-true _ _ a)) ∙
@@ -301,12 +307,13 @@ counted-row : (r : Row) (rs : List Row) → allClosed (r ∷ rs) ≡ true →
     size (streams rs .here) + around (streams rs .outer) ≡ length rs
     → size (streams (r ∷ rs) .here) + around (streams (r ∷ rs) .outer) ≡ length (r ∷ rs)
 unfolding around
-counted-row r rs w ih = kind (eqb (r .kind) 111) (eqb (r .kind) 99) refl refl
+counted-row r rs w ih = kind (eqb (r .kind) OPEN) (eqb (r .kind) CLOSE) refl refl
   where
     total : Streams → ℕ
     total st = size (st .here) + around (st .outer)
 
-    kind : (o c : Bool) → eqb (r .kind) 111 ≡ o → eqb (r .kind) 99 ≡ c → total (before r (streams rs)) ≡ length (r ∷ rs)
+    kind : (o c : Bool) → eqb (r .kind) OPEN ≡ o → eqb (r .kind) CLOSE ≡ c →
+        total (before r (streams rs)) ≡ length (r ∷ rs)
     kind true c a b =
         let f = around-parts (streams rs .outer) (sym (chosen _ _ _ a) ∙ and-parts (allClosed rs) _ w .1) in
         ap total (before-open r (streams rs) (eqb-true _ _ a)) ∙ omega (arith, ih, f)
@@ -326,7 +333,7 @@ no-outer (t ∷ ts) e = absurd (omega arith)
 
 pub passed-list : (s : List ℕ) (n : ℕ) → check s ≡ passed n → PassedList s n
 unfolding check at delimiters around
-passed-list s n e = long (ltb 65536 (length s)) e
+passed-list s n e = long (ltb MAX-BYTES (length s)) e
   where
     m : Bool
     m = marked s

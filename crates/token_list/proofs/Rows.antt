@@ -8,8 +8,9 @@ use borrow.Author.Tests.{leb-true, leb-false, le-leb}
 use lib.Dec.{eqb, leb}
 use lib.ListN.{length, getD, take, drop, length-drop, length-append, drop-of-length-le}
 use lib.Seq.{slice, length-slice, getD-drop, getD-take, getD-append-seam, drop-drop, drop-append-add}
+use Rattle.token_list.specs.Byte.{ONE, QUOTE, SPACE}
 use Rattle.token_list.specs.Text.{LF}
-use Rattle.token_list.specs.Layout.{marked, textOffset}
+use Rattle.token_list.specs.Layout.{marked, textOffset, IDENT, LITERAL, PUNCT}
 use Rattle.token_list.specs.Row.{Row, lines, rows, formOf, first, markFits, markOf, rowOf, markByte}
 use Rattle.token_list.specs.Row.{markColumn, written}
 use Rattle.token_list.specs.Check.{isRow, right, allRight}
@@ -32,7 +33,7 @@ pub record FirstRow (s : List ℕ) (i : ℕ) : Type 0 where
   pub first : ℕ
   pub text : List ℕ
   pub texts : row .text ≡ first ∷ text
-  pub bytes : drop i s ≡ row .kind ∷ 32 ∷ markColumn (marked s) (row .joint) ++ (first ∷ text ++ LF ∷
+  pub bytes : drop i s ≡ row .kind ∷ SPACE ∷ markColumn (marked s) (row .joint) ++ (first ∷ text ++ LF ∷
       written (marked s) rest)
   pub right : isRow (formOf (row .kind) (first ∷ text)) ≡ true
 
@@ -60,13 +61,13 @@ first-row s i w h = go (rowsAt s i) refl
               text = t;
               texts = q;
               bytes = w .written ∙ ap (written m) e ∙
-                  ap (λ (x : List ℕ). r .kind ∷ 32 ∷ markColumn m (r .joint) ++ (x ++ LF ∷ written m rs)) q;
+                  ap (λ (x : List ℕ). r .kind ∷ SPACE ∷ markColumn m (r .joint) ++ (x ++ LF ∷ written m rs)) q;
               right = sym (ap (λ (x : List ℕ). isRow (formOf (r .kind) x)) q) ∙ f;
             }
 
 -- no byte up to the text's first is an LF
 columns-no-lf : (m j : Bool) (k b : ℕ) (x : List ℕ) (n : ℕ) → (k ≡ LF → ⊥) → (b ≡ LF → ⊥) → n ≤ textOffset m →
-    getD (k ∷ 32 ∷ markColumn m j ++ b ∷ x) n 0 ≡ LF → ⊥
+    getD (k ∷ SPACE ∷ markColumn m j ++ b ∷ x) n 0 ≡ LF → ⊥
 columns-no-lf m j k b x zero p q h = p
 columns-no-lf m j k b x (suc zero) p q h = λ e. absurd (omega (arith, e))
 columns-no-lf false j k b x (suc (suc zero)) p q h = q
@@ -78,12 +79,12 @@ columns-no-lf true j k b x (suc (suc (suc (suc zero)))) p q h = q
 columns-no-lf true j k b x (suc (suc (suc (suc (suc n))))) p q h = absurd (omega arith)
 
 -- the byte at the text's offset
-text-byte : (m j : Bool) (k b : ℕ) (x : List ℕ) → getD (k ∷ 32 ∷ markColumn m j ++ b ∷ x) (textOffset m) 0 ≡ b
+text-byte : (m j : Bool) (k b : ℕ) (x : List ℕ) → getD (k ∷ SPACE ∷ markColumn m j ++ b ∷ x) (textOffset m) 0 ≡ b
 text-byte true j k b x = refl
 text-byte false j k b x = refl
 
 -- either mark fits a punctuation
-mark-byte-fits : (j : Bool) → markFits 112 (markByte j) ≡ true
+mark-byte-fits : (j : Bool) → markFits PUNCT (markByte j) ≡ true
 mark-byte-fits true = refl
 mark-byte-fits false = refl
 
@@ -94,7 +95,7 @@ module _ (s : List ℕ) (i : ℕ) (f : FirstRow s i) where
   abbrev after : List ℕ
   after = LF ∷ written (marked s) (f .rest)
 
-  byte-at : (n : ℕ) → getD s (i + n) 0 ≡ getD (f .row .kind ∷ 32 ∷ column ++ (f .first ∷ f .text ++ after)) n 0
+  byte-at : (n : ℕ) → getD s (i + n) 0 ≡ getD (f .row .kind ∷ SPACE ∷ column ++ (f .first ∷ f .text ++ after)) n 0
   byte-at n = sym (getD-drop i s n 0) ∙ ap (λ (t : List ℕ). getD t n 0) (f .bytes)
 
   pub first-kind : f .row .kind ≡ getD s i 0
@@ -142,16 +143,16 @@ module _ (s : List ℕ) (i : ℕ) (f : FirstRow s i) where
   last-lf : getD s last 0 ≡ LF
   unfolding last
   last-lf =
-      let l = f .row .kind ∷ 32 ∷ column ++ f .first ∷ f .text in
+      let l = f .row .kind ∷ SPACE ∷ column ++ f .first ∷ f .text in
       let n : last ≡ i + length l =
       omega (arith, column-length (marked s) (f .row .joint), length-append column (f .first ∷ f .text)) in
       let bytes : drop i s ≡ l ++ after =
-      f .bytes ∙ ap (λ (t : List ℕ). f .row .kind ∷ 32 ∷ t) (sym (append-assoc column (f .first ∷ f .text) after)) in
+      f .bytes ∙ ap (λ (t : List ℕ). f .row .kind ∷ SPACE ∷ t) (sym (append-assoc column (f .first ∷ f .text) after)) in
       ap (λ (k : ℕ). getD s k 0) n ∙ sym (getD-drop i s (length l) 0) ∙ ap (λ (t : List ℕ). getD t (length l) 0) bytes ∙
       getD-append-seam l LF (written (marked s) (f .rest)) 0
 
   -- the text is one byte, but that of a name or a literal
-  alone : (f .row .kind ≡ 105 → ⊥) → (f .row .kind ≡ 108 → ⊥) → f .text ≡ []
+  alone : (f .row .kind ≡ IDENT → ⊥) → (f .row .kind ≡ LITERAL → ⊥) → f .text ≡ []
   alone p q = go (f .text) refl
     where
       go : (t : List ℕ) → f .text ≡ t → f .text ≡ []
@@ -161,14 +162,14 @@ module _ (s : List ℕ) (i : ℕ) (f : FirstRow s i) where
           (ap (λ (t : List ℕ). only (f .first ∷ t)) (sym e))) (f .right))
 
   -- where the list has marks, one stands before the text
-  pub plain-at : (b : ℕ) → markFits 112 b ≡ false → getD s (i + 2) 0 ≡ b → marked s ≡ false
+  pub plain-at : (b : ℕ) → markFits PUNCT b ≡ false → getD s (i + 2) 0 ≡ b → marked s ≡ false
   plain-at b n e = go (marked s) refl (byte-at 2)
     where
       l : Bool → List ℕ
-      l m = f .row .kind ∷ 32 ∷ markColumn m (f .row .joint) ++ (f .first ∷ f .text ++ after)
+      l m = f .row .kind ∷ SPACE ∷ markColumn m (f .row .joint) ++ (f .first ∷ f .text ++ after)
 
       go : (m : Bool) → marked s ≡ m → getD s (i + 2) 0 ≡ getD (l m) 2 0 → marked s ≡ false
-      go true q h = absurd (false≢true (sym n ∙ ap (markFits 112) (sym e ∙ h) ∙ mark-byte-fits (f .row .joint)))
+      go true q h = absurd (false≢true (sym n ∙ ap (markFits PUNCT) (sym e ∙ h) ∙ mark-byte-fits (f .row .joint)))
       go false q h = q
 
 -- ## The scan for a row's end: an LF stands ahead
@@ -219,7 +220,7 @@ module _ (s : List ℕ) (i : ℕ) (w : RightRows s i) (h : i < length s) where
       past false e = omega (arith, leb-false k (i + textOffset (marked s)) e)
 
   -- a punctuation's end
-  pub punct-end : getD s i 0 ≡ 112 → RowEnd s i (i + textOffset (marked s) + 1)
+  pub punct-end : getD s i 0 ≡ PUNCT → RowEnd s i (i + textOffset (marked s) + 1)
   unfolding last
   punct-end k =
       let off = textOffset (marked s) in
@@ -270,12 +271,12 @@ part-first : (s : List ℕ) (i e : ℕ) → i < e → first (slice i e s) ≡ fi
 part-first s i e h = first-of (slice i e s) ∙ part-byte s i e 0 (omega arith) ∙ sym (first-of (drop i s))
 
 part-mark : (m : Bool) (s : List ℕ) (i e : ℕ) → i + textOffset m < e → markOf m (slice i e s) ≡ markOf m (drop i s)
-part-mark true s i e h = ap (λ (b : ℕ). eqb b 49) (part-byte s i e 2 (omega arith))
+part-mark true s i e h = ap (λ (b : ℕ). eqb b ONE) (part-byte s i e 2 (omega arith))
 part-mark false s i e h =
     let text : first (drop 2 (slice i e s)) ≡ first (drop 2 (drop i s)) =
     ap first (drop-drop 2 i (take e s)) ∙ part-first s (i + 2) e (omega arith) ∙ ap first (sym (drop-drop 2 i s)) in
-    ap (λ (k : ℕ). eqb k 112 && eqb (first (drop 2 (slice i e s))) 39) (part-first s i e (omega arith))
-    ∙ ap (λ (b : ℕ). eqb (first (drop i s)) 112 && eqb b 39) text
+    ap (λ (k : ℕ). eqb k PUNCT && eqb (first (drop 2 (slice i e s))) QUOTE) (part-first s i e (omega arith))
+    ∙ ap (λ (b : ℕ). eqb (first (drop i s)) PUNCT && eqb b QUOTE) text
 
 part-row : (m : Bool) (s : List ℕ) (i e : ℕ) (rs : List Row) → i + textOffset m < e → e ≤ length s
     → rowOf m (slice i e s) rs
@@ -295,8 +296,8 @@ row-at s i e l =
     ∙ part-row (marked s) s i e (rowsAt s (e + 1)) (l .text) (omega (arith, l .within))
 
 -- the last byte of a text is its first, but of a name or a literal
-pub last-byte : (s : List ℕ) (i e : ℕ) → RightRows s i → RowEnd s i e → (getD s i 0 ≡ 105 → ⊥) →
-    (getD s i 0 ≡ 108 → ⊥) → getD s (e - 1) 0 ≡ first (slice (i + textOffset (marked s)) e s)
+pub last-byte : (s : List ℕ) (i e : ℕ) → RightRows s i → RowEnd s i e → (getD s i 0 ≡ IDENT → ⊥) →
+    (getD s i 0 ≡ LITERAL → ⊥) → getD s (e - 1) 0 ≡ first (slice (i + textOffset (marked s)) e s)
 last-byte s i e w l p q =
     let start = i + textOffset (marked s) in
     let f = first-row s i w (omega (arith, l .text, l .within)) in
@@ -313,7 +314,7 @@ pub closed-next : (r : Row) (rs : List Row) → allClosed (r ∷ rs) ≡ true �
 closed-next r rs w = and-parts (allClosed rs) _ w .0
 
 -- past what stands before a text
-pub past-columns : (m j : Bool) (k : ℕ) (x : List ℕ) → drop (textOffset m) (k ∷ 32 ∷ markColumn m j ++ x) ≡ x
+pub past-columns : (m j : Bool) (k : ℕ) (x : List ℕ) → drop (textOffset m) (k ∷ SPACE ∷ markColumn m j ++ x) ≡ x
 past-columns true j k x = refl
 past-columns false j k x = refl
 

@@ -8,7 +8,7 @@ use borrow.Author.Tests.{eq-eqb, ne-eqb, eqb-true, eqb-false, leb-true, leb-fals
 use lib.Dec.{leb, eqb}
 use lib.ListN.{length, getD, drop}
 use lib.Seq.{slice, drop-nil}
-use Rattle.token_list.specs.Layout.{marked, textOffset}
+use Rattle.token_list.specs.Layout.{marked, textOffset, CLOSE, OPEN, PUNCT}
 use Rattle.token_list.specs.Row.{Row, first, markFits, markOf}
 use Rattle.token_list.specs.Stream.{Trees, end, leaf, group, Streams, head, others, before, streams, size}
 use Rattle.token_list.specs.Stream.{firstKind, firstByte, startsPunct, follows, allClosed, rowsAt, at, rowStart}
@@ -34,18 +34,18 @@ at-row s i n r e = ap streams e
 -- ## One row before streams
 
 module _ (r : Row) (st : Streams) where
-  pub before-close : r .kind ≡ 99 → before r st ≡ record { here = end; outer = st .here ∷ st .outer }
+  pub before-close : r .kind ≡ CLOSE → before r st ≡ record { here = end; outer = st .here ∷ st .outer }
   unfolding before
   before-close e = rw e
 
-  pub before-open : r .kind ≡ 111 → before r st ≡ record {
+  pub before-open : r .kind ≡ OPEN → before r st ≡ record {
     here = group (first (r .text)) (st .here) (head (st .outer));
     outer = others (st .outer);
   }
   unfolding before
   before-open e = chosen _ _ _ (eq-eqb _ _ e)
 
-  pub before-leaf : (r .kind ≡ 111 → ⊥) → (r .kind ≡ 99 → ⊥) → before r st ≡ record {
+  pub before-leaf : (r .kind ≡ OPEN → ⊥) → (r .kind ≡ CLOSE → ⊥) → before r st ≡ record {
     here = leaf r (st .here);
     outer = st .outer;
   }
@@ -54,7 +54,7 @@ module _ (r : Row) (st : Streams) where
 
 -- ## Groups that are closed
 
-pub closed-open : (r : Row) (rs : List Row) → allClosed (r ∷ rs) ≡ true → r .kind ≡ 111 →
+pub closed-open : (r : Row) (rs : List Row) → allClosed (r ∷ rs) ≡ true → r .kind ≡ OPEN →
     follows (streams rs .outer) ≡ true
 closed-open r rs w e = sym (chosen _ _ _ (eq-eqb _ _ e)) ∙ and-parts (allClosed rs) _ w .1
 
@@ -68,7 +68,7 @@ module _ (s : List ℕ) (c : Cursor) (inList : InList s c) where
   pub none-here : length s ≤ c .at → at s (c .at) .here ≡ end
   none-here h = ap (λ (t : Streams). t .here) (at-none s (c .at) (rows-none s (c .at) h))
 
-  pub close-here : c .at < length s → getD s (c .at) 0 ≡ 99 → at s (c .at) .here ≡ end
+  pub close-here : c .at < length s → getD s (c .at) 0 ≡ CLOSE → at s (c .at) .here ≡ end
   unfolding at
   close-here h q =
       let f = first-row s (c .at) (inList .rightRows) h in
@@ -78,10 +78,10 @@ module _ (s : List ℕ) (c : Cursor) (inList : InList s c) where
   pub look-none : at s (c .at) .here ≡ end → Looked s (c .at) (record { kind = 0; first = 0 })
   look-none e = record { kind = sym (ap firstKind e); first = sym (ap firstByte e); none = λ q. e }
 
-  pub look-here : c .at < length s → (getD s (c .at) 0 ≡ 99 → ⊥) →
+  pub look-here : c .at < length s → (getD s (c .at) 0 ≡ CLOSE → ⊥) →
       Looked s (c .at) (record { kind = getD s (c .at) 0; first = getD s (c .at + textOffset (marked s)) 0 })
   unfolding at
-  look-here h x = go (eqb (f .row .kind) 111) refl
+  look-here h x = go (eqb (f .row .kind) OPEN) refl
     where
       f : FirstRow s (c .at)
       f = first-row s (c .at) (inList .rightRows) h
@@ -92,7 +92,7 @@ module _ (s : List ℕ) (c : Cursor) (inList : InList s c) where
       m : first (f .row .text) ≡ getD s (c .at + textOffset (marked s)) 0
       m = ap first (f .texts) ∙ first-at s (c .at) f
 
-      go : (b : Bool) → eqb (f .row .kind) 111 ≡ b → Looked s (c .at)
+      go : (b : Bool) → eqb (f .row .kind) OPEN ≡ b → Looked s (c .at)
           (record { kind = getD s (c .at) 0; first = getD s (c .at + textOffset (marked s)) 0 })
       go true e =
           let b = ap (λ (t : Streams). t .here) (ap streams (f .here) ∙
@@ -157,10 +157,10 @@ token-of s i e t w l n off joint kind byte start last next =
 -- the byte of a token counts where it is punctuation
 pub byte-of : {A : Type 0} (s : List ℕ) (i : ℕ) (t : Token) → TokenAt s i t → (f : Bool → ℕ → A) →
     ((x y : ℕ) → f false x ≡ f false y) →
-    f (eqb (t .kind) 112) (first (slice (t .start) (t .end) s)) ≡ f (eqb (t .kind) 112) (t .byte)
-byte-of s i t k f same = go (eqb (t .kind) 112) refl
+    f (eqb (t .kind) PUNCT) (first (slice (t .start) (t .end) s)) ≡ f (eqb (t .kind) PUNCT) (t .byte)
+byte-of s i t k f same = go (eqb (t .kind) PUNCT) refl
   where
-    go : (p : Bool) → eqb (t .kind) 112 ≡ p → f p (first (slice (t .start) (t .end) s)) ≡ f p (t .byte)
+    go : (p : Bool) → eqb (t .kind) PUNCT ≡ p → f p (first (slice (t .start) (t .end) s)) ≡ f p (t .byte)
     go true e = ap (f true) (sym (k .byte (eqb-true _ _ e)))
     go false e = same _ _
 
@@ -181,12 +181,12 @@ module _ (s : List ℕ) (i : ℕ) (w : RightRows s i) (t : Token) (k : TokenAt s
   stepped : at s i ≡ before (rowOf s t) (at s (t .next))
   stepped = at-row s i (t .next) (rowOf s t) the-row
 
-  pub leaf-here : (t .kind ≡ 111 → ⊥) → (t .kind ≡ 99 → ⊥) → LeafAt s i t
+  pub leaf-here : (t .kind ≡ OPEN → ⊥) → (t .kind ≡ CLOSE → ⊥) → LeafAt s i t
   leaf-here o q =
       let b = stepped ∙ before-leaf (rowOf s t) (at s (t .next)) o q in
       record { token = k; here = ap (λ (t : Streams). t .here) b; outer = ap (λ (t : Streams). t .outer) b }
 
-  pub group-here : t .kind ≡ 111 → GroupAt s i t
+  pub group-here : t .kind ≡ OPEN → GroupAt s i t
   unfolding at
   group-here o =
       let b = stepped ∙ before-open (rowOf s t) (at s (t .next)) o in
@@ -211,30 +211,30 @@ module _ (s : List ℕ) (c : Cursor) (inList : InList s c) (b : ℕ) where
 
   -- it is told by two bytes
   pub punct-look : c .at < length s →
-      starting ≡ (eqb (getD s (c .at) 0) 112 && eqb (getD s (c .at + textOffset (marked s)) 0) b)
-  punct-look h = go (eqb (getD s (c .at) 0) 99) refl
+      starting ≡ (eqb (getD s (c .at) 0) PUNCT && eqb (getD s (c .at + textOffset (marked s)) 0) b)
+  punct-look h = go (eqb (getD s (c .at) 0) CLOSE) refl
     where
-      go : (x : Bool) → eqb (getD s (c .at) 0) 99 ≡ x
-          → starting ≡ (eqb (getD s (c .at) 0) 112 && eqb (getD s (c .at + textOffset (marked s)) 0) b)
+      go : (x : Bool) → eqb (getD s (c .at) 0) CLOSE ≡ x
+          → starting ≡ (eqb (getD s (c .at) 0) PUNCT && eqb (getD s (c .at + textOffset (marked s)) 0) b)
       go true e =
           let q = eqb-true _ _ e in
           ap (startsPunct b) (close-here s c inList h q) ∙
-          sym (ap (λ (k : ℕ). eqb k 112 && eqb (getD s (c .at + textOffset (marked s)) 0) b) q)
+          sym (ap (λ (k : ℕ). eqb k PUNCT && eqb (getD s (c .at + textOffset (marked s)) 0) b) q)
       go false e =
           let l = look-here s c inList h (eqb-false _ _ e) in
           rw (sym (l .kind), sym (l .first))
 
-  pub punct-by : c .at < length s → getD s (c .at) 0 ≡ 112 → (m : Bool) → marked s ≡ m →
+  pub punct-by : c .at < length s → getD s (c .at) 0 ≡ PUNCT → (m : Bool) → marked s ≡ m →
       starting ≡ eqb (getD s (c .at + textOffset m) 0) b
   punct-by h k m e =
       punct-look h ∙ and-last _ _ (eq-eqb _ _ k) ∙ ap (λ (m : Bool). eqb (getD s (c .at + textOffset m) 0) b) e
 
   -- a byte that is no mark is found where it stands without marks
-  pub no-marks : c .at < length s → markFits 112 b ≡ false → getD s (c .at + 2) 0 ≡ b → marked s ≡ false
+  pub no-marks : c .at < length s → markFits PUNCT b ≡ false → getD s (c .at + 2) 0 ≡ b → marked s ≡ false
   no-marks h = plain-at s (c .at) (first-row s (c .at) (inList .rightRows) h) b
 
   -- where it stands
-  module _ (n : markFits 112 b ≡ false) (p : starting ≡ true) where
+  module _ (n : markFits PUNCT b ≡ false) (p : starting ≡ true) where
     pub punct-within : c .at < length s
     punct-within = go (leb (length s) (c .at)) refl
       where
@@ -242,10 +242,10 @@ module _ (s : List ℕ) (c : Cursor) (inList : InList s c) (b : ℕ) where
         go true e = absurd (false≢true (sym (punct-none (leb-true (length s) (c .at) e)) ∙ p))
         go false e = omega (arith, leb-false (length s) (c .at) e)
 
-    told : (eqb (getD s (c .at) 0) 112 ≡ true) × (eqb (getD s (c .at + textOffset (marked s)) 0) b ≡ true)
+    told : (eqb (getD s (c .at) 0) PUNCT ≡ true) × (eqb (getD s (c .at + textOffset (marked s)) 0) b ≡ true)
     told = and-parts _ _ (sym (punct-look punct-within) ∙ p)
 
-    punct-kind : getD s (c .at) 0 ≡ 112
+    punct-kind : getD s (c .at) 0 ≡ PUNCT
     punct-kind = eqb-true _ _ (told .0)
 
     punct-byte : getD s (c .at + textOffset (marked s)) 0 ≡ b
@@ -266,7 +266,7 @@ module _ (s : List ℕ) (c : Cursor) (inList : InList s c) (b : ℕ) where
         go false q = absurd (e (sym (ap (λ (m : Bool). getD s (c .at + textOffset m) 0) q) ∙ punct-byte))
 
     -- its text is one byte
-    pub punct-here : (t : Token) → t .joint ≡ markOf (marked s) (drop (c .at) s) → t .kind ≡ 112 → t .byte ≡ b →
+    pub punct-here : (t : Token) → t .joint ≡ markOf (marked s) (drop (c .at) s) → t .kind ≡ PUNCT → t .byte ≡ b →
         t .start ≡ c .at + textOffset (marked s) → t .end ≡ t .start + 1 → t .next ≡ t .end + 1 → LeafAt s (c .at) t
     punct-here t joint kind byte start last next =
         let w = inList .rightRows in
@@ -348,7 +348,7 @@ module _ (s : List ℕ) (c : Cursor) (i row : ℕ) where
     b : at s i ≡ before theStep T
     b = at-row s i (e + 1) theStep row-here
 
-    step-open : getD s i 0 ≡ 111 → Inside s c (e + 1) (row + 1) (suc k + 1)
+    step-open : getD s i 0 ≡ OPEN → Inside s c (e + 1) (row + 1) (suc k + 1)
     unfolding at
     step-open o =
         let w = followed (T .outer) (closed-open theStep (rowsAt s (e + 1)) step-closed o) in
@@ -364,7 +364,7 @@ module _ (s : List ℕ) (c : Cursor) (i row : ℕ) where
         (rw up (ap (drop (suc k)) w ∙ sym (ap (λ (t : Streams). drop (suc k) (stack t)) g) ∙ n .left))
         (rw up (omega (arith, p, q)))
 
-    step-close : getD s i 0 ≡ 99 → Inside s c (e + 1) (row + 1) (suc k - 1)
+    step-close : getD s i 0 ≡ CLOSE → Inside s c (e + 1) (row + 1) (suc k - 1)
     step-close o =
         let g = b ∙ before-close theStep T o in
         let down : suc k - 1 ≡ k = omega arith in
@@ -374,7 +374,7 @@ module _ (s : List ℕ) (c : Cursor) (i row : ℕ) where
         (rw down (sym (ap (λ (t : Streams). drop (suc k) (stack t)) g) ∙ n .left))
         (rw down (omega (arith, q)))
 
-    step-leaf : (getD s i 0 ≡ 111 → ⊥) → (getD s i 0 ≡ 99 → ⊥) → Inside s c (e + 1) (row + 1) (suc k)
+    step-leaf : (getD s i 0 ≡ OPEN → ⊥) → (getD s i 0 ≡ CLOSE → ⊥) → Inside s c (e + 1) (row + 1) (suc k)
     step-leaf o x =
         let g = b ∙ before-leaf theStep T o x in
         let q : pending (suc k) (stack (at s i)) ≡ 1 + size (T .here) + 1 + pending k (T .outer) =
@@ -383,7 +383,7 @@ module _ (s : List ℕ) (c : Cursor) (i row : ℕ) where
         (sym (ap (λ (t : Streams). drop (suc k) (stack t)) g) ∙ n .left)
         (omega (arith, q))
 
-    step-any : (o x : Bool) → eqb (getD s i 0) 111 ≡ o → eqb (getD s i 0) 99 ≡ x
+    step-any : (o x : Bool) → eqb (getD s i 0) OPEN ≡ o → eqb (getD s i 0) CLOSE ≡ x
         → Inside s c (e + 1) (row + 1) (cond o (suc k + 1) (cond x (suc k - 1) (suc k)))
     step-any true x p q = step-open (eqb-true _ _ p)
     step-any false true p q = step-close (eqb-true _ _ q)
@@ -392,7 +392,7 @@ module _ (s : List ℕ) (c : Cursor) (i row : ℕ) where
   pub inside-step : (depth e : ℕ) → 0 < depth → Inside s c i row depth → RowEnd s i e →
       Inside s c (e + 1) (row + 1) (deeper (getD s i 0) depth)
   inside-step zero e h n l = absurd (omega arith)
-  inside-step (suc k) e h n l = step-any k e n l (eqb (getD s i 0) 111) (eqb (getD s i 0) 99) refl refl
+  inside-step (suc k) e h n l = step-any k e n l (eqb (getD s i 0) OPEN) (eqb (getD s i 0) CLOSE) refl refl
 
   abbrev there : Cursor
   there = record { at = i; row = row }

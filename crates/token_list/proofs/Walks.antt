@@ -8,7 +8,7 @@ use borrow.Author.Tests.{lt-ltb, le-ltb, le-leb, lt-leb, eq-eqb, ne-eqb}
 use lib.Dec.{eqb, leb}
 use lib.ListN.{length, getD, drop, drop-of-length-le}
 use Rattle.token_list.specs.Text.{LF, closer}
-use Rattle.token_list.specs.Layout.{marked, firstRow}
+use Rattle.token_list.specs.Layout.{marked, firstRow, MAX-DEPTH}
 use Rattle.token_list.specs.Row.{Lines, tail, line, lines, byte, Form, form, closed, wrong, plain}
 use Rattle.token_list.specs.Check.{refused, END, named, Open, close, step, walk, check}
 use Rattle.token_list.specs.Contract.{formed, shape, RowShaped, resumed, closedIn, Walked}
@@ -58,7 +58,7 @@ pub record Reached (m : Bool) (s : List ℕ) (levels at₀ row₀ at row : ℕ) 
   pub counted : row ≤ at
   pub within : at ≤ length s
   pub from : at₀ ≤ at
-  pub same : (gs : List Open) → length gs + levels ≡ 32 →
+  pub same : (gs : List Open) → length gs + levels ≡ MAX-DEPTH →
       walk m row₀ gs (lines (drop at₀ s)) ≡ walk m row gs (lines (drop at s))
 
 -- ## What the walk of a level answers, by the row that it reached
@@ -93,7 +93,8 @@ module _ (m : Bool) (s : List ℕ) (levels : ℕ) (c : Cursor) (at r : ℕ) (re 
       is-row x e n q = n (sym (ap shape e) ∙ q)
 
       -- the row's own step
-      stepped : (x : Shape) → line .shape ≡ x → (shape x ≡ wrong → ⊥) → (gs : List Open) → length gs + levels ≡ 32
+      stepped : (x : Shape) → line .shape ≡ x → (shape x ≡ wrong → ⊥) → (gs : List Open) →
+          length gs + levels ≡ MAX-DEPTH
           → walk m (c .row) gs (lines (drop (c .at) s)) ≡ step r gs (shape x)
           (λ hs. walk m (r + 1) hs (lines (drop (line .next) s)))
       stepped x e n gs q = re .same gs q ∙ row m r gs (shape x) (sh .rest (is-row x e n) .1) (form-is x e) k
@@ -126,9 +127,9 @@ module _ (m : Bool) (s : List ℕ) (levels : ℕ) (c : Cursor) (at r : ℕ) (re 
           }
 
       module _ (d : ℕ) (e : line .shape ≡ Opens d) where
-        opened : (gs : List Open) → length gs + levels ≡ 32
+        opened : (gs : List Open) → length gs + levels ≡ MAX-DEPTH
             → walk m (c .row) gs (lines (drop (c .at) s))
-            ≡ cond (leb 32 (length gs)) (refused 6 r)
+            ≡ cond (leb MAX-DEPTH (length gs)) (refused 6 r)
             (walk m (r + 1) (record { delimiter = d; row = r } ∷ gs) (lines (drop (line .next) s)))
         opened = stepped (Opens d) e (λ q. let z : _≡_ {A = ℕ} 0 1 = cc in omega arith)
 
@@ -137,15 +138,15 @@ module _ (m : Bool) (s : List ℕ) (levels : ℕ) (c : Cursor) (at r : ℕ) (re 
 
         pub too-deep : levels ≡ 0 → Walked m s c levels (stopped 6 r)
         too-deep z = record
-            { right = λ gs q. opened gs q ∙ chosen _ _ _ (le-leb 32 (length gs) (omega arith)); past = tt }
+            { right = λ gs q. opened gs q ∙ chosen _ _ _ (le-leb MAX-DEPTH (length gs) (omega arith)); past = tt }
 
         module _ (z : levels ≡ 0 → ⊥) (inner : LevelEnd)
             (w : Walked m s (record { at = line .next; row = r + 1 }) (levels - 1) inner) where
-          entered : (gs : List Open) → length gs + levels ≡ 32
+          entered : (gs : List Open) → length gs + levels ≡ MAX-DEPTH
               → walk m (c .row) gs (lines (drop (c .at) s)) ≡ resumed m s (record { delimiter = d; row = r } ∷ gs) inner
           entered gs q =
               opened gs q
-              ∙ passed-over _ _ _ (lt-leb 32 (length gs) (omega arith))
+              ∙ passed-over _ _ _ (lt-leb MAX-DEPTH (length gs) (omega arith))
               ∙ w .right (record { delimiter = d; row = r } ∷ gs) (omega arith)
 
           pub unclosed : (n : ℕ) → inner ≡ End n → Walked m s c levels (stopped 7 r)

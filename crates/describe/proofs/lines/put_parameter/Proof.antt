@@ -1,3 +1,4 @@
+use Rattle.token_list.specs.Byte.{QUOTE}
 use Rattle.output.proofs.Texts.{put-as}
 use Rattle.parse.specs.Contract.{isLifetime}
 use lib.Seq.{slice}
@@ -38,8 +39,9 @@ returns c =
     let name = slice (args .p .name .start) (args .p .name .end) (args .s .now) in
     λ a k.
     let same = quoted a (sym (ap isLifetime (k .kind)) ∙ sym (is-lifetime .ensures) ∙ if1 .taken)
-    ∙ ap (λ n. 39 ∷ n) (k .text .bytes) in
-    put-as (ap (λ n. line PARAM n DASH) same) (put-line PARAM (39 ∷ name) DASH (put-head .ensures) (put-bytes .ensures))
+    ∙ ap (λ n. QUOTE ∷ n) (k .text .bytes) in
+    put-as (ap (λ n. line PARAM n DASH) same)
+    (put-line PARAM (QUOTE ∷ name) DASH (put-head .ensures) (put-bytes .ensures))
 
 slice-aggregate-put-head-2 : tie.Need-slice-aggregate-put-head-2
 slice-aggregate-put-head-2 c = search needs

@@ -4,6 +4,7 @@ use mathlib.Core.List.{List}
 use native.Mathlib.Omega.{arith}
 use borrow.Author.Tests.{not-true, not-false}
 use lib.ListN.{length}
+use Rattle.token_list.specs.Byte.{LESS}
 use Rattle.output.specs.Contract.{FAR, Put}
 use Rattle.output.proofs.Texts.{nothing, put-as}
 use Rattle.reading.specs.Declaration.{Generics, without, parametersOf}
@@ -34,7 +35,7 @@ punct-at-requires : tie.Need-punct-at-requires
 punct-at-requires c κs =
     let d = c .before .before .before .before .before in
     let angle = sym (c .before .stands-punct .ensures) ∙ not-false _ (c .if1 .left) in
-    (d .pre, (refl, starts-punct 60 (stream (d .args .s .now) (d .args .c)) ∙ angle))
+    (d .pre, (refl, starts-punct LESS (stream (d .args .s .now) (d .args .c)) ∙ angle))
 
 past-requires : tie.Need-past-requires
 past-requires c κs = search needs

@@ -1,3 +1,4 @@
+use Rattle.token_list.specs.Byte.{BRACE}
 use Rattle.output.proofs.Texts.{put-as}
 use borrow.Author.Tests.{eq-eqb, ne-eqb}
 use Rattle.describe.specs.Contract.{fieldsIn}
@@ -22,7 +23,7 @@ returns c =
     let args = c .before .before .before .before .before .before .before .before .before .before .before .args in
     let named-lines = c .before .before .before .before .named-lines in
     λ f k.
-    let a = subst (λ z. fieldsIn z (args .s .now) (args .c) f) (eq-eqb (args .delimiter) 123 (omega arith)) k in
+    let a = subst (λ z. fieldsIn z (args .s .now) (args .c) f) (eq-eqb (args .delimiter) BRACE (omega arith)) k in
     put-as (ap fieldLines (a .1)) (named-lines .ensures (a .0) (a .2))
 
 tuple-lines-requires : tie.Need-tuple-lines-requires
@@ -39,7 +40,7 @@ returns-2 c =
     let args = c .before .before .before .before .before .before .before .before .before .before .before .args in
     let tuple-lines = c .before .before .before .before .tuple-lines in
     λ f k.
-    let a = subst (λ z. fieldsIn z (args .s .now) (args .c) f) (ne-eqb (args .delimiter) 123 (λ e. omega arith)) k in
+    let a = subst (λ z. fieldsIn z (args .s .now) (args .c) f) (ne-eqb (args .delimiter) BRACE (λ e. omega arith)) k in
     put-as (ap fieldLines (a .1)) (tuple-lines .ensures (a .0) (a .2))
 
 pub struct-lines-spec : {M : Type 1} → statement M

@@ -1,5 +1,6 @@
 use mathlib.Core.Path.{refl, sym, _∙_}
 use borrow.Author.Tests.{not-true, not-false}
+use Rattle.token_list.specs.Byte.{LESS}
 use Rattle.reading.specs.Declaration.{parametersOf}
 use Rattle.parse.specs.Contract.{stream}
 use Rattle.parse.proofs.Meeting.{past-in-of}
@@ -40,7 +41,7 @@ punct-at-requires c κs =
     in
     let pre = c .before .before .before .before .before .before .before .before .before .before .before .before .pre in
     let angle = sym (c .before .stands-punct .ensures) ∙ not-false _ (c .if1 .left) in
-    (pre .1, (refl, starts-punct 60 (stream (args .s .now) (args .c)) ∙ angle))
+    (pre .1, (refl, starts-punct LESS (stream (args .s .now) (args .c)) ∙ angle))
 
 past-requires : tie.Need-past-requires
 past-requires c κs = search needs

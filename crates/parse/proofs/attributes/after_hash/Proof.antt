@@ -1,6 +1,7 @@
 use Prim.Native.Nat.{ℕ}
 use mathlib.Core.Path.{subst, refl, sym, _∙_, ap}
 use borrow.Author.Tests.{not-true, not-false}
+use Rattle.token_list.specs.Byte.{HASH}
 use Rattle.token_list.specs.declared.check.Cursor.{Cursor}
 use Rattle.reading.specs.Took.{misfit, gaveOut}
 use Rattle.parse.specs.Contract.{TokenIn, stream}
@@ -15,7 +16,7 @@ use Rattle.parse.proofs.attributes.after_hash.Tie as tie
 punct-at-requires : tie.Need-punct-at-requires
 punct-at-requires c κs =
     let d = c .before .before in
-    (d .pre .0, (refl, starts-punct 35 (stream (d .args .s .now) (d .args .c)) ∙ d .pre .1))
+    (d .pre .0, (refl, starts-punct HASH (stream (d .args .s .now) (d .args .c)) ∙ d .pre .1))
 
 past-requires : tie.Need-past-requires
 past-requires c κs = search needs

@@ -1,5 +1,6 @@
 use mathlib.Core.Path.{refl, sym, _∙_}
 use borrow.Author.Tests.{not-true, not-false}
+use Rattle.token_list.specs.Byte.{LESS}
 use Rattle.token_list.proofs.Texts.{chosen}
 use Rattle.reading.specs.Declaration.{angled}
 use Rattle.reading.specs.Reading.{generics, genericsAfter}
@@ -25,7 +26,7 @@ punct-at-requires : tie.Need-punct-at-requires
 punct-at-requires c κs =
     let d = c .before .before .before .before in
     let found = sym (c .before .stands-punct .ensures) ∙ not-false _ (c .if1 .left) in
-    (d .pre, (refl, starts-punct 60 (stream (d .args .s .now) (d .args .c)) ∙ found))
+    (d .pre, (refl, starts-punct LESS (stream (d .args .s .now) (d .args .c)) ∙ found))
 
 take-token-requires : tie.Need-take-token-requires
 take-token-requires c κs = search needs
@@ -48,7 +49,7 @@ returns-2 c =
     let take-token = c .before .before .before .before .before .before .take-token in
     let stands = sym (back8 .before .before .stands-punct .ensures) ∙ not-false _ (back8 .before .if1 .left) in
     meets-from generics _ _ (d .pre) _ _ l _ _ _ _ (take-token .ensures .0) (take-token .ensures .1) _ _
-    (genericsAfter (d .args .c .row)) (chosen _ _ _ (stands-row 60 l stands))
+    (genericsAfter (d .args .c .row)) (chosen _ _ _ (stands-row LESS l stands))
     (meets-map _ angled (λ ps h. h) (c .before .before .parameters .ensures))
 
 pub try-take-spec : {M : Type 1} → statement M

@@ -5,7 +5,7 @@ use Prim.Native.Nat.{ℕ, _≤_}
 use native.Mathlib.Omega.{arith}
 use borrow.Author.Tests.{not-true, not-false}
 use lib.ListN.{length}
-use Rattle.token_list.specs.Layout.{marked}
+use Rattle.token_list.specs.Layout.{marked, MAX-BYTES, MAX-DEPTH}
 use Rattle.token_list.specs.Check.{named}
 use Rattle.token_list.specs.Contract.{startOf, Within, resumed, Walked, checked, CheckedAs}
 use Rattle.token_list.specs.declared.check.Cursor.{Cursor}
@@ -19,16 +19,16 @@ use Rattle.token_list.proofs.check.check.Statement.{statement}
 use Rattle.token_list.proofs.check.check.Tie as tie
 
 -- the answer of the walk over all rows
-walked : (s : List ℕ) (r : Checked) {w x : LevelEnd} → length s ≤ 65536 → named s ≡ true
-    → Walked (marked s) s (startOf s) 32 w → w ≡ x → checked r ≡ resumed (marked s) s [] x → CheckedAs s r
+walked : (s : List ℕ) (r : Checked) {w x : LevelEnd} → length s ≤ MAX-BYTES → named s ≡ true
+    → Walked (marked s) s (startOf s) MAX-DEPTH w → w ≡ x → checked r ≡ resumed (marked s) s [] x → CheckedAs s r
 walked s r l n w e k =
     checked-as s r (k ∙ sym (walks.walked s l n ∙ w .right [] (omega arith) ∙ ap (resumed (marked s) s []) e))
 
 -- from the first row on, with the marks that the list has
-from : {s : List ℕ} {m : Bool} {c : Cursor} {w : LevelEnd} → m ≡ marked s → c ≡ startOf s → Walked m s c 32 w →
-    Walked (marked s) s (startOf s) 32 w
+from : {s : List ℕ} {m : Bool} {c : Cursor} {w : LevelEnd} → m ≡ marked s → c ≡ startOf s → Walked m s c MAX-DEPTH w →
+    Walked (marked s) s (startOf s) MAX-DEPTH w
 from {s} {m = m} {c = c} {w = w} e f k =
-    subst (λ (x : Cursor). Walked (marked s) s x 32 w) f (subst (λ (b : Bool). Walked b s c 32 w) e k)
+    subst (λ (x : Cursor). Walked (marked s) s x MAX-DEPTH w) f (subst (λ (b : Bool). Walked b s c MAX-DEPTH w) e k)
 
 returns : tie.Need-returns
 returns c = checked-as _ _ (sym (walks.too-long _ (c .if1 .taken)))
