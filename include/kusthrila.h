@@ -18,7 +18,7 @@
  * calls from several threads are independent, as long as none writes a buffer that another uses.
  *
  * A call needs no more than KUSTHRILA_STACK bytes of stack. Measured on x86-64 were some 4,400 in kusthrila_check, 4,400 in
- * kusthrila_tagged, 4,600 in kusthrila_read, 4,900 in the writers of generics, 8,700 in kusthrila_listing and 8,900 in
+ * kusthrila_tagged, 4,600 in kusthrila_read, 4,800 in the writers of generics, 8,700 in kusthrila_listing and 8,900 in
  * kusthrila_value, all in lists with 32 open groups; the rest is margin. bindings/c/stack.c measures it, and test.sh does so each
  * time. */
 #ifndef KUSTHRILA_H
