@@ -42,7 +42,7 @@ extern "C" {
 #define KUSTHRILA_MOST_ROWS 4096u
 
 /* No listing is longer: MOST in crates/describe/specs/Listing.antt, of which the law `fits` is proved. */
-#define KUSTHRILA_MOST_LISTING 147473u
+#define KUSTHRILA_MOST_LISTING 176145u
 
 /* No list that kusthrila_impl_generics or kusthrila_type_generics writes is longer, with either names; added names take at most
  * 18 bytes more for each byte of lifetimes and 12 for each of types: MOST and mostAdded in crates/writing/specs/Answer.antt, of
@@ -91,7 +91,7 @@ enum kusthrila_tagged_role {
     KUSTHRILA_TAGGED_OTHER = 23  /* any other row */
 };
 
-/* The refusals. 9 and 10 are none. */
+/* The refusals. 9, 10 and 32 to 41 are none. 42 and 43 are of kusthrila_listing alone. */
 enum kusthrila_refusal {
     KUSTHRILA_REFUSAL_TOO_LONG = 1,             /* more than 65,536 bytes */
     KUSTHRILA_REFUSAL_LINE_OF_NAMES = 2,        /* the first line is neither `kind text` nor `kind joint text` */
@@ -121,7 +121,9 @@ enum kusthrila_refusal {
     KUSTHRILA_REFUSAL_NO_ENTRY_COMMA = 28,      /* tagged: no `,` after a value */
     KUSTHRILA_REFUSAL_NO_ENTRY = 29,            /* tagged: neither a key nor a key and a value */
     KUSTHRILA_REFUSAL_ADDED_NAME = 30,          /* an added name is no name of at most 255 bytes, or has `r#` */
-    KUSTHRILA_REFUSAL_NOT_ONE_GROUP = 31        /* tagged: the list is not one group */
+    KUSTHRILA_REFUSAL_NOT_ONE_GROUP = 31,       /* tagged: the list is not one group */
+    KUSTHRILA_REFUSAL_NO_INTEGER = 42,          /* listing: a variant's value is no integer, or above the range of int64_t */
+    KUSTHRILA_REFUSAL_NO_STEP = 43              /* listing: a variant without value after the largest int64_t */
 };
 
 /* Checks a list: the number of its rows, or refusal 1 to 7. */

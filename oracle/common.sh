@@ -57,3 +57,10 @@ answer() {
         rustc --edition 2021 --crate-type lib --crate-name driver --emit metadata \
         --extern "oracle=$built/liboracle.so" -o "$built/driver.rmeta" "$built/driver.rs"
 }
+
+# enums COUNT SEED SECTIONS: lists of enums, with the numbers that rustc gives their variants.
+enums() {
+    "$built/lists" enums "$1" "$2" >"$built/enums.rs"
+    rustc --edition 2021 -o "$built/enums" "$built/enums.rs"
+    "$built/enums" >"$3"
+}

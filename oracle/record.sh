@@ -10,8 +10,9 @@ build_oracle
 "$built/lists" cases $count $seed "$root/oracle/examples.txt" >"$built/record.in"
 answer "$built/record.in" "$built/answers.txt" "$built/record.counts"
 cat "$built/record.counts"
+enums 200 $seed "$built/enums.txt"
 status=0
-for name in answers checks; do
+for name in answers checks enums; do
     if cmp -s "$built/$name.txt" "$root/recorded/$name.txt"; then
         echo "recorded/$name.txt is the same"
     elif [ "${1:-}" = --update ]; then

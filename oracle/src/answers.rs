@@ -185,10 +185,11 @@ impl Oracle {
             }
             (Ok(parse), Ok(joint_parse)) => {
                 self.count(format!("kind {kind}, accepted"));
-                let reading = Reading::new(&mate, &no_lifetimes, &parse);
-                let joint = Reading::new(&mate, &lifetimes, &joint_parse);
+                let reading = Reading::new(&rows, &mate, &no_lifetimes, &parse);
+                let joint = Reading::new(&rows, &mate, &lifetimes, &joint_parse);
                 assert_eq!(reading.roles, joint.roles, "joint: {rows:?}");
                 assert_eq!(reading.listing, joint.listing, "joint: {rows:?}");
+                assert_eq!(reading.values, joint.values, "joint: {rows:?}");
                 put("roles", &accepted(&reading.roles));
                 let mut model =
                     model.unwrap_or_else(|r| panic!("the model refuses {r:?}: {rows:?}"));
@@ -201,7 +202,12 @@ impl Oracle {
                 }
                 model.push(b'\n');
                 put("every", &model);
-                put("listing", reading.listing.as_bytes());
+                put("values", reading.values.as_bytes());
+                let listing = reading.listing.unwrap_or_else(|(number, place)| {
+                    self.count(format!("listing, refusal {number:2}"));
+                    refusal(number, place)
+                });
+                put("listing", listing.as_bytes());
                 let not_joint = Cell::new(0);
                 let written = |write: &dyn Fn(&Generics) -> StreamBuilder| {
                     let [apart, joint] = [&parse, &joint_parse].map(|parse| {

@@ -72,10 +72,10 @@ impl Builder<'_> {
                 if self.chance(3) {
                     self.p("-");
                 }
-                if self.chance(40) {
-                    self.stuff(2, 1);
-                } else {
-                    self.l();
+                match self.rng.below(40) {
+                    0 => self.stuff(2, 1),
+                    1..=8 => self.l(),
+                    _ => self.integer(),
                 }
             }
             self.unless(if has_value { 3 } else { 20 }, |b| b.p(","));

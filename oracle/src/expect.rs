@@ -28,6 +28,7 @@ pub fn meets(sections: &Sections, names: Names, words: &str) -> bool {
             let item = listing.lines().nth(1);
             item.is_some_and(|line| line.ends_with(&format!(" {rest}")))
         }
+        "listing" => section("listing") == format!("refused place\n{rest}\n"),
         "line" => section("listing").lines().any(|line| line == rest),
         "impl" | "type" | "additional" => section(first) == in_rows(rest),
         "tagged" => match rest.split_once(' ') {

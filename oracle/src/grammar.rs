@@ -14,6 +14,32 @@ pub const NAMES: [&str; 34] = [
 const WORDS: [&str; 9] = [
     "pub", "struct", "enum", "where", "const", "in", "super", "self", "crate",
 ];
+const INTEGERS: [&str; 23] = [
+    "9223372036854775807",
+    "9223372036854775807",
+    "0x7FFF_FFFF_FFFF_FFFFi64",
+    "0o777_777_777_777_777_777_777",
+    "9223372036854775806",
+    "9223372036854775805",
+    "9223372036854775808",
+    "0x8000000000000000",
+    "18446744073709551615u64",
+    "18446744073709551616",
+    "0b_1",
+    "0b1010_1010u8",
+    "0o17usize",
+    "0x1f32",
+    "0x1_i8",
+    "0xAbCdEf_u32",
+    "1_",
+    "1__0",
+    "300u8",
+    "007i16",
+    "1f32",
+    "1e3",
+    "1E3",
+];
+
 const LITERALS: [&str; 35] = [
     "0",
     "1",
@@ -116,6 +142,16 @@ impl Builder<'_> {
             self.rng.below(1000).to_string()
         } else {
             self.rng.pick(&LITERALS).to_string()
+        };
+        self.rows.push(row(b'l', text));
+    }
+
+    /// A literal that is an integer, or nearly one; often on the edge of i64's range.
+    pub fn integer(&mut self) {
+        let text = match self.rng.below(8) {
+            0..=3 => self.rng.below(1000).to_string(),
+            4 => format!("0x{:X}", self.rng.next() >> self.rng.below(64)),
+            _ => self.rng.pick(&INTEGERS).to_string(),
         };
         self.rows.push(row(b'l', text));
     }

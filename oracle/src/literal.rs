@@ -1,5 +1,7 @@
 //! Literals that can be compared.
 
+use crate::numbers::SUFFIXES;
+
 /// Whether Rust reads the text as one faultless literal. Narrower than Rust on purpose:
 /// a list with another literal is left out of the comparison.
 pub fn sound_literal(text: &str) -> bool {
@@ -57,9 +59,6 @@ pub fn sound_literal(text: &str) -> bool {
 }
 
 fn number(text: &str) -> bool {
-    const INTEGERS: [&str; 12] = [
-        "u8", "u16", "u32", "u64", "u128", "usize", "i8", "i16", "i32", "i64", "i128", "isize",
-    ];
     let digits = |s: &str, f: fn(&u8) -> bool| {
         let n = s.bytes().take_while(|b| f(b) || *b == b'_').count();
         (s[..n].to_string(), s[n..].to_string())
@@ -72,14 +71,14 @@ fn number(text: &str) -> bool {
     ] {
         if let Some(rest) = text.strip_prefix(prefix) {
             let (d, suffix) = digits(rest, f);
-            return real(&d) && (suffix.is_empty() || INTEGERS.contains(&suffix.as_str()));
+            return real(&d) && (suffix.is_empty() || SUFFIXES.contains(&suffix.as_str()));
         }
     }
     let (whole, rest) = digits(text, u8::is_ascii_digit);
     if whole.is_empty() || whole.starts_with('_') {
         return false;
     }
-    if rest.is_empty() || INTEGERS.contains(&rest.as_str()) || rest == "f32" || rest == "f64" {
+    if rest.is_empty() || SUFFIXES.contains(&rest.as_str()) || rest == "f32" || rest == "f64" {
         return true;
     }
     let mut rest = rest;

@@ -3,16 +3,19 @@
 //!   lists checks                      the table of bad input, with the answers of the list check
 //!   lists tokens LINE..               one list for each line of tokens
 //!   lists counts                      what a replay of the sections in standard input is to print
+//!   lists enums COUNT SEED            a Rust program that prints such sections with the numbers of its own enums
 
 mod bad_input;
 mod bodies;
 mod check;
 mod contexts;
 mod damage;
+mod enums;
 mod grammar;
 mod limits;
 mod lists;
 mod marks;
+mod numbers;
 mod rng;
 
 use lists::{read_section, to_bytes, tokens, write_section, Names};
@@ -42,8 +45,13 @@ fn main() -> io::Result<()> {
             }
         }
         Some("counts") => counts(out)?,
+        Some("enums") if args.len() == 3 => {
+            let count = args[1].parse().expect("COUNT is a number");
+            let seed = args[2].parse().expect("SEED is a number");
+            write!(out, "{}", enums::program(count, seed))?;
+        }
         _ => {
-            eprintln!("usage: lists cases COUNT SEED EXAMPLES | checks | tokens LINE.. | counts");
+            eprintln!("usage: lists cases COUNT SEED EXAMPLES | checks | tokens LINE.. | counts | enums COUNT SEED");
             std::process::exit(2);
         }
     }

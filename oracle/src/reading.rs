@@ -2,8 +2,9 @@
 
 use crate::check::END;
 use crate::lists::Row;
+use crate::numbers::number;
 use crate::parse::{Attribute, Fields, Generic, Parse, UnnamedField};
-use crate::refusals::place;
+use crate::refusals::{place, Refusal};
 use proc_macro::{Span, TokenTree};
 
 /// Whether a row is a joint `'` with a name after it. The compiler makes one token of the two, so that
@@ -25,18 +26,24 @@ pub fn row_of(span: Span, lifetimes: &[bool]) -> usize {
 pub struct Reading<'a> {
     mate: &'a [usize],
     lifetimes: &'a [bool],
+    rows: &'a [Row],
     /// A letter for each row that is named, `.` for the others.
     pub roles: Vec<u8>,
-    pub listing: String,
+    /// The listing, or the refusal of the first variant that has no number.
+    pub listing: Result<String, Refusal>,
+    /// A line with the value of each variant, empty where none is written.
+    pub values: String,
 }
 
 impl<'a> Reading<'a> {
-    pub fn new(mate: &'a [usize], lifetimes: &'a [bool], parse: &Parse) -> Self {
+    pub fn new(rows: &'a [Row], mate: &'a [usize], lifetimes: &'a [bool], parse: &Parse) -> Self {
         let mut r = Reading {
             mate,
             lifetimes,
+            rows,
             roles: vec![b'.'; mate.len()],
-            listing: String::from("part name number\n"),
+            listing: Ok(String::from("part name number\n")),
+            values: String::new(),
         };
         let (
             Parse::Struct {
@@ -75,18 +82,30 @@ impl<'a> Reading<'a> {
         match parse {
             Parse::Struct { body, .. } => r.fields(&body.fields),
             Parse::Enum { body, .. } => {
-                for (position, variant) in body.variants.iter().enumerate() {
+                let mut before = -1;
+                for variant in &body.variants {
                     r.attributes(&variant.attributes);
                     r.mark(variant.name.span(), 15);
-                    let number = match &variant.value {
-                        Some(value) => {
-                            // A negative is a new literal, with no row.
-                            r.mark(value.span(), 16);
-                            value.to_string()
+                    let value = variant.value.as_ref().map(|value| {
+                        // A negative is a new literal, with no row.
+                        r.mark(value.span(), 16);
+                        value.to_string()
+                    });
+                    match number(value.as_deref(), before) {
+                        Ok(number) => {
+                            before = number;
+                            r.line("variant", &variant.name.to_string(), &number.to_string());
                         }
-                        None => position.to_string(),
-                    };
-                    r.line("variant", &variant.name.to_string(), &number);
+                        Err(refusal) => {
+                            let place = match &variant.value {
+                                Some(value) => place(value.span()),
+                                None => r.name_place(variant.name.span()),
+                            };
+                            // The first is told.
+                            r.listing = r.listing.and(Err((refusal, place)));
+                        }
+                    }
+                    r.values += &(value.unwrap_or_default() + "\n");
                     r.fields(&variant.fields);
                 }
             }
@@ -95,7 +114,15 @@ impl<'a> Reading<'a> {
     }
 
     fn line(&mut self, part: &str, name: &str, number: &str) {
-        self.listing += &format!("{part} {name} {number}\n");
+        if let Ok(listing) = &mut self.listing {
+            *listing += &format!("{part} {name} {number}\n");
+        }
+    }
+
+    /// The place of the name of a variant that is not the first: where a group wraps it, its opening row.
+    fn name_place(&self, name: Span) -> usize {
+        let row = row_of(name, self.lifetimes);
+        row - usize::from(self.rows[row - 1].kind == b'o')
     }
 
     fn set(&mut self, row: usize, role: u8) {

@@ -11,6 +11,7 @@ mod expect;
 mod lists;
 mod literal;
 mod model;
+mod numbers;
 mod reading;
 mod refusals;
 mod rng;

@@ -43,7 +43,7 @@ extern "C" {
 pub const MOST_ROWS: usize = 4096;
 
 /// No listing is longer: `MOST` in `crates/describe/specs/Listing.antt`, of which the law `fits` is proved.
-pub const MOST_LISTING: usize = 147_473;
+pub const MOST_LISTING: usize = 176_145;
 
 /// No list that `impl_generics` or `type_generics` writes is longer, with either names: `MOST` in
 /// `crates/writing/specs/Answer.antt`, of which the laws are proved in `crates/writing/proofs/Lengths.antt`.

@@ -1,4 +1,4 @@
-//! The refusals' numbers. 9 and 10 are none. README.md says where each one's place is, and which comes first.
+//! The refusals' numbers. 9, 10 and 32 to 41 are none; 42 and 43 are of the listing alone. README.md says where each one's place is, and which comes first.
 
 /// More than 65,536 bytes.
 pub const TOO_LONG: u8 = 1;
@@ -58,3 +58,7 @@ pub const NO_ENTRY: u8 = 29;
 pub const ADDED_NAME: u8 = 30;
 /// Tagged: the list is not one group.
 pub const NOT_ONE_GROUP: u8 = 31;
+/// Listing: a variant's value is no integer, or above the range of i64.
+pub const NO_INTEGER: u8 = 42;
+/// Listing: a variant without value after the largest i64.
+pub const NO_STEP: u8 = 43;

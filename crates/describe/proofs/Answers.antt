@@ -1,11 +1,12 @@
 -- Laws on the answers of the calls.
 use mathlib.Core.Path.{_≡_, refl, ap, _∙_, sym, subst, subst⁻¹}
-use mathlib.Core.Logic.{⊎-elim}
-use mathlib.Core.Bool.{false}
+use mathlib.Core.Logic.{inr, ⊎-elim}
+use mathlib.Core.Bool.{true, false, false≢true}
 use mathlib.Core.List.{List}
 use Prim.Native.Nat.{ℕ, _≤_, _<_}
 use native.Mathlib.Omega.{arith}
 use borrow.Author.Tests.{lt-ltb, le-ltb, le-leb}
+use lib.IntN.{ℤ}
 use lib.ListN.{length}
 use lib.Seq.{slice, sets}
 use Rattle.token_list.specs.Layout.{marked, firstRow}
@@ -16,16 +17,21 @@ use Rattle.token_list.specs.Stream.{at, rowStart}
 use Rattle.token_list.proofs.Columns.{offset-low}
 use Rattle.token_list.proofs.Starts.{next-start}
 use Rattle.reading.specs.Answer.{framed, readNumber}
-use Rattle.reading.specs.Place.{start, valueRow}
-use Rattle.reading.proofs.Places.{short-read, refusals}
-use Rattle.token_list.specs.Contract.{InList}
+use Rattle.reading.specs.Place.{start, inside, bodyAt, valueRow}
+use Rattle.reading.proofs.Frame.{framed-cases}
+use Rattle.reading.proofs.Places.{check-read, short-read, item-read, refusals}
+use Rattle.token_list.specs.Text.{between}
+use Rattle.token_list.specs.declared.check.Cursor.{Cursor}
 use Rattle.token_list.specs.declared.check.Refusal.{Refusal}
 use Rattle.token_list.specs.declared.stream.Token.{Token}
-use Rattle.token_list.proofs.Texts.{chosen, passed-over}
+use Rattle.token_list.proofs.Bounds.{bounds}
+use Rattle.token_list.proofs.Texts.{or-holds, chosen, passed-over}
 use Rattle.output.specs.Contract.{Put}
 use Rattle.output.specs.Answer as outputs
+use Rattle.output.specs.Written.{WrittenAs}
+use Rattle.output.specs.declared.written.Written.the-variants as writtens
 use Rattle.output.proofs.Texts.{kept, shown, joined}
-use Rattle.output.proofs.Answers.{fitted-refused}
+use Rattle.output.proofs.Answers.{fitted-refused, written-refused, written-as, fits-not, fits}
 use Rattle.reading.specs.Declaration as declaration
 use Rattle.reading.specs.Token.{MAX-I64, worth}
 use Rattle.reading.specs.Took.{Took, took, Cause, stopped, Point}
@@ -34,8 +40,14 @@ use Rattle.parse.specs.declared.variants.ValueAt.{ValueAt}
 use Rattle.parse.specs.declared.variants.ValueAt.the-variants as valueAts
 use Rattle.describe.specs.Value.{SCRATCH-BYTES, negativeText, Answer, refused, bodyValue, valueAnswer}
 use Rattle.describe.specs.Value.{variantAnswer, itemAnswer, answer, scratch, valueText}
+use Rattle.describe.specs.Numbers.{Fault, noInteger, noStep, faultNumber, Numbers, numbers, lacking, numbersOf}
+use Rattle.describe.specs.Numbers.{faultIn, faultPlace}
 use Rattle.describe.specs.Listing as listing
-use Rattle.describe.specs.Contract.{ValueAs, part, textStart, textEnd, placeOf, Placed}
+use Rattle.parse.specs.Contract.{point, CursorAt}
+use Rattle.describe.specs.Contract.{ValueAs, part, textStart, textEnd, placeOf, Placed, Begins, FaultsIn}
+use Rattle.describe.specs.Contract.{ItemFaultsIn, LinesAs, lined, lacks}
+use Rattle.describe.specs.declared.listing.LinesStep.{LinesStep}
+use Rattle.describe.specs.declared.listing.LinesStep.the-variants as linesSteps
 use Rattle.describe.specs.declared.value.ValuePlace.{ValuePlace}
 use Rattle.describe.specs.declared.value.ValuePlace.the-variants as places
 use Rattle.describe.proofs.Worths.{part-front, negative-within, negative-length}
@@ -61,12 +73,12 @@ module _ {s : List ℕ} {v : ValueAt} (x : Point) (w : declaration.Value) (k : V
         scratch = sym (ap (scratch y) a);
       }
 
-  pub placed-literal : (y : List ℕ) (t : Token) → v ≡ valueAts.Literal t → length s ≤ 65536
+  pub placed-literal : (y : List ℕ) (t : Token) (told : ℕ) → v ≡ valueAts.Literal t told → length s ≤ 65536
       → Placed s y y (valueAnswer (valueRow x w) w) (places.InList (t .start) (t .end))
-  placed-literal y t e short =
+  placed-literal y t told e short =
       let b = known e .value in
       let row = valueRow x w in
-      let token = known e .place in
+      let token = known e .place .0 in
       let a = answered (declaration.literal (b .0)) (b .2) refl in
       let same : valueRow x w ≡ valueRow x (declaration.literal (b .0)) = ap (valueRow x) (b .2) in
       let next = next-start s row (rowStart s row) (t .end) refl (token .end) in
@@ -148,38 +160,173 @@ module _ (s : List ℕ) (k n : ℕ) where
 
 -- ## A listing
 
-pub put-listing : {k l m o : List ℕ} {i j r : ℕ} (x : declaration.Declaration) → Put k l 0 i (listing.itemLines x) →
+-- lines, by the code's enum
+module _ {s : List ℕ} {place : Fault → ℕ → ℕ} {x y : List ℕ} {from : ℕ} {text : List ℤ → List ℕ} {ns : Numbers}
+    {r : LinesStep} (l : LinesAs s place x y from text ns r) where
+  pub lines-at : {e : ℕ} → r ≡ linesSteps.At e → (zs : List ℤ) × (ns ≡ numbers zs) × Put x y from e (text zs)
+  lines-at {e} q = go l q
+    where
+      go : {ns : Numbers} {r : LinesStep} → LinesAs s place x y from text ns r → r ≡ linesSteps.At e →
+          (zs : List ℤ) × (ns ≡ numbers zs) × Put x y from e (text zs)
+      go (lined {zs = zs} {e = i} p) q =
+          let same : i ≡ e = cc in
+          (zs, refl, subst (λ (i : ℕ). Put x y from i (text zs)) same p)
+      go (lacks h b) q = let z : _≡_ {A = ℕ} 0 1 = cc in absurd (omega arith)
+
+  pub lines-refused : {q : Refusal} → r ≡ linesSteps.Refused q →
+      (f : Fault) × (k : ℕ) × (ns ≡ lacking f k) × (q ≡ record { number = faultNumber f; place = place f k })
+  lines-refused {q} e = go l e
+    where
+      go : {ns : Numbers} {r : LinesStep} → LinesAs s place x y from text ns r → r ≡ linesSteps.Refused q →
+          (f : Fault) × (k : ℕ) × (ns ≡ lacking f k) × (q ≡ record { number = faultNumber f; place = place f k })
+      go (lined p) e = let z : _≡_ {A = ℕ} 0 1 = cc in absurd (omega arith)
+      go (lacks {f = f} {k = k} {r = o} h b) e =
+          let same : o ≡ q = cc in
+          (f, k, refl, sym same ∙ h)
+
+  pub lines-faults : FaultsIn s place ns
+  lines-faults = go l
+    where
+      go : {ns : Numbers} {r : LinesStep} → LinesAs s place x y from text ns r → FaultsIn s place ns
+      go (lined p) = tt
+      go (lacks h b) = b
+
+  -- the same lines as a part of others
+  pub lines-within : {v w : List ℕ} {to : ℕ} {whole : List ℤ → List ℕ} →
+      ((zs : List ℤ) (e : ℕ) → Put x y from e (text zs) → Put v w to e (whole zs)) → LinesAs s place v w to whole ns r
+  lines-within {v} {w} {to} {whole} f = go l
+    where
+      go : {ns : Numbers} {r : LinesStep} → LinesAs s place x y from text ns r → LinesAs s place v w to whole ns r
+      go (lined {zs = zs} {e = e} p) = lined (f zs e p)
+      go (lacks h b) = lacks h b
+
+numbers-same : {xs ys : List ℤ} → numbers xs ≡ numbers ys → xs ≡ ys
+numbers-same e = cc
+
+numbers-not-lacking : {B : Type 0} {zs : List ℤ} {f : Fault} {k : ℕ} → numbers zs ≡ lacking f k → B
+numbers-not-lacking e = let z : _≡_ {A = ℕ} 0 1 = cc in absurd (omega arith)
+
+-- the body's lines after the others
+pub listing-lines : {k l m o : List ℕ} {i j e : ℕ} (x : declaration.Declaration) (zs : List ℤ) →
+    Put k l 0 i (listing.itemLines x) →
     Put l m i j (listing.numbered listing.parameterLine 0 (declaration.parametersOf (x .generics)))
-    → Put m o j r (listing.bodyLines (x .body)) → Put k o 0 r (listing.listing x)
+    → Put m o j e (listing.bodyLines zs (x .body)) → Put k o 0 e (listing.listing zs x)
 unfolding listing.listing
-put-listing x p q t = joined p (joined q t)
+listing-lines x zs p q t = joined p (joined q t)
+
+-- a declaration d that begins at p, with its body at c
+module _ {s : List ℕ} {c : Cursor} (p : Point) (d : declaration.Declaration) (body : CursorAt s (bodyAt p) c) where
+  pub item-faults : FaultsIn s (faultIn (inside (point s c))) (numbersOf d) → FaultsIn s (faultPlace p) (numbersOf d)
+  item-faults h = subst (λ (y : Point). FaultsIn s (faultIn (inside y)) (numbersOf d)) (body .here) h
+
+  -- the answer in an output z, once the listing was measured
+  module _ {x y : List ℕ} (z : List ℕ) {r : LinesStep}
+      (t : LinesAs s (faultIn (inside (point s c))) x y 0 (λ zs. listing.listing zs d) (numbersOf d) r) where
+    told : {ns : Numbers} → numbersOf d ≡ ns →
+        outputs.fitted (length z) (listing.numberedAnswer p d (numbersOf d)) ≡
+        outputs.fitted (length z) (listing.numberedAnswer p d ns)
+    told e = ap (λ (ns : Numbers). outputs.fitted (length z) (listing.numberedAnswer p d ns)) e
+
+    pub measured-refused : (q : Refusal) → r ≡ linesSteps.Refused q →
+        WrittenAs z z (outputs.fitted (length z) (listing.numberedAnswer p d (numbersOf d))) (writtens.Refused q)
+    measured-refused q e =
+        let f = lines-refused t e in
+        let place : faultPlace p (f .0) (f .1) ≡ q .place =
+        ap (λ (y : Point). faultIn (inside y) (f .0) (f .1)) (sym (body .here)) ∙
+        sym (ap (λ (w : Refusal). w .place) (f .3)) in
+        let number : faultNumber (f .0) ≡ q .number = sym (ap (λ (w : Refusal). w .number) (f .3)) in
+        written-refused (told (f .2) ∙ (λ i. outputs.refused (number i) (place i)))
+
+    pub measured-short : (e : ℕ) → r ≡ linesSteps.At e → length z < e →
+        WrittenAs z z (outputs.fitted (length z) (listing.numberedAnswer p d (numbersOf d)))
+        (writtens.Refused (record { number = 8; place = list.END }))
+    measured-short e q h =
+        let l = lines-at t q in
+        written-as (told (l .1)) (fits-not (listing.listing (l .0) d) e (l .2 .next) h)
+
+    -- and written
+    module _ {w : List ℕ} {r2 : LinesStep}
+        (t2 : LinesAs s (faultIn (inside (point s c))) z w 0 (λ zs. listing.listing zs d) (numbersOf d) r2) (e : ℕ)
+        (q : r ≡ linesSteps.At e) where
+      pub measured-fits : (m : ℕ) → r2 ≡ linesSteps.At m → e ≤ length z →
+          WrittenAs z w (outputs.fitted (length z) (listing.numberedAnswer p d (numbersOf d))) (writtens.Text m)
+      measured-fits m q2 h =
+          let l = lines-at t q in
+          let l2 = lines-at t2 q2 in
+          let same : l2 .0 ≡ l .0 = numbers-same (sym (l2 .1) ∙ l .1) in
+          written-as (told (l .1)) (fits (listing.listing (l .0) d) e (l .2 .next) h
+          (subst (λ (zs : List ℤ). Put z w 0 m (listing.listing zs d)) same (l2 .2)))
+
+      pub measured-never : {B : Type 0} (v : Refusal) → r2 ≡ linesSteps.Refused v → B
+      measured-never v q2 = numbers-not-lacking (sym (lines-at t q .1) ∙ lines-refused t2 q2 .2)
 
 module _ (s : List ℕ) (n : ℕ) where
   abbrev fittedBy : list.Answer → outputs.Answer
-  fittedBy a = outputs.fitted n (framed outputs.refused (λ rows. false) listing.itemAnswer s a)
+  fittedBy a = outputs.fitted n (framed outputs.refused (λ rows. false) (listing.itemAnswer (start s)) s a)
 
   pub listing-checked : {m p : ℕ} → list.check s ≡ list.Answer.refused m p → listing.answer s n ≡ outputs.refused m p
   unfolding listing.answer listing.fullAnswer
   listing-checked e = ap fittedBy e
 
   pub listing-read : {r : ℕ} → list.check s ≡ list.Answer.passed r →
-      listing.answer s n ≡ outputs.fitted n (listing.itemAnswer (item 0 (at s (firstRow s) .here)))
+      listing.answer s n ≡ outputs.fitted n (listing.itemAnswer (start s) (item 0 (at s (firstRow s) .here)))
   unfolding listing.answer listing.fullAnswer
   listing-read e = ap fittedBy e
 
-  pub listing-refusal : (m p : ℕ) → listing.answer s n ≡ outputs.refused m p → OneRefusal readNumber s m p
-  unfolding listing.answer listing.fullAnswer
-  listing-refusal m p e =
-      ⊎-elim (refusals s outputs.refused (λ rows. false) listing.itemAnswer (λ n p m o q. ((cc), (cc))) plain m p) short
-      (fitted-refused n (framed outputs.refused (λ rows. false) listing.itemAnswer s (list.check s)) e)
-    where
-      plain : (m p : ℕ) (t : Took declaration.Declaration) → listing.itemAnswer t ≡ outputs.refused m p
-          → (w : Cause) × (t ≡ stopped w m p)
-      plain m p (took d rs us) q = let z : _≡_ {A = ℕ} 0 1 = cc in absurd (omega arith)
-      plain m p (stopped w i o) q = (w, (cc))
+  -- a refusal of the reading is one of the listing
+  wider : {m p : ℕ} → OneRefusal readNumber s m p → OneRefusal listing.listingNumber s m p
+  wider {m} o = record { one = or-holds (readNumber m) (between 42 43 m) (o .one); stands = o .stands }
 
-      short : outputs.refused 8 list.END ≡ outputs.refused m p → OneRefusal readNumber s m p
-      short q =
-          let number : 8 ≡ m = cc in
-          let place : list.END ≡ p = cc in
-          subst (λ (i : ℕ). OneRefusal readNumber s i p) number (subst (OneRefusal readNumber s 8) place (short-read s))
+  fault-one : (f : Fault) → listing.listingNumber (faultNumber f) ≡ true
+  fault-one noInteger = refl
+  fault-one noStep = refl
+
+  module _ {rows : ℕ} (e : list.check s ≡ list.Answer.passed rows) where
+    fault-refusal : (f : Fault) (p : ℕ) → Begins s p → OneRefusal listing.listingNumber s (faultNumber f) p
+    fault-refusal f p h =
+        let b = bounds s e in
+        record { one = fault-one f; stands = inr (record { begins = h; low = omega (arith, h, b .begun, b .rows) }) }
+
+    by-numbers : {m p : ℕ} (d : declaration.Declaration) (ns : Numbers) → FaultsIn s (faultPlace (start s)) ns →
+        listing.numberedAnswer (start s) d ns ≡ outputs.refused m p → OneRefusal listing.listingNumber s m p
+    by-numbers d (numbers zs) h q = let z : _≡_ {A = ℕ} 0 1 = cc in absurd (omega arith)
+    by-numbers {m} {p} d (lacking f k) h q =
+        let number : faultNumber f ≡ m = cc in
+        let place : faultPlace (start s) f k ≡ p = cc in
+        let told = fault-refusal f (faultPlace (start s) f k) h in
+        subst (λ (i : ℕ). OneRefusal listing.listingNumber s i p) number
+        (subst (OneRefusal listing.listingNumber s (faultNumber f)) place told)
+
+    by-item : {m p : ℕ} (t : Took declaration.Declaration) → item 0 (at s (firstRow s) .here) ≡ t → ItemFaultsIn s t →
+        listing.itemAnswer (start s) t ≡ outputs.refused m p → OneRefusal listing.listingNumber s m p
+    by-item (took d rs us) i h q = by-numbers d (numbersOf d) h q
+    by-item {m} {p} (stopped w a o) i h q =
+        let same : item 0 (at s (firstRow s) .here) ≡ stopped w m p = i ∙ (cc) in
+        wider (item-read s rows m p e same)
+
+  -- where the refusals of an item's numbers stand in rows
+  pub listing-refusal : ((rows : ℕ) → list.check s ≡ list.Answer.passed rows →
+      ItemFaultsIn s (item 0 (at s (firstRow s) .here)))
+      → (m p : ℕ) → listing.answer s n ≡ outputs.refused m p → OneRefusal listing.listingNumber s m p
+  unfolding listing.answer listing.fullAnswer
+  listing-refusal faults m p e =
+      ⊎-elim full short
+      (fitted-refused n (framed outputs.refused (λ rows. false) (listing.itemAnswer (start s)) s (list.check s)) e)
+    where
+      as-told : {i o : ℕ} → OneRefusal listing.listingNumber s i o → outputs.refused i o ≡ outputs.refused m p
+          → OneRefusal listing.listingNumber s m p
+      as-told {i} {o} h q =
+          let number : i ≡ m = cc in
+          let place : o ≡ p = cc in
+          subst (λ (j : ℕ). OneRefusal listing.listingNumber s j p) number
+          (subst (OneRefusal listing.listingNumber s i) place h)
+
+      full : framed outputs.refused (λ rows. false) (listing.itemAnswer (start s)) s (list.check s)
+          ≡ outputs.refused m p → OneRefusal listing.listingNumber s m p
+      full = framed-cases (λ (a : outputs.Answer). a ≡ outputs.refused m p → OneRefusal listing.listingNumber s m p)
+          outputs.refused (λ rows. false) (listing.itemAnswer (start s)) s
+          (λ i o c. as-told (wider (check-read s i o c))) (λ rows c h. absurd (false≢true h))
+          (λ rows c h t i. by-item c t i (subst (ItemFaultsIn s) i (faults rows c)))
+
+      short : outputs.refused 8 list.END ≡ outputs.refused m p → OneRefusal listing.listingNumber s m p
+      short q = as-told (wider (short-read s)) q

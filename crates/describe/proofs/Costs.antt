@@ -1,4 +1,4 @@
--- What a declaration costs in a listing: no more than the weight of the rows that it is read from, 20 bytes a row and
+-- What a declaration costs in a listing: no more than the weight of the rows that it is read from, 30 bytes a row and
 -- the row's text.
 use mathlib.Core.Path.{_≡_, refl}
 use mathlib.Core.Bool.{Bool, true, false, cond}
@@ -7,14 +7,14 @@ use Prim.Native.Nat.{ℕ, zero, suc, _+_, _*_, _≤_}
 use native.Mathlib.Omega.{arith}
 use lib.Dec.{eqb}
 use lib.ListN.{length}
-use Rattle.token_list.specs.Byte.{BRACE, COLON, COMMA, EQUALS, GREATER, LESS, MINUS, PARENTHESIS, QUOTE, SEMICOLON}
+use Rattle.token_list.specs.Byte.{BRACE, COLON, COMMA, EQUALS, GREATER, LESS, PARENTHESIS, QUOTE, SEMICOLON}
 use Rattle.token_list.specs.Text.{same}
 use Rattle.token_list.specs.Row.{Row}
 use Rattle.token_list.specs.Stream.{Trees, end, leaf, group, size}
 use Rattle.token_list.proofs.Bounds.{texts}
 use Rattle.reading.specs.Role as role
 use Rattle.reading.specs.Declaration.{Kind, struct, enum, Parameter, lifetime, type, Visibility, UnnamedField, Field}
-use Rattle.reading.specs.Declaration.{Fields, unit, named, tuple, Value, absent, literal, negative, Variant, Body}
+use Rattle.reading.specs.Declaration.{Fields, unit, named, tuple, Variant, Body}
 use Rattle.reading.specs.Declaration.{fields, variants, Declaration, parametersOf}
 use Rattle.reading.specs.Took.{Took, took, Cause, stopped, refuse, Reader, onward, after, _>>=_, pure}
 use Rattle.reading.specs.Reading as r
@@ -22,14 +22,12 @@ use Rattle.reading.specs.Reading.{Maybe, done, one, Word, missing, found, round
 use Rattle.reading.proofs.Rounds.{Conserved, taken, refused, Any, Turn, Empty}
 use Rattle.reading.proofs.Conserved as conserved
 use Rattle.reading.proofs.Conserved.{Conserving}
-use Rattle.describe.specs.Value.{negativeText}
 use Rattle.describe.specs.Listing.{parameterName}
-use Rattle.describe.proofs.Worths.{counting, negative-within}
 
 abbrev pub weight : Trees → ℕ
-weight ts = texts ts + 20 * size ts
+weight ts = texts ts + 30 * size ts
 
--- ## Costs: at least the bytes of the lines, where a position has at most four digits
+-- ## Costs: at least the bytes of the lines, where a position has at most four digits and a number 20 bytes
 
 abbrev pub total : {A : Type 0} → (A → ℕ) → List A → ℕ
 total cost [] = 0
@@ -37,7 +35,7 @@ total cost (x ∷ xs) = cost x + total cost xs
 
 -- a line with this name
 abbrev pub nameCost : List ℕ → ℕ
-nameCost t = length t + 20
+nameCost t = length t + 30
 
 abbrev pub parameterCost : Parameter → ℕ
 parameterCost p = nameCost (parameterName p)
@@ -46,20 +44,15 @@ abbrev pub fieldCost : Field → ℕ
 fieldCost f = nameCost (f .name)
 
 abbrev pub typeCost : UnnamedField → ℕ
-typeCost f = 20
+typeCost f = 30
 
 abbrev pub fieldsCost : Fields → ℕ
 fieldsCost unit = 0
 fieldsCost (named fs) = total fieldCost fs
 fieldsCost (tuple fs) = total typeCost fs
 
-abbrev pub valueCost : Value → ℕ
-valueCost absent = 0
-valueCost (literal t) = length t
-valueCost (negative n) = length (negativeText n)
-
 abbrev pub variantCost : Variant → ℕ
-variantCost v = nameCost (v .name) + fieldsCost (v .fields) + valueCost (v .value)
+variantCost v = nameCost (v .name) + fieldsCost (v .fields)
 
 abbrev pub bodyCost : Body → ℕ
 bodyCost (fields f) = fieldsCost f
@@ -292,32 +285,6 @@ variantFields-covering row (group d ts us) =
     choice (eqb d BRACE) (enclosed-covered row d ts us namedFields-covering)
     (choice (eqb d PARENTHESIS) (enclosed-covered row d ts us tupleFields-covering) refuses)
 
--- ## Values
-
-negativeValue-covering : Covering valueCost 0 r.negativeValue
-negativeValue-covering row end = refuses
-negativeValue-covering row (group d ts us) = refuses
-negativeValue-covering row (leaf q us) = choice (r.isLiteral q) (go (r.negatable (q .text)) refl) refuses
-  where
-    go : (b : Bool) → r.negatable (q .text) ≡ b → Covered valueCost 0 (leaf q us)
-        (cond b (took (negative (r.worth (q .text))) (role.value ∷ []) us) (refuse 26 row))
-    go true e = one-row role.value q us (omega (arith, negative-within (r.worth (q .text)) (counting (q .text) e .few)))
-    go false e = refuses
-
-discriminant-covering : Covering valueCost 0 r.discriminant
-discriminant-covering row end = refuses
-discriminant-covering row (group d ts us) = refuses
-discriminant-covering row (leaf q us) =
-    choice (r.isLiteral q) (one-row role.value q us (omega arith))
-    (choice (r.isPunct MINUS q) (from-covered role.value row q us (omega arith) negativeValue-covering) refuses)
-
-valueIf-covering : Covering valueCost 0 r.valueIf
-valueIf-covering row end = nothing-taken (omega arith)
-valueIf-covering row (group d ts us) = refuses
-valueIf-covering row (leaf q us) =
-    choice (r.isPunct EQUALS q) (from-covered role.separator row q us (omega arith) discriminant-covering)
-    (choice (r.isPunct COMMA q) (nothing-taken (omega arith)) refuses)
-
 -- ## Variants and bodies
 
 variantHere-covering : Covering (maybe variantCost) 0 r.variantHere
@@ -326,7 +293,7 @@ variantHere-covering =
     (λ a. bind (word-covering role.variant-name)
     (λ w. bind (named!-covering w)
     (λ n. bind (besides (nameCost n) variantFields-covering)
-    (λ f. bind (besides (nameCost n + fieldsCost f) valueIf-covering)
+    (λ f. bind (keeps _ conserved.valueIf-conserving)
     (λ v. comma-covering _)))))
 
 variant-covering : Covering (maybe variantCost) 0 r.variant

@@ -4,5 +4,8 @@ pub mod Worths
 pub mod Answers
 pub mod Costs
 pub mod Lined
+pub mod Integers
+pub mod Numbering
 pub mod Length
 pub mod Marks
+pub mod Examples

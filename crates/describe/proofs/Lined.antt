@@ -10,7 +10,7 @@ use Rattle.token_list.specs.Contract.{InList}
 use Rattle.token_list.specs.declared.check.Cursor.{Cursor}
 use Rattle.output.specs.Contract.{FAR, Put}
 use Rattle.output.proofs.Texts.{nothing, joined, put-as}
-use Rattle.reading.specs.Declaration.{Parameter, lifetime, constant, type, UnnamedField, Field, Variant}
+use Rattle.reading.specs.Declaration.{Parameter, lifetime, constant, type, UnnamedField, Field}
 use Rattle.reading.specs.Took.{Took, Reader}
 use Rattle.reading.specs.Reading as reading
 use Rattle.reading.specs.Reading.{Maybe, done, one, every}
@@ -18,14 +18,13 @@ use Rattle.reading.specs.Place.{parameterNameAt}
 use Rattle.reading.proofs.Rounds.{Rounding}
 use Rattle.reading.proofs.Conserved as conserved
 use Rattle.parse.specs.Contract.{Said, on, no, Meets, stream, point, InsideAt}
-use Rattle.parse.specs.Contract.{namedShown, namedSaid, nextShown, nextSaid, variantShown, variantSaid}
+use Rattle.parse.specs.Contract.{namedShown, namedSaid, nextShown, nextSaid}
 use Rattle.parse.specs.Contract.{isLifetime, parameterKind, parameterText, parameterShown, parameterSaid}
 use Rattle.parse.specs.declared.fields.NamedStep.{NamedStep}
 use Rattle.parse.specs.declared.fields.NextStep.{NextStep}
-use Rattle.parse.specs.declared.variants.VariantStep.{VariantStep}
 use Rattle.parse.specs.declared.generics.ParameterStep.{ParameterStep}
 use Rattle.parse.proofs.Meeting as meeting
-use Rattle.describe.specs.Listing.{line, numbered, namedLine, tupleLine, variantLines, parameterName}
+use Rattle.describe.specs.Listing.{line, numbered, namedLine, tupleLine, parameterName}
 use Rattle.describe.specs.Listing.{parameterLine}
 use Rattle.parse.proofs.Inside.{inside-more, inside-done, inside-refused, forward}
 
@@ -35,7 +34,7 @@ pub put-line : {k l m : List ℕ} {h i j : ℕ} (part name number : List ℕ) �
 unfolding line
 put-line part name number p q = put-as (sym (append-assoc part name (SPACE ∷ (number ++ LF ∷ [])))) (joined p q)
 
-numbered-more : {A : Type 0} (f : ℕ → A → List ℕ) (k : ℕ) (ys : List A) (a : A) →
+pub numbered-more : {A : Type 0} (f : ℕ → A → List ℕ) (k : ℕ) (ys : List A) (a : A) →
     numbered f k (ys ++ a ∷ []) ≡ numbered f k ys ++ f (k + length ys) a
 numbered-more f k [] a = let e : k ≡ k + 0 = omega arith in append-nil (f k a) ∙ ap (λ (n : ℕ). f n a) e
 numbered-more f k (y ∷ ys) a =
@@ -71,16 +70,6 @@ tuple =
       round = conserved.tupleField-round;
       shown = λ s c. nextShown;
       said = nextSaid;
-    }
-
-abbrev pub variants : Series VariantStep Variant
-variants =
-    record {
-      lines = variantLines;
-      reader = reading.variant;
-      round = conserved.variant-round;
-      shown = variantShown;
-      said = variantSaid;
     }
 
 -- between the angles, of which the first stands in this row

@@ -1,10 +1,11 @@
 -- A listing and a variant's value hold no joint marks: they are the same for two lists that are equal but for marks.
-use mathlib.Core.Path.{_≡_, refl, ap, _∙_, sym}
+use mathlib.Core.Path.{_≡_, refl, ap, _∙_, sym, fun-ext}
 use mathlib.Core.Bool.{false}
 use mathlib.Core.List.{List, [], _∷_, _++_, map}
 use Prim.Native.Nat.{ℕ, zero, suc, _+_}
 use lib.Dec.{ltb}
-use lib.ListN.{length-map}
+use lib.IntN.{ℤ, pos}
+use lib.ListN.{length-map, getD}
 use Rattle.token_list.specs.Marks.{streamOf, EqualButMarks}
 use Rattle.token_list.proofs.Marks.{same-stream}
 use Rattle.output.specs.Text.{decimal}
@@ -19,8 +20,11 @@ use Rattle.reading.specs.Marks.{unmarkedParameter, unmarkedGenerics, unmarkedUn
 use Rattle.reading.specs.Marks.{unmarkedFields, unmarkedVariant, unmarkedBody, unmarkedDeclaration, unmarkedTook}
 use Rattle.reading.specs.Marks.{unmarkedPoint}
 use Rattle.reading.proofs.Marks.{item-same, framed-same, bodyAt-unmarked, inside-unmarked, variantAt-unmarked}
-use Rattle.reading.proofs.Marks.{equalsAt-unmarked}
+use Rattle.reading.proofs.Marks.{equalsAt-unmarked, variantNameAt-unmarked}
 use Rattle.describe.specs.Marks.{ListedAlike}
+use Rattle.describe.specs.Numbers.{Fault, noInteger, noStep, faultNumber, faultRow}
+use Rattle.describe.specs.Numbers.{numberAfter, Numbers, numbers, lacking, andThen, numbersFrom}
+use Rattle.describe.specs.Numbers.{BEFORE-FIRST, bodyNumbers, numbersOf}
 use Rattle.describe.specs.Listing as listing
 use Rattle.describe.specs.Listing.{numbered}
 use Rattle.describe.specs.Value as value
@@ -48,10 +52,10 @@ fieldLines-unmarked unit = refl
 fieldLines-unmarked (named fs) = numbered-unmarked listing.namedLine unmarkedField (λ k f. refl) 0 fs
 fieldLines-unmarked (tuple fs) = numbered-unmarked listing.tupleLine unmarkedUnnamedField (λ k f. refl) 0 fs
 
-bodyLines-unmarked : (b : Body) → listing.bodyLines (unmarkedBody b) ≡ listing.bodyLines b
-bodyLines-unmarked (fields f) = fieldLines-unmarked f
-bodyLines-unmarked (variants vs) = numbered-unmarked listing.variantLines unmarkedVariant
-    (λ k v. ap (λ (t : List ℕ). listing.variantLine k v ++ t) (fieldLines-unmarked (v .fields))) 0 vs
+bodyLines-unmarked : (zs : List ℤ) (b : Body) → listing.bodyLines zs (unmarkedBody b) ≡ listing.bodyLines zs b
+bodyLines-unmarked zs (fields f) = fieldLines-unmarked f
+bodyLines-unmarked zs (variants vs) = numbered-unmarked (listing.variantLines zs) unmarkedVariant
+    (λ k v. ap (λ (t : List ℕ). listing.variantLine (getD zs k (pos 0)) v ++ t) (fieldLines-unmarked (v .fields))) 0 vs
 
 fieldsCount-unmarked : (f : Fields) → fieldsCount (unmarkedFields f) ≡ fieldsCount f
 fieldsCount-unmarked unit = refl
@@ -62,12 +66,50 @@ bodyCount-unmarked : (b : Body) → bodyCount (unmarkedBody b) ≡ bodyCount b
 bodyCount-unmarked (fields f) = fieldsCount-unmarked f
 bodyCount-unmarked (variants vs) = length-map vs unmarkedVariant
 
-pub listing-unmarked : (d : Declaration) → listing.listing (unmarkedDeclaration d) ≡ listing.listing d
+pub listing-unmarked : (zs : List ℤ) (d : Declaration) →
+    listing.listing zs (unmarkedDeclaration d) ≡ listing.listing zs d
 unfolding listing.listing
-listing-unmarked d = λ i.
+listing-unmarked zs d = λ i.
     (listing.NAMES
     ++ listing.line (listing.kindText (d .kind)) (d .name) (decimal (bodyCount-unmarked (d .body) i)))
-    ++ (parameterLines-unmarked (d .generics) i ++ bodyLines-unmarked (d .body) i)
+    ++ (parameterLines-unmarked (d .generics) i ++ bodyLines-unmarked zs (d .body) i)
+
+-- ## The numbers
+
+numbersFrom-unmarked : (z : ℤ) (k : ℕ) (vs : List Variant) →
+    numbersFrom z k (map unmarkedVariant vs) ≡ numbersFrom z k vs
+numbersFrom-unmarked z k [] = refl
+numbersFrom-unmarked z k (v ∷ vs) =
+    ap (andThen k (numberAfter z (v .value))) (fun-ext (λ y. numbersFrom-unmarked y (k + 1) vs))
+
+bodyNumbers-unmarked : (b : Body) → bodyNumbers (unmarkedBody b) ≡ bodyNumbers b
+bodyNumbers-unmarked (fields f) = refl
+bodyNumbers-unmarked (variants vs) = numbersFrom-unmarked BEFORE-FIRST 0 vs
+
+-- the point of a variant
+variant-unmarked : (x : Point) (k : ℕ) →
+    variantAt k (inside (bodyAt (unmarkedPoint x))) ≡ unmarkedPoint (variantAt k (inside (bodyAt x)))
+variant-unmarked x k =
+    ap (λ (y : Point). variantAt k (inside y)) (bodyAt-unmarked x) ∙
+    ap (variantAt k) (inside-unmarked (bodyAt x)) ∙ variantAt-unmarked k (inside (bodyAt x))
+
+faultRow-unmarked : (f : Fault) (x : Point) → faultRow f (unmarkedPoint x) ≡ faultRow f x
+faultRow-unmarked noInteger x = ap (λ (y : Point). y .row + 1) (equalsAt-unmarked x)
+faultRow-unmarked noStep x = ap (λ (y : Point). y .row) (variantNameAt-unmarked x)
+
+numberedAnswer-unmarked : (x : Point) (d : Declaration) (ns : Numbers) →
+    listing.numberedAnswer (unmarkedPoint x) (unmarkedDeclaration d) ns ≡ listing.numberedAnswer x d ns
+numberedAnswer-unmarked x d (numbers zs) = ap outputs.wrote (listing-unmarked zs d)
+numberedAnswer-unmarked x d (lacking f k) =
+    ap (outputs.refused (faultNumber f))
+    (ap (faultRow f) (variant-unmarked x k) ∙ faultRow-unmarked f (variantAt k (inside (bodyAt x))))
+
+listed-unmarked : (x : Point) (u : Took Declaration) →
+    listing.itemAnswer (unmarkedPoint x) (unmarkedTook unmarkedDeclaration u) ≡ listing.itemAnswer x u
+listed-unmarked x (took d rs us) =
+    ap (listing.numberedAnswer (unmarkedPoint x) (unmarkedDeclaration d)) (bodyNumbers-unmarked (d .body)) ∙
+    numberedAnswer-unmarked x d (numbersOf d)
+listed-unmarked x (stopped w n p) = refl
 
 -- ## A variant's value
 
@@ -82,12 +124,8 @@ bodyValue-unmarked k (variants vs) = valueAt-unmarked k vs
 
 -- the row of the variant's literal
 variantAnswer-unmarked : (x : Point) (k : ℕ) (v : Value) → variantAnswer (unmarkedPoint x) k v ≡ variantAnswer x k v
-variantAnswer-unmarked x k v = ap (λ (y : Point). valueAnswer (valueRow y v) v) there ∙
+variantAnswer-unmarked x k v = ap (λ (y : Point). valueAnswer (valueRow y v) v) (variant-unmarked x k) ∙
     ap (λ (y : Point). valueAnswer (literalRow (y .row + 1) v) v) (equalsAt-unmarked (variantAt k (inside (bodyAt x))))
-  where
-    there : variantAt k (inside (bodyAt (unmarkedPoint x))) ≡ unmarkedPoint (variantAt k (inside (bodyAt x)))
-    there = ap (λ (y : Point). variantAt k (inside y)) (bodyAt-unmarked x) ∙
-        ap (variantAt k) (inside-unmarked (bodyAt x)) ∙ variantAt-unmarked k (inside (bodyAt x))
 
 valueMade-unmarked : (x : Point) (k : ℕ) (u : Took Declaration) →
     value.itemAnswer (unmarkedPoint x) k (unmarkedTook unmarkedDeclaration u) ≡ value.itemAnswer x k u
@@ -101,13 +139,11 @@ valueMade-unmarked x k (stopped w n p) = refl
 module _ {s t : List ℕ} (e : EqualButMarks s t) where
   pub fullAnswers-same : listing.fullAnswer s ≡ listing.fullAnswer t
   unfolding listing.fullAnswer
-  fullAnswers-same = framed-same e (λ a. a) outputs.refused (λ rows. false) listing.itemAnswer listing.itemAnswer
-      (sym (made (item 0 (streamOf s))) ∙ ap listing.itemAnswer (item-same e) ∙
-      made (item 0 (streamOf t)))
-    where
-      made : (u : Took Declaration) → listing.itemAnswer (unmarkedTook unmarkedDeclaration u) ≡ listing.itemAnswer u
-      made (took d rs us) = ap outputs.wrote (listing-unmarked d)
-      made (stopped w n p) = refl
+  fullAnswers-same = framed-same e (λ a. a) outputs.refused (λ rows. false)
+      (listing.itemAnswer (start s)) (listing.itemAnswer (start t))
+      (sym (listed-unmarked (start s) (item 0 (streamOf s)))
+      ∙ (λ i. listing.itemAnswer (record { row = 0; stream = same-stream e i }) (item-same e i))
+      ∙ listed-unmarked (start t) (item 0 (streamOf t)))
 
   pub answers-same : (n : ℕ) → listing.answer s n ≡ listing.answer t n
   unfolding listing.answer

@@ -65,7 +65,7 @@ pub negative-some : (n : ℕ) → (n ≡ 0 → ⊥) → negativeText n ≡ 45 �
 unfolding negativeText
 negative-some n e = passed-over _ _ _ (ne-eqb n 0 e)
 
-decimal-i64 : (n : ℕ) → n ≤ 9223372036854775807 → length (decimal n) ≤ 19
+pub decimal-i64 : (n : ℕ) → n ≤ 9223372036854775807 → length (decimal n) ≤ 19
 decimal-i64 n h = decimal-within 18 n (omega arith)
 
 pub negative-within : (n : ℕ) → n ≤ 9223372036854775807 → length (negativeText n) ≤ 20

@@ -1,20 +1,23 @@
--- The listing of a declaration (document 01, "The listing program").
+-- The listing of a declaration (document 01, "The listing program"; the variants' numbers, document 02, card 2).
 use mathlib.Core.Path.{_≡_}
-use mathlib.Core.Bool.{false}
+use mathlib.Core.Bool.{Bool, false, _||_}
 use mathlib.Core.List.{List, [], _∷_, _++_}
-use Prim.Native.Nat.{ℕ, _+_, _*_, _≤_}
-use lib.ListN.{length}
-use Rattle.token_list.specs.Byte.{bytes, SPACE, LF, QUOTE}
+use Prim.Native.Nat.{ℕ, suc, _+_, _*_, _≤_}
+use lib.IntN.{ℤ, pos, negsuc}
+use lib.ListN.{length, getD}
+use Rattle.token_list.specs.Byte.{bytes, SPACE, LF, QUOTE, MINUS}
+use Rattle.token_list.specs.Text.{between}
 use Rattle.token_list.specs.Layout.{MAX-BYTES, MAX-ROWS}
 use Rattle.token_list.specs.Check as list
 use Rattle.output.specs.Text.{decimal}
 use Rattle.output.specs.Answer.{Answer, wrote, refused, fitted}
 use Rattle.reading.specs.Declaration.{Kind, struct, enum, Parameter, lifetime, constant, type, parametersOf}
-use Rattle.reading.specs.Declaration.{UnnamedField, Field, Fields, unit, named, tuple, Value, absent, literal, negative}
+use Rattle.reading.specs.Declaration.{UnnamedField, Field, Fields, unit, named, tuple}
 use Rattle.reading.specs.Declaration.{Variant, Body, fields, variants, Declaration, bodyCount}
-use Rattle.reading.specs.Took.{Took, took, stopped}
-use Rattle.reading.specs.Answer.{framed}
-use Rattle.describe.specs.Value.{negativeText}
+use Rattle.reading.specs.Took.{Took, took, stopped, Point}
+use Rattle.reading.specs.Place.{start}
+use Rattle.reading.specs.Answer.{framed, readNumber}
+use Rattle.describe.specs.Numbers.{Numbers, numbers, lacking, numbersOf, faultNumber, faultPlace}
 
 -- the line of names
 abbrev pub NAMES : List ℕ
@@ -69,22 +72,21 @@ fieldLines unit = []
 fieldLines (named fs) = numbered namedLine 0 fs
 fieldLines (tuple fs) = numbered tupleLine 0 fs
 
--- the written value, or the position k
-abbrev pub number : ℕ → Value → List ℕ
-number k absent = decimal k
-number k (literal t) = t
-number k (negative n) = negativeText n
+-- an integer in decimal
+abbrev pub numberText : ℤ → List ℕ
+numberText (pos n) = decimal n
+numberText (negsuc n) = MINUS ∷ decimal (suc n)
 
-abbrev pub variantLine : ℕ → Variant → List ℕ
-variantLine k v = line VARIANT (v .name) (number k (v .value))
+abbrev pub variantLine : ℤ → Variant → List ℕ
+variantLine z v = line VARIANT (v .name) (numberText z)
 
--- a variant, its fields below
-abbrev pub variantLines : ℕ → Variant → List ℕ
-variantLines k v = variantLine k v ++ fieldLines (v .fields)
+-- the variant at position k, with its number, its fields below
+abbrev pub variantLines : List ℤ → ℕ → Variant → List ℕ
+variantLines zs k v = variantLine (getD zs k (pos 0)) v ++ fieldLines (v .fields)
 
-abbrev pub bodyLines : Body → List ℕ
-bodyLines (fields f) = fieldLines f
-bodyLines (variants vs) = numbered variantLines 0 vs
+abbrev pub bodyLines : List ℤ → Body → List ℕ
+bodyLines zs (fields f) = fieldLines f
+bodyLines zs (variants vs) = numbered (variantLines zs) 0 vs
 
 abbrev pub kindText : Kind → List ℕ
 kindText struct = STRUCT
@@ -94,24 +96,34 @@ kindText enum = ENUM
 abbrev pub itemLines : Declaration → List ℕ
 itemLines d = NAMES ++ line (kindText (d .kind)) (d .name) (decimal (bodyCount (d .body)))
 
-unfoldable pub listing : Declaration → List ℕ
-listing d = itemLines d ++ (numbered parameterLine 0 (parametersOf (d .generics)) ++ bodyLines (d .body))
+-- with the numbers zs of its variants
+unfoldable pub listing : List ℤ → Declaration → List ℕ
+listing zs d = itemLines d ++ (numbered parameterLine 0 (parametersOf (d .generics)) ++ bodyLines zs (d .body))
 
-abbrev pub itemAnswer : Took Declaration → Answer
-itemAnswer (took d rs us) = wrote (listing d)
-itemAnswer (stopped w n p) = refused n p
+-- of a declaration that begins at x
+abbrev pub numberedAnswer : Point → Declaration → Numbers → Answer
+numberedAnswer x d (numbers zs) = wrote (listing zs d)
+numberedAnswer x d (lacking f k) = refused (faultNumber f) (faultPlace x f k)
+
+abbrev pub itemAnswer : Point → Took Declaration → Answer
+itemAnswer x (took d rs us) = numberedAnswer x d (numbersOf d)
+itemAnswer x (stopped w n p) = refused n p
 
 -- for a list, where there is room
 unfoldable pub fullAnswer : List ℕ → Answer
-fullAnswer s = framed refused (λ rows. false) itemAnswer s (list.check s)
+fullAnswer s = framed refused (λ rows. false) (itemAnswer (start s)) s (list.check s)
 
 -- for a list and an output of n bytes
 unfoldable pub answer : List ℕ → ℕ → Answer
 answer s n = fitted n (fullAnswer s)
 
--- 147,473: the 17 bytes of the line of names, the bytes that a list may have, and 20 bytes for each of its rows
+-- the numbers of its refusals: those of the reading, and of variants without a number
+abbrev pub listingNumber : ℕ → Bool
+listingNumber n = readNumber n || between 42 43 n
+
+-- 176,145: the 17 bytes of the line of names, the bytes that a list may have, and 27 bytes for each of its rows
 abbrev pub MOST : ℕ
-MOST = 17 + MAX-BYTES + 20 * MAX-ROWS
+MOST = 17 + MAX-BYTES + 27 * MAX-ROWS
 
 -- of a list s, and an output of n bytes
 pub record Fits (s : List ℕ) (n : ℕ) : Type 0 where

@@ -1,7 +1,7 @@
 // The lines of a listing, each written from a place of a lent output on. A function that writes
 // answers where the next text goes; what does not fit is left out, and counted all the same.
+use crate::numbers::Number;
 use crate::value::put_negative;
-use crate::value::worth;
 use output::put::put_byte;
 use output::put::put_bytes;
 use output::put::put_number;
@@ -9,7 +9,6 @@ use parse::data_type::DataType;
 use parse::generics::ParameterAt;
 use parse::generics::is_lifetime;
 use parse::item::ItemAt;
-use parse::variants::ValueAt;
 use parse::variants::VariantAt;
 use token_list::stream::Token;
 ghost use mathlib.Core.List.{[], _∷_, _++_};
@@ -19,10 +18,11 @@ ghost use lib.Seq.{slice};
 ghost use Rattle.token_list.specs.Byte.{SPACE, LF};
 ghost use Rattle.output.specs.Text.{decimal};
 ghost use Rattle.output.specs.Contract.{Put};
-ghost use Rattle.reading.specs.Declaration.{Parameter, Value, Variant, Declaration};
-ghost use Rattle.parse.specs.Contract.{kindOf, ValueOf, VariantOf, ParameterOf, ItemOf};
-ghost use Rattle.describe.specs.Listing.{FIELD, DASH, line, kindText, number, parameterLine, variantLine};
-ghost use Rattle.describe.specs.Listing.{itemLines};
+ghost use Rattle.reading.specs.Declaration.{Parameter, Variant, Declaration};
+ghost use Rattle.parse.specs.Contract.{kindOf, VariantOf, ParameterOf, ItemOf};
+ghost use Rattle.describe.specs.Listing.{FIELD, DASH, line, kindText, numberText, parameterLine};
+ghost use Rattle.describe.specs.Listing.{variantLine, itemLines};
+ghost use Rattle.describe.specs.Contract.{numberOf};
 
 // The text of a token.
 fn put_token(s: &[u8], t: Token, out: &mut [u8], at: usize) -> usize
@@ -72,35 +72,28 @@ pub fn put_unnamed(out: &mut [u8], at: usize, n: usize) -> usize
     put_position(out, head, n)
 }
 
-// A variant's number: its written value, or its position n.
-fn put_value(s: &[u8], v: ValueAt, n: usize, out: &mut [u8], at: usize) -> usize
-    requires { ⌜ ((w : Value) × ValueOf (now s) v w) ⌝ }
-    ensures { λ r. ⌜ ((w : Value) → ValueOf (now (s .entry)) v w →
-        Put (now (out .entry)) (now (out .exit)) at r (number n w)) ⌝ }
+// A number in decimal.
+fn put_integer(out: &mut [u8], at: usize, n: Number) -> usize
+    ensures { λ r. ⌜ Put (now (out .entry)) (now (out .exit)) at r (numberText (numberOf n)) ⌝ }
 {
-    match v {
-        ValueAt::Absent => put_number(out, at, n),
-        ValueAt::Literal(t) => put_token(s, t, out, at),
-        ValueAt::Negative(t) => {
-            let start = t.start;
-            let end = t.end;
-            let m = worth(s, start, end);
-            put_negative(out, at, m)
-        }
+    let size = n.size;
+    let below = n.below;
+    if below {
+        return put_negative(out, at, size);
     }
+    put_number(out, at, size)
 }
 
-// A variant's own line.
-pub fn put_variant(s: &[u8], v: VariantAt, n: usize, out: &mut [u8], at: usize) -> usize
+// A variant's own line, with its number.
+pub fn put_variant(s: &[u8], v: VariantAt, n: Number, out: &mut [u8], at: usize) -> usize
     requires { ⌜ ((a : Variant) × VariantOf (now s) v a) ⌝ }
     ensures { λ r. ⌜ ((a : Variant) → VariantOf (now (s .entry)) v a →
-        Put (now (out .entry)) (now (out .exit)) at r (variantLine n a)) ⌝ }
+        Put (now (out .entry)) (now (out .exit)) at r (variantLine (numberOf n) a)) ⌝ }
 {
     let name = v.name;
     let head = put_head(s, b"variant ", name, out, at);
     let space = put_byte(out, head, b' ');
-    let value = v.value;
-    let end = put_value(s, value, n, out, space);
+    let end = put_integer(out, space, n);
     put_byte(out, end, b'\n')
 }
 

@@ -5,6 +5,9 @@ use crate::lines::put_named;
 use crate::lines::put_parameter;
 use crate::lines::put_unnamed;
 use crate::lines::put_variant;
+use crate::numbers::Number;
+use crate::numbers::NumberStep;
+use crate::numbers::number_after;
 use output::written::Written;
 use output::written::put_answer;
 use parse::data_type::DataType;
@@ -41,16 +44,24 @@ ghost use Rattle.token_list.specs.Stream.{at};
 ghost use Rattle.token_list.specs.Place.{OneRefusal};
 ghost use Rattle.token_list.specs.Contract.{InList, startOf};
 ghost use Rattle.output.specs.Contract.{Put};
-ghost use Rattle.output.specs.Answer.{wrote, refused, fitted};
+ghost use Rattle.output.specs.Answer.{refused, fitted};
 ghost use Rattle.output.specs.Written.{WrittenAs};
 ghost use Rattle.reading.specs.Declaration.{Parameter, Generics, parametersOf, UnnamedField, Field, Fields, Variant};
 ghost use Rattle.reading.specs.Declaration.{Body, Declaration};
 ghost use Rattle.reading.specs.Reading.{every, namedField, tupleField, variant, parameter, generics, bodyOf, item};
-ghost use Rattle.reading.specs.Answer.{readNumber};
-ghost use Rattle.parse.specs.Contract.{kindOf, InsideAt, FieldsOf, ItemOf};
+ghost use Rattle.reading.specs.Took.{Point};
+ghost use Rattle.reading.specs.Place.{start, inside, bodyAt};
+ghost use Rattle.parse.specs.Contract.{point, CursorAt, kindOf, InsideAt, FieldsOf, ItemOf};
+ghost use Rattle.describe.specs.Numbers.{BEFORE-FIRST, numbersFrom, bodyNumbers, numbersOf, faultIn, faultPlace};
 ghost use Rattle.describe.specs.Listing.{numbered, parameterLine, namedLine, tupleLine, fieldLines, variantLines};
-ghost use Rattle.describe.specs.Listing.{bodyLines, listing, itemAnswer, answer};
-ghost use Rattle.describe.specs.Contract.{StructAt, Reported};
+ghost use Rattle.describe.specs.Listing.{bodyLines, listing, numberedAnswer, itemAnswer, answer, listingNumber};
+ghost use Rattle.describe.specs.Contract.{StructAt, LinesAs, FaultsIn, ItemFaultsIn, Reported};
+
+// Where the next text goes, or the refusal of a variant that has no number.
+pub enum LinesStep {
+    At(usize),
+    Refused(Refusal),
+}
 
 // The lines of the named fields that are read from `from` on.
 fn named_lines(s: &[u8], from: Cursor, roles: &mut [u8], out: &mut [u8], start: usize) -> usize
@@ -116,29 +127,45 @@ fn field_lines(s: &[u8], fields: FieldsAt, roles: &mut [u8], out: &mut [u8], at:
     }
 }
 
-// The lines of the variants that are read from `from` on, each followed by its fields.
-fn variant_lines(s: &[u8], from: Cursor, roles: &mut [u8], out: &mut [u8], start: usize) -> usize
+// The lines of the variants that are read from `from` on, each with its number and followed by its
+// fields; or the refusal of the first that has no number.
+fn variant_lines(
+    s: &[u8],
+    from: Cursor,
+    roles: &mut [u8],
+    out: &mut [u8],
+    start: usize,
+) -> LinesStep
     requires { ⌜ InList (now s) from ⌝ }
     ensures { λ r. ⌜ ((vs : List Variant) → InsideAt (every variant) (now (s .entry)) from vs →
-        Put (now (out .entry)) (now (out .exit)) start r (numbered variantLines 0 vs)) ⌝ }
+        LinesAs (now (s .entry)) (faultIn (point (now (s .entry)) from)) (now (out .entry)) (now (out .exit)) start
+        (λ zs. numbered (variantLines zs) 0 vs) (numbersFrom BEFORE-FIRST 0 vs) r) ⌝ }
 {
     let mut c = from;
     let mut at = start;
-    let mut number = 0;
+    let mut before = Number {
+        below: true,
+        size: 1,
+    };
     loop {
         match variant(s, c, roles) {
-            VariantStep::One(v) => {
-                let line = put_variant(s, v, number, out, at);
-                let fields = v.fields;
-                at = field_lines(s, fields, roles, out, line);
-                c = v.next;
-                number += 1;
-            }
+            VariantStep::One(v) => match number_after(s, before, v) {
+                NumberStep::Refused(r) => {
+                    return LinesStep::Refused(r);
+                }
+                NumberStep::At(n) => {
+                    let line = put_variant(s, v, n, out, at);
+                    let fields = v.fields;
+                    at = field_lines(s, fields, roles, out, line);
+                    c = v.next;
+                    before = n;
+                }
+            },
             VariantStep::Done(_) => {
-                return at;
+                return LinesStep::At(at);
             }
             VariantStep::Refused(_) => {
-                return at;
+                return LinesStep::At(at);
             }
         }
     }
@@ -210,21 +237,25 @@ fn struct_lines(
 }
 
 // The lines of a declaration's body.
-fn body_lines(s: &[u8], d: ItemAt, roles: &mut [u8], out: &mut [u8], at: usize) -> usize
+fn body_lines(s: &[u8], d: ItemAt, roles: &mut [u8], out: &mut [u8], at: usize) -> LinesStep
     requires { ⌜ InList (now s) (d .body) ⌝ }
     ensures { λ r. ⌜ ((b : Body) → InsideAt (bodyOf (kindOf (d .kind))) (now (s .entry)) (d .body) b →
-        Put (now (out .entry)) (now (out .exit)) at r (bodyLines b)) ⌝ }
+        LinesAs (now (s .entry)) (faultIn (inside (point (now (s .entry)) (d .body)))) (now (out .entry))
+        (now (out .exit)) at (λ zs. bodyLines zs b) (bodyNumbers b) r) ⌝ }
 {
     let c = d.body;
     match peek(s, c) {
-        Peeked::Nothing => at,
-        Peeked::Leaf(_) => at,
+        Peeked::Nothing => LinesStep::At(at),
+        Peeked::Leaf(_) => LinesStep::At(at),
         Peeked::Group(t) => {
             let inside = past(s, c, t);
             let delimiter = t.byte;
             let kind = d.kind;
             match kind {
-                DataType::Struct => struct_lines(s, inside, delimiter, roles, out, at),
+                DataType::Struct => {
+                    let end = struct_lines(s, inside, delimiter, roles, out, at);
+                    LinesStep::At(end)
+                }
                 DataType::Enum => variant_lines(s, inside, roles, out, at),
             }
         }
@@ -232,10 +263,11 @@ fn body_lines(s: &[u8], d: ItemAt, roles: &mut [u8], out: &mut [u8], at: usize) 
 }
 
 // The whole listing.
-fn put_listing(s: &[u8], d: ItemAt, roles: &mut [u8], out: &mut [u8]) -> usize
+fn put_listing(s: &[u8], d: ItemAt, roles: &mut [u8], out: &mut [u8]) -> LinesStep
     requires { ⌜ ((x : Declaration) × ItemOf (now s) d x) ⌝ }
     ensures { λ r. ⌜ ((x : Declaration) → ItemOf (now (s .entry)) d x →
-        Put (now (out .entry)) (now (out .exit)) 0 r (listing x)) ⌝ }
+        LinesAs (now (s .entry)) (faultIn (inside (point (now (s .entry)) (d .body)))) (now (out .entry))
+        (now (out .exit)) 0 (λ zs. listing zs x) (numbersOf x) r) ⌝ }
 {
     let item = put_item(s, d, out);
     let name = d.name;
@@ -244,22 +276,33 @@ fn put_listing(s: &[u8], d: ItemAt, roles: &mut [u8], out: &mut [u8]) -> usize
     body_lines(s, d, roles, out, parameters)
 }
 
-// Measures the listing, and writes it where the output is long enough.
+// Measures the listing, and writes it where every variant has a number and the output is long enough.
 fn fit_listing(s: &[u8], d: ItemAt, roles: &mut [u8], out: &mut [u8]) -> Written
     requires { ⌜ ((x : Declaration) × ItemOf (now s) d x) ⌝ }
-    ensures { λ r. ⌜ ((x : Declaration) → ItemOf (now (s .entry)) d x →
-        WrittenAs (now (out .entry)) (now (out .exit)) (fitted (length (now (out .entry))) (wrote (listing x))) r) ⌝ }
+    ensures { λ r. ⌜ ((p : Point) (x : Declaration) → ItemOf (now (s .entry)) d x →
+        CursorAt (now (s .entry)) (bodyAt p) (d .body) →
+        WrittenAs (now (out .entry)) (now (out .exit))
+        (fitted (length (now (out .entry))) (numberedAnswer p x (numbersOf x))) r) ⌝ }
+    ensures { λ _. ⌜ ((p : Point) (x : Declaration) → ItemOf (now (s .entry)) d x →
+        CursorAt (now (s .entry)) (bodyAt p) (d .body) →
+        FaultsIn (now (s .entry)) (faultPlace p) (numbersOf x)) ⌝ }
 {
     let mut nowhere = [0u8; 1];
-    let needed = put_listing(s, d, roles, &mut nowhere);
-    if out.len() < needed {
-        return Written::Refused(Refusal {
-            number: 8,
-            place: END,
-        });
+    match put_listing(s, d, roles, &mut nowhere) {
+        LinesStep::Refused(r) => Written::Refused(r),
+        LinesStep::At(needed) => {
+            if out.len() < needed {
+                return Written::Refused(Refusal {
+                    number: 8,
+                    place: END,
+                });
+            }
+            match put_listing(s, d, roles, out) {
+                LinesStep::Refused(r) => Written::Refused(r),
+                LinesStep::At(end) => Written::Text(end),
+            }
+        }
     }
-    let end = put_listing(s, d, roles, out);
-    Written::Text(end)
 }
 
 // The listing of a list that passes the check.
@@ -267,7 +310,8 @@ fn read_listing(s: &[u8], out: &mut [u8], roles: &mut [u8]) -> Written
     requires { ⌜ InList (now s) (startOf (now s)) ⌝ }
     ensures { λ r. ⌜ WrittenAs (now (out .entry)) (now (out .exit))
         (fitted (length (now (out .entry)))
-        (itemAnswer (item 0 (at (now (s .entry)) (firstRow (now (s .entry))) .here)))) r ⌝ }
+        (itemAnswer (start (now (s .entry))) (item 0 (at (now (s .entry)) (firstRow (now (s .entry))) .here)))) r ⌝ }
+    ensures { λ _. ⌜ ItemFaultsIn (now (s .entry)) (item 0 (at (now (s .entry)) (firstRow (now (s .entry))) .here)) ⌝ }
 {
     let c = start(s);
     match item(s, c, roles) {
@@ -281,7 +325,7 @@ pub fn write_listing(list: &[u8], out: &mut [u8]) -> Written
     ensures { λ r. ⌜ WrittenAs (now (out .entry)) (now (out .exit))
         (answer (now (list .entry)) (length (now (out .entry)))) r ⌝ }
     ensures { λ _. ⌜ ((n p : ℕ) → answer (now (list .entry)) (length (now (out .entry))) ≡ refused n p →
-        OneRefusal readNumber (now (list .entry)) n p) ⌝ }
+        OneRefusal listingNumber (now (list .entry)) n p) ⌝ }
 {
     match check(list) {
         Checked::Refused(r) => Written::Refused(r),
@@ -292,7 +336,7 @@ pub fn write_listing(list: &[u8], out: &mut [u8]) -> Written
     }
 }
 
-// Writes the listing or the refusal at the start of the output; answers its length, at most 147,473.
+// Writes the listing or the refusal at the start of the output; answers its length, at most 176,145.
 pub fn report_listing(list: &[u8], out: &mut [u8]) -> usize
     ensures { λ r. ⌜ Reported (now (list .entry)) (now (out .entry)) (now (out .exit)) r ⌝ }
 {

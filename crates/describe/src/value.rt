@@ -142,7 +142,7 @@ fn put_value(s: &[u8], v: ValueAt, scratch: &mut [u8]) -> ValuePlace
 {
     match v {
         ValueAt::Absent => ValuePlace::None,
-        ValueAt::Literal(t) => {
+        ValueAt::Literal(t, _) => {
             let start = t.start;
             let end = t.end;
             ValuePlace::InList(start, end)

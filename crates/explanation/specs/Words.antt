@@ -37,7 +37,7 @@ ROLES =
     bytes "field name                   \n" ++
     bytes "type                         \n"
 
--- the refusals 0 to 31, an empty line where a number is none
+-- the refusals 0 to 43, an empty line where a number is none
 abbrev pub MEANINGS : List ℕ
 MEANINGS =
     bytes "\n" ++
@@ -49,7 +49,7 @@ MEANINGS =
     bytes "a 33rd open group\n" ++
     bytes "the list ends; the row of the innermost open group\n" ++
     bytes "a lent buffer is too short: a role buffer needs a byte a row, scratch 20 bytes, " ++
-    bytes "an output what is written (147,473 bytes are enough without added names)\n" ++
+    bytes "an output what is written (176,145 bytes are enough without added names)\n" ++
     bytes "\n" ++
     bytes "\n" ++
     bytes "struct or enum, the item's name or a variant's name is missing\n" ++
@@ -72,7 +72,10 @@ MEANINGS =
     bytes "tagged: no , after a value\n" ++
     bytes "tagged: neither a key nor a key and a value\n" ++
     bytes "an added name is no name of at most 255 bytes, or has r#\n" ++
-    bytes "tagged: the list is not one group; the first row outside it, or -\n"
+    bytes "tagged: the list is not one group; the first row outside it, or -\n" ++
+    bytes "\n\n\n\n\n\n\n\n\n\n" ++
+    bytes "listing: a variant's value is no integer, or above 9,223,372,036,854,775,807\n" ++
+    bytes "listing: a variant without value after the number 9,223,372,036,854,775,807\n"
 
 unfoldable pub roleWords : ℕ → List ℕ
 roleWords r = lineOf r ROLES

@@ -83,7 +83,7 @@ pub fn put_meaning(out: &mut [u8], at: usize, number: u8) -> usize
           a 33rd open group\n\
           the list ends; the row of the innermost open group\n\
           a lent buffer is too short: a role buffer needs a byte a row, scratch 20 bytes, an output what \
-          is written (147,473 bytes are enough without added names)\n\
+          is written (176,145 bytes are enough without added names)\n\
           \n\
           \n\
           struct or enum, the item's name or a variant's name is missing\n\
@@ -106,7 +106,10 @@ pub fn put_meaning(out: &mut [u8], at: usize, number: u8) -> usize
           tagged: no , after a value\n\
           tagged: neither a key nor a key and a value\n\
           an added name is no name of at most 255 bytes, or has r#\n\
-          tagged: the list is not one group; the first row outside it, or -\n",
+          tagged: the list is not one group; the first row outside it, or -\n\
+          \n\n\n\n\n\n\n\n\n\n\
+          listing: a variant's value is no integer, or above 9,223,372,036,854,775,807\n\
+          listing: a variant without value after the number 9,223,372,036,854,775,807\n",
         k,
     )
 }

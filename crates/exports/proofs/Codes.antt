@@ -34,7 +34,6 @@ use Rattle.describe.specs.Value as value
 use Rattle.describe.specs.Contract.{InRange, textStart, textEnd, placeOf, Placed}
 use Rattle.describe.specs.declared.value.ValuePlace.{ValuePlace}
 use Rattle.describe.specs.declared.value.ValuePlace.the-variants as places
-use Rattle.describe.proofs.Answers.{listing-refusal}
 use Rattle.describe.proofs.Length.{fits}
 use Rattle.exports.specs.Code.{IN-LIST, Case, accepted, refusal, REFUSED, code, decoded, Coded, checkCase}
 use Rattle.exports.specs.Code.{kindCode, readCase, writtenCase, writtenCode, LowPlace, WrittenInto, placeCase}
@@ -127,12 +126,16 @@ answered-told s room = go (answers.answer s room) refl
     go (answers.declared d rs) e = small (kind-small (d .kind))
     go (answers.refused n p) e = let o = answer-read s room n p e in one (read-small o .0) o
 
-pub listed-told : (s : List ℕ) (room : ℕ) → Told readNumber s (writtenCase (listing.answer s room))
-listed-told s room = go (listing.answer s room) refl
+pub listed-told : (s : List ℕ) (room : ℕ) →
+    ((n p : ℕ) → listing.answer s room ≡ outputs.refused n p → OneRefusal listing.listingNumber s n p)
+    → Told listing.listingNumber s (writtenCase (listing.answer s room))
+listed-told s room k = go (listing.answer s room) refl
   where
-    go : (a : outputs.Answer) → listing.answer s room ≡ a → Told readNumber s (writtenCase a)
+    go : (a : outputs.Answer) → listing.answer s room ≡ a → Told listing.listingNumber s (writtenCase a)
     go (outputs.wrote text) e = small {v = length text} (omega (arith, fits s room .longest text e))
-    go (outputs.refused n p) e = let o = listing-refusal s room n p e in one (read-small o .0) o
+    go (outputs.refused n p) e =
+        let o = k n p e in
+        one (from-one listing.listingNumber refl n (o .one)) o
 
 placed-told : (s : List ℕ) (a : value.Answer) → InRange (placeOf s a) →
     ((n p : ℕ) → a ≡ value.refused n p → OneRefusal readNumber s n p)

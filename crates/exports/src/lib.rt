@@ -17,7 +17,6 @@ ghost use Prim.Native.Nat.{_≤_, min};
 ghost use Rattle.token_list.specs.Check.{END, check};
 ghost use Rattle.token_list.specs.Place.{checkNumber};
 ghost use lib.ListN.{length};
-ghost use Rattle.reading.specs.Answer.{readNumber};
 ghost use Rattle.describe.specs.Listing as listing;
 ghost use Rattle.writing.specs.Answer.{implGenerics, typeGenerics, withAdditional};
 ghost use Rattle.exports.specs.Code.{refusal, code, Coded, checkCase, ReadInto, writtenCode, LowPlace};
@@ -82,7 +81,7 @@ pub extern "C" fn kusthrila_read(list: &[u8], roles: &mut [u8]) -> u64
 // Writes the listing at the start of the output: its length, or a refusal.
 #[no_mangle]
 pub extern "C" fn kusthrila_listing(list: &[u8], out: &mut [u8]) -> u64
-    ensures { λ r. ⌜ WrittenInto readNumber (now (list .entry)) (now (out .entry)) (now (out .exit))
+    ensures { λ r. ⌜ WrittenInto listing.listingNumber (now (list .entry)) (now (out .entry)) (now (out .exit))
         (listing.answer (now (list .entry)) (length (now (out .entry)))) r ⌝ }
 {
     let answer = listing::write_listing(list, out);

@@ -12,10 +12,10 @@ fn list_buffer() -> [u8; 65537]
 }
 
 // As many bytes as the longest listing may have: MOST in describe/specs/Listing.antt.
-fn output() -> [u8; 147473]
-    ensures { λ r. ⌜ 147473 ≡ length r ⌝ }
+fn output() -> [u8; 176145]
+    ensures { λ r. ⌜ 176145 ≡ length r ⌝ }
 {
-    [0; 147473]
+    [0; 176145]
 }
 
 fn main() {

@@ -181,7 +181,7 @@ fieldsShown s c (fieldsSteps.Refused r) v = ⊥
 
 abbrev pub ValueOf : List ℕ → ValueAt → declaration.Value → Type 0
 ValueOf s valueAts.Absent v = v ≡ declaration.absent
-ValueOf s (valueAts.Literal t) v = (x : List ℕ) × TextOf s t x × (v ≡ declaration.literal x)
+ValueOf s (valueAts.Literal t row) v = (x : List ℕ) × TextOf s t x × (v ≡ declaration.literal x)
 ValueOf s (valueAts.Negative t) v =
     (x : List ℕ) × TextOf s t x × (reading.negatable x ≡ true) × (v ≡ declaration.negative (reading.worth x))
 
@@ -192,7 +192,7 @@ valueSaid (valueSteps.Refused r) = refusal r
 -- the value's literal in this row
 abbrev pub ValueIn : List ℕ → ℕ → ValueAt → Type 0
 ValueIn s row valueAts.Absent = Unit {0}
-ValueIn s row (valueAts.Literal t) = TokenIn s row t
+ValueIn s row (valueAts.Literal t told) = TokenIn s row t × (told ≡ row)
 ValueIn s row (valueAts.Negative t) = TokenIn s row t
 
 -- a value whose literal stands in the row that `row` tells of it

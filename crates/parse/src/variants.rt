@@ -52,10 +52,10 @@ pub enum FieldsStep {
     Refused(Refusal),
 }
 
-// A variant's value: none, a literal, or the literal after a `-`.
+// A variant's value: none, a literal with its row, or the literal after a `-`.
 pub enum ValueAt {
     Absent,
-    Literal(Token),
+    Literal(Token, usize),
     Negative(Token),
 }
 
@@ -213,7 +213,7 @@ fn discriminant(s: &[u8], c: Cursor, roles: &mut [u8]) -> ValueStep
         Peeked::Leaf(t) => {
             if t.kind == b'l' {
                 let next = take_token(s, c, t, roles, role::VALUE);
-                return ValueStep::At(ValueAt::Literal(t), next);
+                return ValueStep::At(ValueAt::Literal(t, row), next);
             }
             if is_punct(t, b'-') {
                 let next = take_token(s, c, t, roles, role::VALUE);

@@ -347,7 +347,7 @@ module _ (b : ℕ) where
       (choice (r.isPunct MINUS q) (from-conserved role.value refl row q us l negativeValue-conserving)
       (told-row row refl (omega arith)))
 
-  valueIf-conserving : Conserving b r.valueIf
+  pub valueIf-conserving : Conserving b r.valueIf
   valueIf-conserving row end l = nothing-taken
   valueIf-conserving row (group d ts us) l = told-row row refl (omega arith)
   valueIf-conserving row (leaf q us) l =

@@ -66,6 +66,9 @@ variantHead-unmarking =
     bind _ attributes-unmarking (λ a. bind _ (word-unmarking role.variant-name)
     (λ w. bind _ (named!-unmarking w) (λ n row ts. at-once)))
 
+pub variantNameAt-unmarked : (x : Point) → place.variantNameAt (unmarkedPoint x) ≡ unmarkedPoint (place.variantNameAt x)
+variantNameAt-unmarked x = beyond-unmarked attributes-unmarking x
+
 pub equalsAt-unmarked : (x : Point) → place.equalsAt (unmarkedPoint x) ≡ unmarkedPoint (place.equalsAt x)
 equalsAt-unmarked x = further variantFields-unmarking (place.groupAt x) (beyond-unmarked variantHead-unmarking x)
 

@@ -4,7 +4,7 @@ use mathlib.Core.Path.{_≡_, refl, ap, _∙_, sym, subst}
 use mathlib.Core.Logic.{inl, inr}
 use mathlib.Core.Bool.{Bool, true, false, cond}
 use mathlib.Core.List.{List, [], _∷_, _++_}
-use Prim.Native.Nat.{ℕ, _+_, _≤_, _<_}
+use Prim.Native.Nat.{ℕ, _+_, _*_, _≤_, _<_}
 use native.Mathlib.Omega.{arith}
 use borrow.Author.Tests.{eqb-true, eqb-false, leb-true, leb-false, ltb-false}
 use lib.Dec.{eqb, leb, ltb}
@@ -32,7 +32,8 @@ pub record Bounded (s : List ℕ) (n : ℕ) : Type 0 where
   pub bytes : length s ≤ 65536
   pub rows : n ≤ 4096
   pub begun : begun (lines (drop (firstRow s) s)) ≡ n
-  pub texts : texts (at s (firstRow s) .here) ≤ length s
+  -- a row has three bytes besides its text at least
+  pub texts : texts (at s (firstRow s) .here) + 3 * n ≤ length s
 
 -- ## Rows, and the numbers and places of refusals
 
@@ -126,8 +127,8 @@ unfolding around
 around-parts [] = refl
 around-parts (t ∷ ts) = refl
 
-streams-texts : (m : Bool) (rs : List Row) → texts (streams rs .here) + around (streams rs .outer) ≤ length
-    (written m rs)
+streams-texts : (m : Bool) (rs : List Row) →
+    texts (streams rs .here) + around (streams rs .outer) + 3 * length rs ≤ length (written m rs)
 unfolding around
 streams-texts m [] = omega arith
 streams-texts m (r ∷ rs) = kind (streams-texts m rs) (eqb (r .kind) OPEN) (eqb (r .kind) CLOSE) refl refl
@@ -143,13 +144,13 @@ streams-texts m (r ∷ rs) = kind (streams-texts m rs) (eqb (r .kind) OPEN) (eqb
     )
 
     within : {st : Streams} → before r (streams rs) ≡ st → total st ≤ length (r .text) + total (streams rs) →
-        total (streams rs) ≤ length (written m rs)
-        → total (before r (streams rs)) ≤ length (written m (r ∷ rs))
+        total (streams rs) + 3 * length rs ≤ length (written m rs)
+        → total (before r (streams rs)) + 3 * length (r ∷ rs) ≤ length (written m (r ∷ rs))
     within e h ih = let same = ap total e in omega (arith, long)
 
-    kind : total (streams rs) ≤ length (written m rs) → (o c : Bool) →
+    kind : total (streams rs) + 3 * length rs ≤ length (written m rs) → (o c : Bool) →
         eqb (r .kind) OPEN ≡ o → eqb (r .kind) CLOSE ≡ c →
-        total (before r (streams rs)) ≤ length (written m (r ∷ rs))
+        total (before r (streams rs)) + 3 * length (r ∷ rs) ≤ length (written m (r ∷ rs))
     kind ih true c a b = within (before-open r (streams rs) (eqb-true _ _ a))
         (omega (arith, around-parts (streams rs .outer))) ih
     kind ih false true a b = within (before-close r (streams rs) (eqb-true _ _ b)) (omega arith) ih
@@ -176,6 +177,7 @@ bounds s {n} e =
         arith,
         streams-texts (marked s) (rowsAt s (firstRow s)),
         ap length (passed-list s n e .written),
+        passed-list s n e .count,
         length-drop (firstRow s) s,
       );
     }

@@ -24,7 +24,7 @@ use Rattle.token_list.proofs.Streams.{before-close, before-open, before
 use Rattle.token_list.proofs.Lines.{joined, joined-lines}
 use Rattle.token_list.proofs.Columns.{line-bytes, line-row, line-mark}
 
-never : (p n m : ℕ) → refused p n ≡ passed m → ⊥
+pub never : (p n m : ℕ) → refused p n ≡ passed m → ⊥
 never p n m e = let z : _≡_ {A = ℕ} 0 1 = cc in omega arith
 
 -- ## The form of a row of a kind that opens, closes, or does neither

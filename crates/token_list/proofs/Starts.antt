@@ -10,7 +10,7 @@ use lib.ListN.{length, drop}
 use lib.Seq.{slice, length-slice, drop-drop}
 use Rattle.token_list.specs.Text.{LF}
 use Rattle.token_list.specs.Layout.{NAMES-DIFFER, firstRow}
-use Rattle.token_list.specs.Row.{Lines, tail, line, lines, byte, bytesBefore}
+use Rattle.token_list.specs.Row.{Lines, tail, line, lines, byte, bytesBefore, begun}
 use Rattle.token_list.specs.Stream.{rowStart}
 use Rattle.token_list.specs.Contract.{RowEnd, InList}
 use Rattle.token_list.specs.declared.check.Cursor.{Cursor}
@@ -69,15 +69,32 @@ before-next zero (line k ks) l ms e =
 before-next (suc r) (tail t) l ms e = tail-no-line e
 before-next (suc r) (line k ks) l ms e = omega (arith, before-next r ks l ms e)
 
+-- the lines from row r on begin where it starts
+here : (s : List ℕ) (r i : ℕ) → i ≡ rowStart s r → linesFrom r (lines (drop (firstRow s) s)) ≡ lines (drop i s)
+unfolding rowStart
+here s r i h =
+    let before = bytesBefore r (lines (drop (firstRow s) s)) in
+    sym (lines-from r (drop (firstRow s) s)) ∙ ap lines (drop-drop before (firstRow s) s) ∙
+    ap (λ (k : ℕ). lines (drop k s)) (sym h)
+
+begun-low : (r : ℕ) (ls : Lines) (l : List ℕ) (ms : Lines) → linesFrom r ls ≡ line l ms → r < begun ls
+begun-low zero (tail t) l ms e = tail-no-line e
+begun-low zero (line k ks) l ms e = omega arith
+begun-low (suc r) (tail t) l ms e = tail-no-line e
+begun-low (suc r) (line k ks) l ms e = omega (arith, begun-low r ks l ms e)
+
+-- a row that ends is one of those that begin
+pub row-begins : (s : List ℕ) (r e : ℕ) → RowEnd s (rowStart s r) e → r < begun (lines (drop (firstRow s) s))
+row-begins s r e l =
+    begun-low r (lines (drop (firstRow s) s)) (slice (rowStart s r) e s) _
+    (here s r (rowStart s r) refl ∙ l .line .found (l .within))
+
 -- the row after the one that starts at i starts past its LF
 pub next-start : (s : List ℕ) (r i e : ℕ) → i ≡ rowStart s r → RowEnd s i e → e + 1 ≡ rowStart s (r + 1)
 unfolding rowStart
 next-start s r i e h l =
-    let before = bytesBefore r (lines (drop (firstRow s) s)) in
-    let here : linesFrom r (lines (drop (firstRow s) s)) ≡ lines (drop i s) =
-    sym (lines-from r (drop (firstRow s) s)) ∙ ap lines (drop-drop before (firstRow s) s) ∙ ap (λ (k : ℕ). lines
-    (drop k s)) (sym h) in
-    let next = before-next r (lines (drop (firstRow s) s)) (slice i e s) _ (here ∙ l .line .found (l .within)) in
+    let next = before-next r (lines (drop (firstRow s) s)) (slice i e s) _
+    (here s r i h ∙ l .line .found (l .within)) in
     let up = ap (λ (k : ℕ). bytesBefore k (lines (drop (firstRow s) s))) (add-one r) in
     omega (arith, next, up, h, length-slice i e s (omega (arith, l .within)), l .long)
 

@@ -79,32 +79,28 @@ impl Counts {
         }
     }
 
-    // The value of every variant of the listing, of one that is not there, or the refusal. The listing's number is the Rust's:
-    // the written value, or where none is written the position.
-    fn values(&mut self, reader: &mut Reader, list: &[u8], every: &[u8], listing: &[u8]) {
-        let mut value = |position| match reader.value(list, position, SCRATCH) {
-            Ok(Some(text)) => text,
-            Ok(None) => b"none".to_vec(),
-            Err(refusal) => refused(&refusal),
-        };
-        if every.is_empty() {
-            return self.compare("values refused", &value(0), listing);
-        }
-        let lines = std::str::from_utf8(listing).expect("ASCII").lines();
-        let numbers = lines.filter_map(|line| line.strip_prefix("variant ")?.split_once(' '));
-        let numbers: Vec<&str> = numbers.map(|(_, number)| number).collect();
+    // The value of every variant, a line for each, and of one that is not there.
+    fn values(&mut self, reader: &mut Reader, list: &[u8], every: &[u8], values: &[u8]) {
+        let values = std::str::from_utf8(values).expect("ASCII");
         let written = written(every);
-        self.compare("variants", written.len().to_string().as_bytes(), numbers.len().to_string().as_bytes());
-        for (position, (number, written)) in numbers.iter().zip(written).enumerate() {
+        self.compare("variants", written.len().to_string().as_bytes(), values.lines().count().to_string().as_bytes());
+        for (position, (text, written)) in values.lines().zip(written).enumerate() {
+            let theirs = if written { text } else { "none" };
+            self.compare("values", &value(reader, list, position), theirs.as_bytes());
             if written {
-                self.compare("values", &value(position), number.as_bytes());
                 self.count("values written");
-            } else {
-                self.compare("values", &value(position), b"none");
-                self.compare("positions", position.to_string().as_bytes(), number.as_bytes());
             }
         }
-        self.compare("values of no variant", &value(numbers.len()), b"none");
+        self.compare("values of no variant", &value(reader, list, values.lines().count()), b"none");
+    }
+}
+
+// The value of a variant, `none`, or the refusal.
+fn value(reader: &mut Reader, list: &[u8], position: usize) -> Vec<u8> {
+    match reader.value(list, position, SCRATCH) {
+        Ok(Some(text)) => text,
+        Ok(None) => b"none".to_vec(),
+        Err(refusal) => refused(&refusal),
     }
 }
 
@@ -142,16 +138,24 @@ fn main() {
                     }
                 };
                 counts.compare("roles", &ours, &body);
+                if !body.starts_with(b"accepted") {
+                    counts.compare("values refused", &value(&mut reader, &list, 0), &body);
+                }
             }
+            "values" => counts.values(&mut reader, &list, &every, &body),
             "every" => {
                 let ours = reader.read(&list, MOST_ROWS, !fill).map_or_else(|refusal| refused(&refusal), letters);
                 counts.compare("every", &ours, &body);
                 every = body;
             }
             "listing" => {
-                let ours = reader.listing(&list, MOST_LISTING).unwrap_or_else(|refusal| refused(&refusal));
+                let ours = reader.listing(&list, MOST_LISTING).unwrap_or_else(|refusal| {
+                    if refusal.number > 31 {
+                        *counts.refusals.entry(refusal.number).or_default() += 1;
+                    }
+                    refused(&refusal)
+                });
                 counts.compare("listing", &ours, &body);
-                counts.values(&mut reader, &list, &every, &body);
             }
             "impl" | "type" | "additional" | "added" => {
                 let writer = match name.as_str() {

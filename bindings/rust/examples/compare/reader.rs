@@ -157,7 +157,12 @@ impl Reader {
         let text = self.value(list, position, SCRATCH);
         let refusal = roles.as_ref().err();
         assert!(checked.is_ok() || checked.as_ref().err() == refusal, "the check and the reader");
-        assert_eq!(lines.as_ref().err(), refusal, "the listing and the reader");
+        // What the reader takes, the listing refuses where a variant has no number, at a row.
+        let numbers = [refusal::NO_INTEGER, refusal::NO_STEP];
+        match lines.as_ref().err() {
+            Some(Refusal { number, place: Place::Row(_) }) if refusal.is_none() && numbers.contains(number) => {}
+            other => assert_eq!(other, refusal, "the listing and the reader"),
+        }
         assert_eq!(text.as_ref().err(), refusal, "the value and the reader");
 
         // The lengths of role bytes and scratch are tested after the list check, that of the output last.

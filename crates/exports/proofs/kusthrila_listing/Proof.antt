@@ -11,7 +11,7 @@ written-requires : tie.Need-written-requires
 written-requires c κs =
     let args = c .before .before .before .before .before .before .args in
     let write = c .before .before .write-listing in
-    low-place (listed-told (args .list .now) (length (args .out .now))) _ (write .ensures .0)
+    low-place (listed-told (args .list .now) (length (args .out .now)) (write .ensures .1)) _ (write .ensures .0)
 
 same-length : tie.Need-same-length
 same-length c = search needs
@@ -20,7 +20,8 @@ returns : tie.Need-returns
 returns c =
     let args = c .before .before .before .before .before .before .before .args in
     let write = c .before .before .before .write-listing in
-    written-into (listed-told (args .list .now) (length (args .out .now))) _ (write .ensures .0) (c .written .ensures)
+    let told = listed-told (args .list .now) (length (args .out .now)) (write .ensures .1) in
+    written-into told _ (write .ensures .0) (c .written .ensures)
 
 pub kusthrila-listing-spec : {M : Type 1} → statement M
 kusthrila-listing-spec =

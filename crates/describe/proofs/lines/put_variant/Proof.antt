@@ -2,7 +2,8 @@ use lib.Seq.{slice}
 use mathlib.Core.Path.{ap}
 use Rattle.output.proofs.Texts.{joined, put-as}
 use Rattle.describe.proofs.Lined.{put-line}
-use Rattle.describe.specs.Listing.{VARIANT, line, number}
+use Rattle.describe.specs.Listing.{VARIANT, line, numberText}
+use Rattle.describe.specs.Contract.{numberOf}
 use borrow.Author.Needs.{needs}
 use Rattle.describe.proofs.lines.put_variant.Statement.{statement}
 use Rattle.describe.proofs.lines.put_variant.Tie as tie
@@ -16,11 +17,8 @@ put-head-requires c κs = search needs
 put-byte-requires : tie.Need-put-byte-requires
 put-byte-requires c κs = search needs
 
-put-value-requires : tie.Need-put-value-requires
-put-value-requires c κs =
-    let back8 = c .before .before .before .before .before .before .before .before in
-    let pre = back8 .before .before .before .before .before .pre in
-    (pre .0 .value, pre .1 .value)
+put-integer-requires : tie.Need-put-integer-requires
+put-integer-requires c κs = search needs
 
 put-byte-requires-2 : tie.Need-put-byte-requires-2
 put-byte-requires-2 c κs = search needs
@@ -30,17 +28,18 @@ same-length c = search needs
 
 returns : tie.Need-returns
 returns c =
-    let back8 = c .before .before .before .before .before .before .before .before in
+    let before = c .before .before .before .before .before .before .before .before in
+    let put-integer = c .before .before .before .before .before .before .put-integer in
+    let back8 = before in
     let back16 = back8 .before .before .before .before .before .before .before .before in
     let args = back16 .before .before .before .before .args in
     let put-head = back8 .before .before .before .before .before .before .put-head in
     let put-byte = back8 .before .before .put-byte in
-    let put-value = c .before .before .before .before .before .before .put-value in
     let put-byte2 = c .before .before .put-byte2 in
     let name = slice (args .v .name .start) (args .v .name .end) (args .s .now) in
     λ a k.
-    let n = number (args .n) (a .value) in
-    let rest = joined (put-byte .ensures) (joined (put-value .ensures (a .value) (k .value)) (put-byte2 .ensures)) in
+    let n = numberText (numberOf (args .n)) in
+    let rest = joined (put-byte .ensures) (joined (put-integer .ensures) (put-byte2 .ensures)) in
     put-as (ap (λ x. line VARIANT x n) (k .name .bytes)) (put-line VARIANT name n (put-head .ensures) rest)
 
 pub put-variant-spec : {M : Type 1} → statement M
@@ -50,7 +49,7 @@ put-variant-spec =
     slice-aggregate-put-head
     put-head-requires
     put-byte-requires
-    put-value-requires
+    put-integer-requires
     put-byte-requires-2
     same-length
     returns)

@@ -1,11 +1,11 @@
 use native.Mathlib.Omega.{arith}
-use mathlib.Core.Path.{ap, subst}
+use mathlib.Core.Path.{subst}
 use Rattle.parse.proofs.Meeting as meeting
 use Rattle.parse.specs.Contract as contract
 use Rattle.reading.specs.Reading as reading
-use Rattle.output.proofs.Texts.{nothing, put-as}
-use Rattle.describe.specs.Listing.{bodyLines}
-use Rattle.describe.proofs.Parts.{struct-group, enum-group, body-leaf, body-end}
+use Rattle.describe.specs.Contract.{lined}
+use Rattle.describe.proofs.Parts.{struct-group, enum-group, inside-point, body-leaf, body-lines}
+use Rattle.describe.proofs.Parts.{no-lines, faults-from, body-end}
 use borrow.Author.Needs.{needs}
 use Rattle.describe.proofs.listing.body_lines.Statement.{statement}
 use Rattle.describe.proofs.listing.body_lines.Tie as tie
@@ -32,9 +32,10 @@ enum-told-3 c = search needs
 
 struct-lines-requires : tie.Need-struct-lines-requires
 struct-lines-requires c κs =
-    let after-peek = c .before .before .before .before .before .before .before .before in
+    let before = c .before .before .before .before .before .before .before .before in
     let t = c .before .before .before .before .before .before .t in
     let past = c .before .before .before .before .past in
+    let after-peek = before in
     let peek = after-peek .peek in
     let pre = after-peek .before .before .before .before .before .pre in
     meeting.past-in-of _ _ _ _ (past .ensures) pre (meeting.peeked _ _ (peek .ensures) (t .given .1) .token)
@@ -44,9 +45,10 @@ enum-told-4 c = search needs
 
 variant-lines-requires : tie.Need-variant-lines-requires
 variant-lines-requires c κs =
-    let after-peek = c .before .before .before .before .before .before .before .before in
+    let before = c .before .before .before .before .before .before .before .before in
     let t = c .before .before .before .before .before .before .t in
     let past = c .before .before .before .before .past in
+    let after-peek = before in
     let peek = after-peek .peek in
     let pre = after-peek .before .before .before .before .before .pre in
     meeting.past-in-of _ _ _ _ (past .ensures) pre (meeting.peeked _ _ (peek .ensures) (t .given .1) .token)
@@ -59,10 +61,11 @@ returns c =
 
 returns-2 : tie.Need-returns-2
 returns-2 c =
-    let start = c .before .before .before .before .before .before .before in
+    let before = c .before .before .before .before .before .before .before in
+    let start = before in
     let kind = contract.kindOf (start .args .d .kind) in
     let leaf = meeting.peeked _ _ (c .before .before .peek .ensures) (c .enum-told2 .given .1) in
-    λ b k. put-as (body-leaf kind k leaf) (nothing _ _ (omega (arith, start .good)))
+    λ b k. no-lines b (omega (arith, start .good)) (body-leaf kind k leaf)
 
 same-length : tie.Need-same-length
 same-length c = search needs
@@ -72,10 +75,11 @@ same-length-2 c = search needs
 
 returns-3 : tie.Need-returns-3
 returns-3 c =
-    let after-t = c .before .before .before .before .before .before .before .before .before .before .before in
+    let before = c .before .before .before .before .before .before .before .before .before .before .before in
     let past = c .before .before .before .before .before .before .before .before .before .past in
     let enum-told3 = c .before .before .before .before .before .before .before .enum-told3 in
     let struct-lines = c .before .before .before .before .struct-lines in
+    let after-t = before in
     let t = after-t .t in
     let peek = after-t .before .before .peek in
     let args = after-t .before .before .before .before .before .before .before .args in
@@ -84,7 +88,7 @@ returns-3 c =
     let known = subst (λ kd. contract.InsideAt (reading.bodyOf (contract.kindOf kd)) (args .s .now) (args .d .body) b)
     (enum-told3 .given .1) k in
     let g = struct-group known _ _ group (past .ensures) in
-    put-as (ap bodyLines (g .1)) (struct-lines .ensures (g .0) (g .2))
+    body-lines (g .1) (lined (struct-lines .ensures (g .0) (g .2)))
 
 same-length-3 : tie.Need-same-length-3
 same-length-3 c = search needs
@@ -94,10 +98,11 @@ same-length-4 c = search needs
 
 returns-4 : tie.Need-returns-4
 returns-4 c =
-    let after-t = c .before .before .before .before .before .before .before .before .before .before .before in
+    let before = c .before .before .before .before .before .before .before .before .before .before .before in
     let past = c .before .before .before .before .before .before .before .before .before .past in
     let enum-told4 = c .before .before .before .before .before .before .before .enum-told4 in
     let variant-lines = c .before .before .before .before .variant-lines in
+    let after-t = before in
     let t = after-t .t in
     let peek = after-t .before .before .peek in
     let args = after-t .before .before .before .before .before .before .before .args in
@@ -106,7 +111,8 @@ returns-4 c =
     let known = subst (λ kd. contract.InsideAt (reading.bodyOf (contract.kindOf kd)) (args .s .now) (args .d .body) b)
     (enum-told4 .given .1) k in
     let g = enum-group known _ _ group (past .ensures) in
-    put-as (ap bodyLines (g .1)) (variant-lines .ensures (g .0) (g .2))
+    let inside = inside-point (args .s .now) (args .d .body) (past .result) (t .given .0 .0) group (past .ensures) in
+    body-lines (g .1) (faults-from inside (variant-lines .ensures (g .0) (g .2)))
 
 pub body-lines-spec : {M : Type 1} → statement M
 body-lines-spec =

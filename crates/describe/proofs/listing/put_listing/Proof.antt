@@ -1,4 +1,4 @@
-use Rattle.describe.proofs.Answers.{put-listing}
+use Rattle.describe.proofs.Answers.{lines-within, listing-lines}
 use borrow.Author.Needs.{needs}
 use Rattle.describe.proofs.listing.put_listing.Statement.{statement}
 use Rattle.describe.proofs.listing.put_listing.Tie as tie
@@ -31,8 +31,8 @@ returns c =
     let generics-lines = after .generics-lines in
     let put-item = after .before .before .before .before .before .before .before .put-item in
     λ x k.
-    put-listing x (put-item .ensures x k) (generics-lines .ensures (x .generics) (k .generics))
-    (body-lines .ensures (x .body) (k .body))
+    lines-within (body-lines .ensures (x .body) (k .body))
+    (λ zs e p. listing-lines x zs (put-item .ensures x k) (generics-lines .ensures (x .generics) (k .generics)) p)
 
 pub put-listing-spec : {M : Type 1} → statement M
 put-listing-spec =

@@ -3,11 +3,13 @@ use Rattle.token_list.specs.Contract.{InList, startOf}
 use Rattle.parse.proofs.Items.{from-start}
 use lib.ListN.{length}
 use mathlib.Core.Path.{ap, subst⁻¹}
+use Rattle.reading.specs.Place as place
 use Rattle.parse.proofs.Meeting as meeting
 use Rattle.parse.proofs.Inside.{meets-tells, meets-refusal}
 use Rattle.output.specs.Answer.{fitted}
 use Rattle.output.proofs.Answers.{written-as, written-refused}
 use Rattle.describe.specs.Listing.{itemAnswer}
+use Rattle.describe.specs.Contract.{ItemFaultsIn}
 use borrow.Author.Needs.{needs}
 use Rattle.describe.proofs.listing.read_listing.Statement.{statement}
 use Rattle.describe.proofs.listing.read_listing.Tie as tie
@@ -29,9 +31,9 @@ enum-known-d c = search needs
 
 fit-listing-requires : tie.Need-fit-listing-requires
 fit-listing-requires c κs =
-    let args = c .before .before .before .before .before .before .before .before .before .before .before .before
-    .before .args in
-    let start = c .before .before .before .before .before .before .before .before .before .start in
+    let back8 = c .before .before .before .before .before .before .before .before in
+    let args = back8 .before .before .before .before .before .args in
+    let start = back8 .before .start in
     let item = c .before .before .before .before .before .before .before .item in
     let m = meets-tells (meeting.say (itemShown (args .s .now) (startOf (args .s .now))) itemSaid
     (c .before .before .before .d .given .1) (from-start (item .result) (start .ensures) (item .ensures))) in
@@ -47,8 +49,10 @@ returns c =
     let item = c .before .before .before .before .before .item in
     let e = meets-refusal (meeting.say (itemShown (args .s .now) (startOf (args .s .now))) itemSaid
     (c .before .r .given .1)
-    (from-start (item .result) (start .ensures) (item .ensures))) .1 in
-    written-refused (ap (λ t. fitted (length (args .out .now)) (itemAnswer t)) e)
+    (from-start (item .result) (start .ensures) (item .ensures))) .1 in (
+      written-refused (ap (λ t. fitted (length (args .out .now)) (itemAnswer (place.start (args .s .now)) t)) e),
+      subst⁻¹ (ItemFaultsIn (args .s .now)) e tt,
+    )
 
 same-length-2 : tie.Need-same-length-2
 same-length-2 c = search needs
@@ -58,18 +62,21 @@ same-length-3 c = search needs
 
 returns-2 : tie.Need-returns-2
 returns-2 c =
-    let args = c .before .before .before .before .before .before .before .before .before .before .before .before
-    .before .before .before .before .before .before .args in
-    let start = c .before .before .before .before .before .before .before .before .before .before .before .before
-    .before .before .start in
-    let item = c .before .before .before .before .before .before .before .before .before .before .before .before .item
-    in
-    let d = c .before .before .before .before .before .before .before .before .d in
+    let back8 = c .before .before .before .before .before .before .before .before in
+    let back16 = back8 .before .before .before .before .before .before .before .before in
+    let args = back16 .before .before .args in
+    let start = back8 .before .before .before .before .before .before .start in
+    let item = back8 .before .before .before .before .item in
+    let d = back8 .d in
     let fit-listing = c .before .before .before .before .fit-listing in
     let m = meets-tells (meeting.say (itemShown (args .s .now) (startOf (args .s .now))) itemSaid (d .given .1)
     (from-start (item .result) (start .ensures) (item .ensures))) in
-    written-as (ap (λ t. fitted (length (args .out .now)) (itemAnswer t)) (m .3))
-    (fit-listing .ensures (m .0) (m .4 .0))
+    let p = place.start (args .s .now) in
+    let body = m .4 .1 .body in (
+      written-as (ap (λ t. fitted (length (args .out .now)) (itemAnswer p t)) (m .3))
+          (fit-listing .ensures .0 p (m .0) (m .4 .0) body),
+      subst⁻¹ (ItemFaultsIn (args .s .now)) (m .3) (fit-listing .ensures .1 p (m .0) (m .4 .0) body),
+    )
 
 pub read-listing-spec : {M : Type 1} → statement M
 read-listing-spec =

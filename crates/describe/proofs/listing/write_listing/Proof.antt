@@ -1,5 +1,6 @@
 use Rattle.parse.proofs.Items.{first-in}
 use Rattle.token_list.specs.Contract.{checked}
+use Rattle.token_list.proofs.Passed.{never}
 use lib.ListN.{length}
 use mathlib.Core.Path.{sym, _∙_, ap}
 use Rattle.output.proofs.Answers.{written-as, written-refused}
@@ -29,10 +30,9 @@ read-listing-requires c κs =
 returns : tie.Need-returns
 returns c =
     let args = c .before .before .before .before .before .before .args in
-    let e = listing-checked (args .list .now) (length (args .out .now))
-    (sym (c .before .before .before .check .ensures .answer) ∙ ap checked ((c .before .r) .given .1)) in (
-      written-refused e,
-      listing-refusal (args .list .now) (length (args .out .now)),
+    let refused = sym (c .before .before .before .check .ensures .answer) ∙ ap checked ((c .before .r) .given .1) in (
+      written-refused (listing-checked (args .list .now) (length (args .out .now)) refused),
+      listing-refusal (args .list .now) (length (args .out .now)) (λ rows p. absurd (never _ _ rows (sym refused ∙ p))),
     )
 
 same-length : tie.Need-same-length
@@ -42,13 +42,16 @@ returns-2 : tie.Need-returns-2
 returns-2 c =
     let args = c .before .before .before .before .before .before .before .before .before .before .before .args in
     let check = c .before .before .before .before .before .before .before .before .check in
-    let enum-told-2 = c .before .before .before .before .before .before .enum-told in
+    let enum-told-3 = c .before .before .before .before .before .before .enum-told in
+    let read-listing = c .before .before .before .read-listing in
+    let enum-told-2 = enum-told-3 in
     let enum-told = enum-told-2 in (
       written-as
           (listing-read (args .list .now) (length (args .out .now))
           (sym (check .ensures .answer) ∙ ap checked (enum-told .given .1)))
-          ((c .before .before .before .read-listing) .ensures),
-      listing-refusal (args .list .now) (length (args .out .now)),
+          (read-listing .ensures .0),
+      listing-refusal (args .list .now) (length (args .out .now))
+          (λ rows p. read-listing .ensures .1),
     )
 
 pub write-listing-spec : {M : Type 1} → statement M

@@ -29,7 +29,7 @@ returns : tie.Need-returns
 returns c = λ x w k room. placed-absent x w k _ ((c .enum-told) .given .1)
 
 returns-2 : tie.Need-returns-2
-returns-2 c = λ x w k room. placed-literal x w k _ _ ((c .before .v) .given .1)
+returns-2 c = λ x w k room. placed-literal x w k _ _ _ ((c .before .v) .given .1)
     (c .before .before .before .before .before .pre .1)
 
 same-length : tie.Need-same-length

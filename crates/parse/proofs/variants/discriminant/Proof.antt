@@ -49,7 +49,7 @@ returns c =
         },
         refl,
       ),
-      places.token-in _ _ _ pre ((meeting.peeked _ _ (peek .ensures) (t .given .1)) .token),
+      (places.token-in _ _ _ pre ((meeting.peeked _ _ (peek .ensures) (t .given .1)) .token), refl),
     )
 
 is-punct-requires : tie.Need-is-punct-requires
