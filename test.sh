@@ -105,6 +105,24 @@ tail -n 1 target/bindings/explained | awk 'length != 2 + 4 + 2 + 255 { exit 1 }'
 printf 'kind text\ni A\n\001\377' >target/bindings/list && explained 3 1
 tail -n 1 target/bindings/explained | grep -qx '>    1  \\x01\\xff'
 
+# The listing's own refusals: the rows have their roles all the same.
+rt check listing >/dev/null
+unlisted() { # NUMBER PLACE ROW..: the listing of these rows is refused so, and they are read
+    printf '%s\n' 'kind text' 'i enum' 'i E' 'o {' "${@:3}" 'c }' >target/bindings/list
+    target/bin/listing <target/bindings/list | cmp - <(printf 'refused place\n%s\n' "$1 $2")
+    target/bin/explain <target/bindings/list | sed -n 1p | grep -q '^ row  role '
+}
+for text in 1f32 1e3 1.5 0x_ 0b2 0o8 1u7 0B1 '"a"' "'a'" "b'a'" 9223372036854775808 0x8000_0000_0000_0000 340282366920938463463374607431768211456; do
+    unlisted 42 5 'i A' 'p =' "l $text" 'p ,' 'i B'
+done
+unlisted 43 7 'i A' 'p =' 'l 9223372036854775807' 'p ,' 'i B'
+unlisted 43 9 'i A' 'p =' 'l 9223372036854775806' 'p ,' 'i B' 'p ,' 'o (' 'i C' 'c )'
+unlisted 43 7 'i A' 'p =' 'l 0o777_777_777_777_777_777_777' 'p ,' 'i B' 'p ,' 'i C' 'p =' 'l "a"'
+for text in 31 031 3_1_ 0x1F 0x_1f_u8 0o37 0b1_1111i8 31usize; do
+    printf '%s\n' 'kind text' 'i enum' 'i E' 'o {' 'i A' 'p =' "l $text" 'p ,' 'i B' 'c }' >target/bindings/list
+    target/bin/listing <target/bindings/list | tail -n 2 | cmp - <(printf 'variant A 31\nvariant B 32\n')
+done
+
 # Joint marks: rows are shown with them, README's list is read, wrong ones are refused with 3, third lines of names with 2.
 target/bin/explain <examples/marked.tokens | cmp - examples/marked.explain
 sed -n '/^    kind joint text$/,/^$/s/^    //p' README.md >target/bindings/list

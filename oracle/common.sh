@@ -58,9 +58,20 @@ answer() {
         --extern "oracle=$built/liboracle.so" -o "$built/driver.rmeta" "$built/driver.rs"
 }
 
-# enums COUNT SEED SECTIONS: lists of enums, with the numbers that rustc gives their variants.
+# enums COUNT SEED SECTIONS: lists of enums, with the numbers that rustc gives their variants; and a quarter as many of each
+# sort that it refuses, with the place of its message.
 enums() {
     "$built/lists" enums "$1" "$2" >"$built/enums.rs"
     rustc --edition 2021 -o "$built/enums" "$built/enums.rs"
     "$built/enums" >"$3"
+    for fault in step type range; do
+        "$built/lists" faulty $(($1 / 4)) "$2" $fault >"$built/faulty.rs"
+        # In that folder, so that its path is no part of the messages.
+        if (cd "$built" && rustc --edition 2021 --crate-type lib --emit metadata --error-format=short faulty.rs) \
+            2>"$built/faulty.err"; then
+            echo "failed: rustc takes enums with the fault $fault"
+            exit 1
+        fi
+        "$built/lists" judged "$built/faulty.rs" $fault <"$built/faulty.err" >>"$3"
+    done
 }

@@ -11,7 +11,7 @@ export ORACLE_ADDED="$seed"
 answer "$built/compare.in" "$built/compare.txt" "$built/compare.counts"
 cat "$built/compare.counts"
 enums 300 "$seed" "$built/enums.txt"
-echo "enums with rustc's numbers: $(grep -c '^enum ' "$built/enums.txt")"
+echo "enums that rustc judges: $(grep -c '^rlist ' "$built/enums.txt")"
 cat "$built/enums.txt" >>"$built/compare.txt"
 if [ -x "$root/target/bin/replay" ]; then
     "$root/target/bin/replay" <"$built/compare.txt"

@@ -1,10 +1,12 @@
-//! A Rust program that prints the numbers of its own enums, as the compiler has them, in the section format of the
-//! recorded answers.
+//! Enums for the compiler to judge: a Rust program that prints the numbers of its own enums, as the compiler has them, and
+//! enums that it refuses. Both come out in the section format of the recorded answers.
 
-use crate::lists::{row, to_bytes, tokens, Names, Row};
-use crate::numbers::{number, SUFFIXES};
+use crate::check::refusal;
+use crate::lists::{row, to_bytes, tokens, write_section, Names, Row};
+use crate::numbers::{number, NO_INTEGER, NO_STEP, SUFFIXES};
 use crate::rng::Rng;
 use std::fmt::Write;
+use std::io;
 
 /// So many enums with literals without suffix or with `i64`, and one constant of each other integer type for every ten
 /// of them.
@@ -142,4 +144,82 @@ fn written(rng: &mut Rng, worth: u64) -> String {
     }
     underscore(rng, &mut text);
     text
+}
+
+/// What the compiler says of an enum's fault, by the sort of fault, and the number of our refusal.
+const FAULTS: [(&str, &str, u8); 3] = [
+    ("step", "error[E0370]: enum discriminant overflowed", NO_STEP),
+    ("type", "error[E0308]: mismatched types", NO_INTEGER),
+    ("range", "error: literal out of range for `i64`", NO_INTEGER),
+];
+
+/// What stands before an enum in its line.
+const BEFORE: &str = "#[repr(i64)] ";
+
+/// So many enums with this sort of fault, each a line of tokens parted by spaces.
+pub fn faulty(count: usize, seed: u64, sort: &str) -> String {
+    const OTHERS: [&str; 9] = [
+        "1.5", "2e3", "1E3", "1f32", "1.0f64", "\"a\"", "'a'", "b'a'", "b\"yz\"",
+    ];
+    let rng = &mut Rng(seed);
+    let mut lines = String::new();
+    for n in 0..count {
+        let mut variants: Vec<String> = Vec::new();
+        // The numbers before the fault differ from those near the end of the range.
+        for k in 0..rng.below(4) {
+            let value = match rng.below(3) {
+                0 => format!(" = - {}", 1000 * n + 100 - k),
+                1 => format!(" = {}", written(rng, (1000 + 100 * k) as u64)),
+                _ => String::new(),
+            };
+            variants.push(format!("A{k}{value}"));
+        }
+        match sort {
+            "step" => {
+                let steps = rng.below(3);
+                let last = written(rng, i64::MAX as u64 - steps as u64);
+                variants.push(format!("B = {last}"));
+                variants.extend((0..=steps).map(|k| format!("C{k}")));
+            }
+            "type" => variants.push(format!("B = {}", rng.pick(&OTHERS))),
+            // Alone, since the compiler goes on with what is left of a number that is too large.
+            "range" => {
+                let suffix = if rng.one_in(3) { "i64" } else { "" };
+                let worth = rng.next() | 1 << 63;
+                variants = vec![format!("B = {}{suffix}", written(rng, worth))];
+            }
+            _ => panic!("no such fault: {sort}"),
+        }
+        if sort != "range" {
+            variants.extend((0..rng.below(3)).map(|k| format!("D{k}")));
+        }
+        writeln!(lines, "{BEFORE}enum R{n} {{ {} }}", variants.join(" , ")).expect("a string");
+    }
+    lines
+}
+
+/// Each enum of such a source with the refusal that the compiler's messages tell: its number by the fault, its row by the
+/// column of the message.
+pub fn judged(out: &mut impl io::Write, source: &str, sort: &str, errors: &str) -> io::Result<()> {
+    let (_, message, refused) = FAULTS
+        .iter()
+        .find(|(name, ..)| *name == sort)
+        .expect("a sort of fault");
+    for (n, line) in source.lines().enumerate() {
+        let place = |error: &str| -> Option<usize> {
+            let mut parts = error.split(':').skip(1);
+            let at = parts.next()?.parse::<usize>().ok()?;
+            let column = parts.next()?.parse::<usize>().ok()?;
+            (at == n + 1 && error.contains(message)).then_some(column - 1)
+        };
+        let column = errors.lines().find_map(place);
+        let column = column.unwrap_or_else(|| panic!("the compiler takes {line}"));
+        // Before the token stand as many spaces as rows.
+        let row = line[BEFORE.len()..column].matches(' ').count();
+        let list = to_bytes(&tokens(&line[BEFORE.len()..]), Names::Plain);
+        write_section(out, "kind", b"r")?;
+        write_section(out, "list", &list)?;
+        write_section(out, "listing", refusal(*refused, row).as_bytes())?;
+    }
+    Ok(())
 }

@@ -4,6 +4,8 @@
 //!   lists tokens LINE..               one list for each line of tokens
 //!   lists counts                      what a replay of the sections in standard input is to print
 //!   lists enums COUNT SEED            a Rust program that prints such sections with the numbers of its own enums
+//!   lists faulty COUNT SEED FAULT     enums that rustc refuses for their numbers, a line each
+//!   lists judged SOURCE FAULT         such enums, with rustc's messages in standard input, as sections
 
 mod bad_input;
 mod bodies;
@@ -50,8 +52,19 @@ fn main() -> io::Result<()> {
             let seed = args[2].parse().expect("SEED is a number");
             write!(out, "{}", enums::program(count, seed))?;
         }
+        Some("faulty") if args.len() == 4 => {
+            let count = args[1].parse().expect("COUNT is a number");
+            let seed = args[2].parse().expect("SEED is a number");
+            write!(out, "{}", enums::faulty(count, seed, &args[3]))?;
+        }
+        Some("judged") if args.len() == 3 => {
+            let source = std::fs::read_to_string(&args[1])?;
+            let errors = io::read_to_string(io::stdin())?;
+            enums::judged(out, &source, &args[2], &errors)?;
+        }
         _ => {
             eprintln!("usage: lists cases COUNT SEED EXAMPLES | checks | tokens LINE.. | counts | enums COUNT SEED");
+            eprintln!("       lists faulty COUNT SEED FAULT | judged SOURCE FAULT");
             std::process::exit(2);
         }
     }

@@ -231,7 +231,7 @@ mod tests {
     fn lists_and_gives_values() {
         let list = b"kind text\ni enum\ni E\no {\ni A\np =\np -\nl 007\np ,\ni B\np =\nl 0x1F\np ,\ni C\nc }\n";
         let mut out = [7u8; 64];
-        let listed = b"part name number\nenum E 3\nvariant A -7\nvariant B 0x1F\nvariant C 2\n";
+        let listed = b"part name number\nenum E 3\nvariant A -7\nvariant B 31\nvariant C 32\n";
         assert_eq!(listing(list, &mut out), Err(Refusal { number: 8, place: Place::End }));
         assert_eq!(out, [7; 64]);
         let mut out = [7u8; 128];
@@ -245,6 +245,30 @@ mod tests {
         assert_eq!(value(list, 0, &mut scratch), Ok(Some(&b"-7"[..])));
         assert_eq!(scratch[2..], [7; 18]);
         assert_eq!(value(list, 0, &mut scratch[..19]), Err(Refusal { number: 8, place: Place::End }));
+    }
+
+    #[test]
+    fn refuses_variants_without_a_number() {
+        // The second variant's value and what follows it; the listing's refusal, and the text of that value.
+        let cases: [(&str, u8, usize, &[u8]); 4] = [
+            ("l 9223372036854775808\n", refusal::NO_INTEGER, 7, b"9223372036854775808"),
+            ("l \"a\"\np ,\n", refusal::NO_INTEGER, 7, b"\"a\""),
+            ("l 9223372036854775807\np ,\ni C\n", refusal::NO_STEP, 9, b"9223372036854775807"),
+            ("l 0x7FFF_FFFF_FFFF_FFFFi64\np ,\no (\ni C\nc )\n", refusal::NO_STEP, 9, b"0x7FFF_FFFF_FFFF_FFFFi64"),
+        ];
+        for (rows, number, row, text) in cases {
+            let list = format!("kind text\ni enum\ni E\no {{\ni A\np ,\ni B\np =\n{rows}c }}\n");
+            let refused = Err(Refusal { number, place: Place::Row(row) });
+            // Told before an output that is too short.
+            for lent in [0, 128] {
+                let mut out = [7u8; 128];
+                assert_eq!(listing(list.as_bytes(), &mut out[..lent]), refused);
+                assert_eq!(out, [7; 128]);
+            }
+            let mut roles = [7u8; 16];
+            assert_eq!(read(list.as_bytes(), &mut roles), Ok(Kind::Enum));
+            assert_eq!(value(list.as_bytes(), 1, &mut [0; SCRATCH]), Ok(Some(text)));
+        }
     }
 
     #[test]

@@ -61,8 +61,7 @@ returns c =
 
 returns-2 : tie.Need-returns-2
 returns-2 c =
-    let before = c .before .before .before .before .before .before .before in
-    let start = before in
+    let start = c .before .before .before .before .before .before .before in
     let kind = contract.kindOf (start .args .d .kind) in
     let leaf = meeting.peeked _ _ (c .before .before .peek .ensures) (c .enum-told2 .given .1) in
     λ b k. no-lines b (omega (arith, start .good)) (body-leaf kind k leaf)

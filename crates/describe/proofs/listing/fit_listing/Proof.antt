@@ -47,9 +47,8 @@ returns-2 : tie.Need-returns-2
 returns-2 c =
     let back8 = c .before .before .before .before .before .before .before .before in
     let args = back8 .before .before .before .before .args in
-    let put-listing-2 = c .before .before .before .before .before .before .put-listing in
-    let out = args .out .now in
-    let put-listing = put-listing-2 in (
+    let put-listing = c .before .before .before .before .before .before .put-listing in
+    let out = args .out .now in (
       λ p x k body. measured-refused p x body out (put-listing .ensures x k) _ (c .before .r .given .1),
       λ p x k body. item-faults p x body (lines-faults (put-listing .ensures x k)),
     )
@@ -67,9 +66,8 @@ returns-3 c =
     let args = back16 .before .before .before .before .before .before .before .args in
     let put-listing = back16 .before .put-listing in
     let needed = back8 .before .before .before .before .needed in
-    let put-listing2-2 = c .before .before .before .before .before .before .before .put-listing2 in
-    let out = args .out .now in
-    let put-listing2 = put-listing2-2 in (
+    let put-listing2 = c .before .before .before .before .before .before .before .put-listing2 in
+    let out = args .out .now in (
       λ p x k body.
           measured-never p x body out (put-listing .ensures x k) (put-listing2 .ensures x k) _ (needed .given .1) _
           (c .before .r2 .given .1),
@@ -89,9 +87,8 @@ returns-4 c =
     let args = back16 .before .before .before .before .before .before .before .args in
     let put-listing = back16 .before .put-listing in
     let needed = back8 .before .before .before .before .needed in
-    let put-listing2-2 = c .before .before .before .before .before .before .before .put-listing2 in
-    let out = args .out .now in
-    let put-listing2 = put-listing2-2 in (
+    let put-listing2 = c .before .before .before .before .before .before .before .put-listing2 in
+    let out = args .out .now in (
       λ p x k body.
           measured-fits p x body out (put-listing .ensures x k) (put-listing2 .ensures x k) _ (needed .given .1) _
           (c .before .end .given .1) (omega arith),

@@ -44,8 +44,7 @@ returns-2 c =
     let check = c .before .before .before .before .before .before .before .before .check in
     let enum-told-3 = c .before .before .before .before .before .before .enum-told in
     let read-listing = c .before .before .before .read-listing in
-    let enum-told-2 = enum-told-3 in
-    let enum-told = enum-told-2 in (
+    let enum-told = enum-told-3 in (
       written-as
           (listing-read (args .list .now) (length (args .out .now))
           (sym (check .ensures .answer) ∙ ap checked (enum-told .given .1)))

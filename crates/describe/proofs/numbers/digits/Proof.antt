@@ -21,8 +21,8 @@ loop-holds c = reading-start _ _ _ _
 
 shared-slice-read-b : tie.Need-shared-slice-read-b Inv-loop μ-loop
 shared-slice-read-b c =
-    let pre = c .before .before .before .before .pre in
-    omega (arith, pre .0)
+    let start = c .before .before .before .before in
+    omega (arith, start .pre .0)
 
 add-i : tie.Need-add-i Inv-loop μ-loop
 add-i c = omega arith
@@ -32,65 +32,71 @@ loop-less c = omega arith
 
 loop-again : tie.Need-loop-again Inv-loop μ-loop
 loop-again c =
-    let pre = c .before .before .before .before .before .pre in
+    let start = c .before .before .before .before .before in
     let loop = c .before .before .before .loop in
-    reading-underscore (pre .0) (loop .inv) (omega arith) (c .if1 .taken)
+    reading-underscore (start .pre .0) (loop .inv) (omega arith) (c .if1 .taken)
 
 digit-worth-requires : tie.Need-digit-worth-requires Inv-loop μ-loop
 digit-worth-requires c κs = search needs
 
 after-digits-requires : tie.Need-after-digits-requires Inv-loop μ-loop
 after-digits-requires c κs =
-    let pre = c .before .before .before .before .before .before .before .pre in
+    let start = c .before .before .before .before .before .before .before in
     let loop = c .before .before .before .before .before .loop in
-    (pre .0, loop .inv .few)
+    (start .pre .0, loop .inv .few)
 
 returns : tie.Need-returns Inv-loop μ-loop
 returns c =
-    let before = c .before .before .before .before .before .before .before .before in
+    let back8 = c .before .before .before .before .before .before .before .before in
+    let start = back8 in
     let loop = c .before .before .before .before .before .before .loop in
-    let start = before in
     let digit-worth = c .before .before .digit-worth in
-    let left = c .before .before .before .if1 .left in
+    let other = c .before .before .before .if1 .left in
+    let same = digit-worth .ensures .0 in
     c .after-digits .ensures ∙
-    sym (reading-ended (start .pre .0) (loop .inv) (omega arith) left (omega (arith, digit-worth .ensures .0)))
+    sym (reading-ended (start .pre .0) (loop .inv) (omega arith) other (omega (arith, same)))
 
 returns-2 : tie.Need-returns-2 Inv-loop μ-loop
 returns-2 c =
-    let before = c .before .before .before .before .before .before .before .before in
+    let back8 = c .before .before .before .before .before .before .before .before in
+    let start = back8 in
     let loop = c .before .before .before .before .before .before .loop in
-    let start = before in
     let digit-worth = c .before .before .digit-worth in
-    let left = c .before .before .before .if1 .left in
-    let some : 1 ≤ start .args .radix = omega (arith, start .pre .1) in
-    reading-large (start .pre .0) (loop .inv) (omega arith) left some (omega (arith, digit-worth .ensures .0))
-    (product-large (loop .n) (start .args .radix) _ some (c .if3 .taken))
+    let other = c .before .before .before .if1 .left in
+    let some : 1 ≤ start .args .radix = omega (arith, start .pre .1 .0) in
+    let large = product-large (loop .n) (start .args .radix) _ some (c .if3 .taken) in
+    let same = digit-worth .ensures .0 in
+    reading-large (start .pre .0) (loop .inv) (omega arith) other some (omega (arith, same)) large
 
 mul-shifted : tie.Need-mul-shifted Inv-loop μ-loop
 mul-shifted c =
-    let before = c .before .before .before .before .before .before .before .before in
+    let back8 = c .before .before .before .before .before .before .before .before in
+    let start = back8 in
     let loop = c .before .before .before .before .before .before .loop in
-    let start = before in
-    omega (arith, product-fits (loop .n) (start .args .radix) (omega (arith, start .pre .1)) (c .if3 .left))
+    let some : 1 ≤ start .args .radix = omega (arith, start .pre .1 .0) in
+    let fits = product-fits (loop .n) (start .args .radix) some (c .if3 .left) in
+    omega (arith, fits)
 
 add-sum : tie.Need-add-sum Inv-loop μ-loop
 add-sum c =
-    let before = c .before .before .before .before .before .before .before .before in
+    let back8 = c .before .before .before .before .before .before .before .before in
+    let start = back8 in
     let loop = c .before .before .before .before .before .before .loop in
-    let start = before in
-    let product = product-fits (loop .n) (start .args .radix) (omega (arith, start .pre .1)) (c .if3 .left) in
-    omega (arith, product, c .before .before .digit-worth .ensures .1)
+    let digit-worth = c .before .before .digit-worth in
+    let some : 1 ≤ start .args .radix = omega (arith, start .pre .1 .0) in
+    let fits = product-fits (loop .n) (start .args .radix) some (c .if3 .left) in
+    omega (arith, fits, digit-worth .ensures .1)
 
 returns-3 : tie.Need-returns-3 Inv-loop μ-loop
 returns-3 c =
-    let before = c .before .before .before .before .before .before .before .before .before in
+    let back8 = c .before .before .before .before .before .before .before .before in
+    let start = back8 .before in
     let loop = c .before .before .before .before .before .before .before .loop in
-    let if1 = c .before .before .before .before .if1 in
-    let start = before in
-    let same = c .before .before .before .digit-worth .ensures .0 in
-    let left = if1 .left in
-    reading-large (start .pre .0) (loop .inv) (omega arith) left (omega (arith, start .pre .1)) (omega (arith, same))
-    (omega (arith, same))
+    let digit-worth = c .before .before .before .digit-worth in
+    let other = c .before .before .before .before .if1 .left in
+    let some : 1 ≤ start .args .radix = omega (arith, start .pre .1 .0) in
+    let same = digit-worth .ensures .0 in
+    reading-large (start .pre .0) (loop .inv) (omega arith) other some (omega (arith, same)) (omega (arith, same))
 
 add-i-2 : tie.Need-add-i-2 Inv-loop μ-loop
 add-i-2 c = omega arith
@@ -100,22 +106,25 @@ loop-less-2 c = omega arith
 
 loop-again-2 : tie.Need-loop-again-2 Inv-loop μ-loop
 loop-again-2 c =
-    let before = c .before .before .before .before .before .before .before .before .before in
+    let back8 = c .before .before .before .before .before .before .before .before in
+    let start = back8 .before in
     let loop = c .before .before .before .before .before .before .before .loop in
-    let if1 = c .before .before .before .before .if1 in
-    let start = before in
-    let same = c .before .before .before .digit-worth .ensures .0 in
-    let left = if1 .left in
-    reading-digit (start .pre .0) (loop .inv) (omega arith) left same (omega arith) (omega arith)
+    let digit-worth = c .before .before .before .digit-worth in
+    let other = c .before .before .before .before .if1 .left in
+    let same = digit-worth .ensures .0 in
+    reading-digit (start .pre .0) (loop .inv) (omega arith) other same (omega arith) (omega arith)
 
 after-digits-requires-2 : tie.Need-after-digits-requires-2 Inv-loop μ-loop
-after-digits-requires-2 c κs = (c .before .before .before .pre .0, c .before .loop .inv .few)
+after-digits-requires-2 c κs =
+    let start = c .before .before .before in
+    let loop = c .before .loop in
+    (start .pre .0, loop .inv .few)
 
 returns-4 : tie.Need-returns-4 Inv-loop μ-loop
 returns-4 c =
-    let pre = c .before .before .before .before .pre in
+    let start = c .before .before .before .before in
     let loop = c .before .before .loop in
-    c .after-digits2 .ensures ∙ sym (reading-none (pre .0) (loop .inv) (omega arith))
+    c .after-digits2 .ensures ∙ sym (reading-none (start .pre .0) (loop .inv) (omega arith))
 
 pub digits-spec : {M : Type 1} → statement M
 digits-spec =

@@ -47,10 +47,9 @@ digits-requires-2 c κs = search needs
 
 returns-3 : tie.Need-returns-3
 returns-3 c =
-    let before = c .before .before .before .before .before .before .before .before in
+    let start = c .before .before .before .before .before .before .before .before in
     let radix = c .before .before .before .before .before .before .radix in
     let if1 = c .before .before .before .before .before .if1 in
-    let start = before in
     let digit-worth = c .before .before .digit-worth in
     let zero = sym (radix .ensures) ∙ if1 .left in
     c .digits2 .ensures ∙
@@ -61,10 +60,9 @@ returns-3 c =
 
 returns-4 : tie.Need-returns-4
 returns-4 c =
-    let before = c .before .before .before .before .before .before .before in
+    let start = c .before .before .before .before .before .before .before in
     let radix = c .before .before .before .before .before .radix in
     let if1 = c .before .before .before .before .if1 in
-    let start = before in
     let digit-worth = c .before .digit-worth in
     let zero = sym (radix .ensures) ∙ if1 .left in
     sym

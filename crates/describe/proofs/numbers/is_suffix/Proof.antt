@@ -23,8 +23,7 @@ is-bits-requires c κs = search needs
 
 returns-2 : tie.Need-returns-2
 returns-2 c =
-    let before = c .before .before .before .before .before in
-    let start = before in
+    let start = c .before .before .before .before .before in
     let args = start .args in
     c .is-bits .ensures ∙
     sym (suffix-unsigned (args .s .now) (args .start) (args .end) (omega arith) (start .pre) (c .before .if2 .taken))
@@ -34,16 +33,14 @@ is-bits-requires-2 c κs = search needs
 
 returns-3 : tie.Need-returns-3
 returns-3 c =
-    let before = c .before .before .before .before .before .before in
-    let start = before in
+    let start = c .before .before .before .before .before .before in
     let args = start .args in
     c .is-bits2 .ensures ∙
     sym (suffix-signed (args .s .now) (args .start) (args .end) (omega arith) (start .pre) (c .before .if3 .taken))
 
 returns-4 : tie.Need-returns-4
 returns-4 c =
-    let before = c .before .before .before .before .before in
-    let start = before in
+    let start = c .before .before .before .before .before in
     let args = start .args in
     sym (suffix-none (args .s .now) (args .start) (args .end) (omega arith) (start .pre) (c .before .if2 .left)
     (c .if3 .left))

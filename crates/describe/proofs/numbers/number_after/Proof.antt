@@ -58,9 +58,8 @@ returns c =
 returns-2 : tie.Need-returns-2
 returns-2 c =
     let args = c .before .before .before .before .before .before .before .before .args in
-    let value-2 = c .before .before .before .before .before .value in
+    let value = c .before .before .before .before .before .value .given in
     let z = numberOf (args .before) in
-    let value = value-2 .given in
     let integer = c .before .before .before .integer in (
       λ d a k p.
           let literal = subst (λ v. ValueOf (args .s .now) v (a .value)) (value .1) (k .value) in
@@ -72,9 +71,8 @@ returns-2 c =
 returns-3 : tie.Need-returns-3
 returns-3 c =
     let args = c .before .before .before .before .before .before .before .args in
-    let value-2 = c .before .before .before .before .value in
+    let value = c .before .before .before .before .value .given in
     let z = numberOf (args .before) in
-    let value = value-2 .given in
     let integer = c .before .before .integer in (
       λ d a k p.
           let literal = subst (λ v. ValueOf (args .s .now) v (a .value)) (value .1) (k .value) in

@@ -25,8 +25,7 @@ shared-slice-read-if3 c = search needs
 
 returns-3 : tie.Need-returns-3
 returns-3 c =
-    let before = c .before .before .before .before .before in
-    let start = before in
+    let start = c .before .before .before .before .before in
     sym (radix-some (start .args .s .now) (start .args .start) (start .args .end) (start .pre) (omega arith) ∙
     passed-over _ _ _ (ne-eqb _ _ (c .if3 .taken)))
 
@@ -38,8 +37,7 @@ radix-of-requires c κs = search needs
 
 returns-4 : tie.Need-returns-4
 returns-4 c =
-    let before = c .before .before .before .before .before .before .before in
-    let start = before in
+    let start = c .before .before .before .before .before .before .before in
     c .radix-of .ensures ∙
     sym (radix-some (start .args .s .now) (start .args .start) (start .args .end) (start .pre) (omega arith) ∙
     chosen _ _ _ (eq-eqb _ _ (c .before .before .if3 .left)))
