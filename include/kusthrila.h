@@ -135,7 +135,8 @@ uint64_t kusthrila_check(const uint8_t *list, size_t list_len);
 uint64_t kusthrila_read(const uint8_t *list, size_t list_len, uint8_t *roles, size_t roles_len);
 
 /* Writes the listing at the start of out: its length, with the bytes after it as they were; or a refusal, with all bytes
- * as they were. out must be long enough for the listing, else refusal 8; KUSTHRILA_MOST_LISTING bytes always are. */
+ * as they were. 42 and 43, where a variant has no number, are refusals of this function alone. out must be long enough for the
+ * listing, else refusal 8; KUSTHRILA_MOST_LISTING bytes always are. */
 uint64_t kusthrila_listing(const uint8_t *list, size_t list_len, uint8_t *out, size_t out_len);
 
 /* Writes the generics of the declaration as a token list at the start of out: as they stand behind `impl`, without defaults, or

@@ -120,7 +120,8 @@ pub fn read(list: &[u8], roles: &mut [u8]) -> Result<Kind, Refusal> {
     answer(code).map(|kind| if kind == 0 { Kind::Struct } else { Kind::Enum })
 }
 
-/// Writes the listing at the start of `out` and returns that part. After a refusal `out` is as it was.
+/// Writes the listing at the start of `out` and returns that part. After a refusal `out` is as it was. `refusal::NO_INTEGER` and
+/// `refusal::NO_STEP`, where a variant has no number, are refusals of this function alone.
 pub fn listing<'a>(list: &[u8], out: &'a mut [u8]) -> Result<&'a [u8], Refusal> {
     // SAFETY: both are slices, `out` is borrowed alone, and the call writes nothing past it.
     let code = unsafe { kusthrila_listing(list.as_ptr(), list.len(), out.as_mut_ptr(), out.len()) };

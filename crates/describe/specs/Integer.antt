@@ -20,12 +20,13 @@ digitWorth b =
     (cond (between (code "a") (code "f") b) (b - code "a" + 10)
     (cond (between (code "A") (code "F") b) (b - code "A" + 10) 16))
 
--- INTEGER_SUFFIX, or nothing: `u` or `i`, and how many bits
+-- how many bits an integer type has, in its name
 unfoldable pub bits : List ℕ → Bool
 bits t =
     same t (bytes "8") || (same t (bytes "16") || (same t (bytes "32")
     || (same t (bytes "64") || (same t (bytes "128") || same t (bytes "size")))))
 
+-- INTEGER_SUFFIX, or nothing
 abbrev pub suffix : List ℕ → Bool
 suffix [] = true
 suffix (b ∷ t) = (eqb b (code "u") || eqb b (code "i")) && bits t
@@ -34,7 +35,7 @@ suffix (b ∷ t) = (eqb b (code "u") || eqb b (code "i")) && bits t
 abbrev pub ended : Bool → ℕ → List ℕ → Worth
 ended any n t = cond (any && suffix t) (counts n) none
 
--- digits with `_` between them, up to the suffix
+-- digits and `_`, up to the suffix
 abbrev pub digits : ℕ → Bool → ℕ → List ℕ → Worth
 digits radix any n [] = ended any n []
 digits radix any n (b ∷ t) =
@@ -56,6 +57,7 @@ abbrev pub decimalInteger : List ℕ → Worth
 decimalInteger [] = none
 decimalInteger (b ∷ t) = cond (ltb (digitWorth b) 10) (digits 10 false 0 (b ∷ t)) none
 
+-- INTEGER_LITERAL
 unfoldable pub integer : List ℕ → Worth
 integer t = cond (eqb (radix t) 0) (decimalInteger t) (digits (radix t) false 0 (drop 2 t))
 

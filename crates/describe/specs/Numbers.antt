@@ -1,5 +1,5 @@
--- The numbers of an enum's variants (document 02, card 2): the Reference's implicit and explicit discriminants (1.63,
--- "Enumerations"), within i64's range.
+-- The numbers of an enum's variants (document 02, card 2): the discriminants that the Reference gives them (1.63,
+-- "Enumerations", "Custom Discriminant Values"), within i64's range.
 use mathlib.Core.Bool.{cond}
 use mathlib.Core.List.{List, [], _∷_}
 use Prim.Native.Nat.{ℕ, suc, _+_}
@@ -65,12 +65,12 @@ abbrev pub andThen : ℕ → Number → (ℤ → Numbers) → Numbers
 andThen k (number z) rest = preceding z (rest z)
 andThen k (without f) rest = lacking f k
 
--- from position k on, after this number
+-- from position k on, after this number: a variant without value is one higher than the one before it
 abbrev pub numbersFrom : ℤ → ℕ → List Variant → Numbers
 numbersFrom before k [] = numbers []
 numbersFrom before k (v ∷ vs) = andThen k (numberAfter before (v .value)) (λ z. numbersFrom z (k + 1) vs)
 
--- the first variant follows -1, so that its number without a value is 0
+-- the first variant follows -1, so that without a value it is 0
 abbrev pub BEFORE-FIRST : ℤ
 BEFORE-FIRST = negsuc 0
 
