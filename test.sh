@@ -153,6 +153,14 @@ else
     answers+=(target/oracle/compare.txt)
 fi
 
+# Newly made enums, against rustc.
+if have rustc "newly made enums, against rustc"; then
+    rm -f target/oracle/enums.txt
+    oracle/enums.sh | tee target/enums.out
+    grep -qx 'differences 0' target/enums.out
+    answers+=(target/oracle/enums.txt)
+fi
+
 # The static library, called from C and from Rust.
 rt staticlib exports >/dev/null
 example() { # COMMAND FILE: the command prints FILE of the first example, and refuses the second

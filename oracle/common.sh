@@ -58,6 +58,15 @@ answer() {
         --extern "oracle=$built/liboracle.so" -o "$built/driver.rmeta" "$built/driver.rs"
 }
 
+# replay SECTIONS: what the repository's own program says of them, where it is built.
+replay() {
+    if [ -x "$root/target/bin/replay" ]; then
+        "$root/target/bin/replay" <"$1"
+    else
+        echo "not replayed: target/bin/replay is not built (answers in ${1#"$root/"})"
+    fi
+}
+
 # enums COUNT SEED SECTIONS: lists of enums, with the numbers that rustc gives their variants; and a quarter as many of each
 # sort that it refuses, with the place of its message.
 enums() {

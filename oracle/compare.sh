@@ -10,11 +10,4 @@ build_oracle
 export ORACLE_ADDED="$seed"
 answer "$built/compare.in" "$built/compare.txt" "$built/compare.counts"
 cat "$built/compare.counts"
-enums 300 "$seed" "$built/enums.txt"
-echo "enums that rustc judges: $(grep -c '^rlist ' "$built/enums.txt")"
-cat "$built/enums.txt" >>"$built/compare.txt"
-if [ -x "$root/target/bin/replay" ]; then
-    "$root/target/bin/replay" <"$built/compare.txt"
-else
-    echo "not replayed: target/bin/replay is not built (answers in target/oracle/compare.txt)"
-fi
+replay "$built/compare.txt"
