@@ -118,6 +118,15 @@ done
 unlisted 43 7 'i A' 'p =' 'l 9223372036854775807' 'p ,' 'i B'
 unlisted 43 9 'i A' 'p =' 'l 9223372036854775806' 'p ,' 'i B' 'p ,' 'o (' 'i C' 'c )'
 unlisted 43 7 'i A' 'p =' 'l 0o777_777_777_777_777_777_777' 'p ,' 'i B' 'p ,' 'i C' 'p =' 'l "a"'
+unlisted 50 5 'i A' 'p ,' 'i A'
+unlisted 50 5 'i A' 'p ,' 'i r#A' 'p ,' 'i A'
+unlisted 50 7 'o (' 'i r#A' 'c )' 'p ,' 'o 0' 'i A' 'c 0'
+unlisted 50 11 'i A' 'p =' 'l 1' 'p ,' 'i B' 'p =' 'l 1' 'p ,' 'i B'
+unlisted 51 7 'i A' 'p =' 'l 1' 'p ,' 'i B' 'p =' 'l 0x1'
+unlisted 51 11 'i A' 'p =' 'l 1' 'p ,' 'i B' 'p =' 'l 0' 'p ,' 'i C'
+unlisted 51 8 'i A' 'p =' 'p -' 'l 0' 'p ,' 'o [' 'i B' 'c ]' 'p =' 'l 0'
+unlisted 42 9 'i A' 'p ,' 'i A' 'p ,' 'i B' 'p =' 'l "a"'
+unlisted 43 9 'i A' 'p =' 'l 9223372036854775806' 'p ,' 'i B' 'p ,' 'i B'
 for text in 31 031 3_1_ 0x1F 0x_1f_u8 0o37 0b1_1111i8 31usize; do
     printf '%s\n' 'kind text' 'i enum' 'i E' 'o {' 'i A' 'p =' "l $text" 'p ,' 'i B' 'c }' >target/bindings/list
     target/bin/listing <target/bindings/list | tail -n 2 | cmp - <(printf 'variant A 31\nvariant B 32\n')

@@ -17,10 +17,10 @@
  * Nothing is allocated and nothing global is kept: the library has no data but constants, and calls only memset and its like. So
  * calls from several threads are independent, as long as none writes a buffer that another uses.
  *
- * A call needs no more than KUSTHRILA_STACK bytes of stack. Measured on x86-64 were some 4,400 in kusthrila_check, 4,400 in
- * kusthrila_tagged, 4,600 in kusthrila_read, 4,800 in the writers of generics, 8,700 in kusthrila_listing and 8,900 in
- * kusthrila_value, all in lists with 32 open groups; the rest is margin. bindings/c/stack.c measures it, and test.sh does so each
- * time. */
+ * A call needs no more than KUSTHRILA_STACK bytes of stack, but kusthrila_listing up to KUSTHRILA_LISTING_STACK: it keeps
+ * tables of all variants, to tell whether one is there twice. Measured on x86-64 were some 4,300 in kusthrila_check, 4,400
+ * in kusthrila_tagged, 4,600 in kusthrila_read, 4,800 in the writers of generics, 8,900 in kusthrila_value and 74,500 in
+ * kusthrila_listing; the rest is margin. bindings/c/stack.c measures it, and test.sh does so each time. */
 #ifndef KUSTHRILA_H
 #define KUSTHRILA_H
 
@@ -54,8 +54,11 @@ extern "C" {
 /* A scratch must have as many bytes. */
 #define KUSTHRILA_SCRATCH 20u
 
-/* No call needs more bytes of stack. */
+/* No call but kusthrila_listing needs more bytes of stack. */
 #define KUSTHRILA_STACK 16384u
+
+/* Nor does kusthrila_listing need more than these. */
+#define KUSTHRILA_LISTING_STACK 98304u
 
 /* A role byte after the last row's, and every role byte after a refusal. */
 #define KUSTHRILA_NO_ROLE 255u
@@ -91,7 +94,7 @@ enum kusthrila_tagged_role {
     KUSTHRILA_TAGGED_OTHER = 23  /* any other row */
 };
 
-/* The refusals. 9, 10 and 32 to 41 are none. 42 and 43 are of kusthrila_listing alone. */
+/* The refusals. 9, 10, 32 to 41 and 44 to 49 are none. 42, 43, 50 and 51 are of kusthrila_listing alone. */
 enum kusthrila_refusal {
     KUSTHRILA_REFUSAL_TOO_LONG = 1,             /* more than 65,536 bytes */
     KUSTHRILA_REFUSAL_LINE_OF_NAMES = 2,        /* the first line is neither `kind text` nor `kind joint text` */
@@ -123,7 +126,9 @@ enum kusthrila_refusal {
     KUSTHRILA_REFUSAL_ADDED_NAME = 30,          /* an added name is no name of at most 255 bytes, or has `r#` */
     KUSTHRILA_REFUSAL_NOT_ONE_GROUP = 31,       /* tagged: the list is not one group */
     KUSTHRILA_REFUSAL_NO_INTEGER = 42,          /* listing: a variant's value is no integer, or above the range of int64_t */
-    KUSTHRILA_REFUSAL_NO_STEP = 43              /* listing: a variant without value after the largest int64_t */
+    KUSTHRILA_REFUSAL_NO_STEP = 43,             /* listing: a variant without value after the largest int64_t */
+    KUSTHRILA_REFUSAL_NAME_TWICE = 50,          /* listing: the name of an earlier variant, `r#` aside */
+    KUSTHRILA_REFUSAL_NUMBER_TWICE = 51         /* listing: the number of an earlier variant */
 };
 
 /* Checks a list: the number of its rows, or refusal 1 to 7. */
@@ -135,8 +140,9 @@ uint64_t kusthrila_check(const uint8_t *list, size_t list_len);
 uint64_t kusthrila_read(const uint8_t *list, size_t list_len, uint8_t *roles, size_t roles_len);
 
 /* Writes the listing at the start of out: its length, with the bytes after it as they were; or a refusal, with all bytes
- * as they were. 42 and 43, where a variant has no number, are refusals of this function alone. out must be long enough for the
- * listing, else refusal 8; KUSTHRILA_MOST_LISTING bytes always are. */
+ * as they were. 42 and 43, where a variant has no number, and 50 and 51, where two variants have one name or one
+ * number, are refusals of this function alone. out must be long enough for the listing, else refusal 8;
+ * KUSTHRILA_MOST_LISTING bytes always are. */
 uint64_t kusthrila_listing(const uint8_t *list, size_t list_len, uint8_t *out, size_t out_len);
 
 /* Writes the generics of the declaration as a token list at the start of out: as they stand behind `impl`, without defaults, or

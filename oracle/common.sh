@@ -73,10 +73,10 @@ enums() {
     "$built/lists" enums "$1" "$2" >"$built/enums.rs"
     rustc --edition 2021 -o "$built/enums" "$built/enums.rs"
     "$built/enums" >"$3"
-    for fault in step type range; do
+    for fault in step type range name number; do
         "$built/lists" faulty $(($1 / 4)) "$2" $fault >"$built/faulty.rs"
         # In that folder, so that its path is no part of the messages.
-        if (cd "$built" && rustc --edition 2021 --crate-type lib --emit metadata --error-format=short faulty.rs) \
+        if (cd "$built" && rustc --edition 2021 --crate-type lib --emit metadata --error-format=json faulty.rs) \
             2>"$built/faulty.err"; then
             echo "failed: rustc takes enums with the fault $fault"
             exit 1

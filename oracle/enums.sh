@@ -1,6 +1,7 @@
 #!/bin/sh
-# enums.sh [COUNT [SEED]]: makes COUNT enums and as many again that rustc judges, and lets the repository's program `replay`,
-# where it is built, list them too. It needs no sources of virtue.
+# enums.sh [COUNT [SEED]]: makes COUNT enums, some more constants, and a quarter as many of each of five sorts of faulty
+# enums. rustc judges all of them, and the repository's program `replay`, where it is built, lists them too. It needs no
+# sources of virtue.
 set -eu
 . "$(dirname "$0")/common.sh"
 build_lists

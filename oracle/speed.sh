@@ -1,5 +1,7 @@
 #!/bin/sh
 # speed.sh: how long the reader takes, beside virtue's parser on the same lists. speed.sh ours [NAME [TIMES]]: our reader alone.
+# speed.sh listing [BEFORE]: how long the listing takes on enums of as many variants as a list holds, and on small
+# declarations; and the same with the library of BEFORE, another checkout in which `rt staticlib exports` was run.
 # Inputs whose name ends in -joint have the names `kind joint text`; they are left out where the reader refuses these.
 # speed.sh placed TIMES [BEFORE]: our reader with its functions in so many orders in memory, on which its time depends; beside the
 # reader of BEFORE, another checkout in which `rt staticlib exports` was run, in as many orders and by turns. It needs lld.
@@ -28,6 +30,14 @@ link() {
         --extern "proc_macro2=$built/libproc_macro2.rlib" -o "$program" "$@" "$root/oracle/src/speed.rs"
 }
 
+if [ "${1:-}" = listing ]; then
+    link "$root" "$built/speed"
+    "$built/speed" listing
+    [ -n "${2:-}" ] || exit 0
+    link "$2" "$built/speed-before"
+    echo before:
+    exec "$built/speed-before" listing
+fi
 if [ "${1:-}" != placed ]; then
     link "$root" "$built/speed"
     exec "$built/speed" "$@"

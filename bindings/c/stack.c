@@ -1,6 +1,7 @@
 /* How many bytes of stack each function takes, at most, on the lists of recorded files (recorded/README.md has their
- * format) and on lists with 32 and 33 open groups. It fails where one takes more than KUSTHRILA_STACK. The calls run on a
- * stack of their own, painted beforehand; what they took is what lost its paint, with the frame of the function that calls. */
+ * format), on lists with 32 and 33 open groups, and on enums of many variants. It fails where one takes more than the
+ * header says. The calls run on a stack of their own, painted beforehand; what they took is what lost its paint, with the
+ * frame of the function that calls. */
 #define _XOPEN_SOURCE 700
 #include "kusthrila.h"
 
@@ -70,7 +71,7 @@ static void same_name_all(void) {
     }
 }
 
-static int measure(const char *name, void (*calls)(void)) {
+static int measure(const char *name, void (*calls)(void), size_t promised) {
     ucontext_t here, there;
     memset(stack, PAINT, sizeof stack);
     getcontext(&there);
@@ -83,7 +84,7 @@ static int measure(const char *name, void (*calls)(void)) {
     while (*bottom == PAINT)
         bottom++;
     printf("%s: %d bytes of stack\n", name, (int)(top - bottom));
-    return (size_t)(top - bottom) > KUSTHRILA_STACK;
+    return (size_t)(top - bottom) > promised;
 }
 
 static void add(const uint8_t *bytes, size_t length) {
@@ -124,9 +125,9 @@ static void add_rows(char *text, const char *rows, const char *column) {
         sprintf(text + strlen(text), "%c %s%c\n", rows[0], column, rows[1]);
 }
 
-/* So many groups, one in the other, in a field's type. */
-static void add_nested(int groups, const char *names, const char *column) {
-    static char texts[4][1024];
+/* So many groups, one in the other, in a field's type, and a second variant of this name. */
+static void add_nested(int groups, char second, const char *names, const char *column) {
+    static char texts[8][1024];
     static int used;
     char *text = texts[used++];
     sprintf(text, "%si %senum\n", names, column);
@@ -136,25 +137,41 @@ static void add_nested(int groups, const char *names, const char *column) {
     for (int open = 2; open < groups; open++)
         add_rows(text, "c)", column);
     add_rows(text, "c}p=p-", column);
-    sprintf(text + strlen(text), "l %s9223372036854775807\n", column);
+    sprintf(text + strlen(text), "l %s9223372036854775807\np %s,\ni %s%c\n", column, column, column, second);
     add_rows(text, "c}", column);
     add((const uint8_t *)text, strlen(text));
+}
+
+/* So many variants. */
+static void add_enum(int variants) {
+    static char texts[2][1 << 16];
+    static int used;
+    char *text = texts[used++];
+    char *end = text + sprintf(text, "kind text\ni enum\ni E\no {\n");
+    for (int n = 0; n < variants; n++)
+        end += sprintf(end, "i V%d\np ,\n", n);
+    end += sprintf(end, "c }\n");
+    add((const uint8_t *)text, (size_t)(end - text));
 }
 
 int main(int argc, char **argv) {
     for (int n = 1; n < argc; n++)
         add_recorded(argv[n]);
-    for (int groups = 32; groups <= 33; groups++) {
-        add_nested(groups, "kind text\n", "");
-        add_nested(groups, "kind joint text\n", "0 ");
-    }
+    /* Listed, and refused since the first variant has the name too. */
+    for (const char *second = "BA"; *second; second++)
+        for (int groups = 32; groups <= 33; groups++) {
+            add_nested(groups, *second, "kind text\n", "");
+            add_nested(groups, *second, "kind joint text\n", "0 ");
+        }
+    add_enum(67);
+    add_enum(2046);
     printf("%d lists\n", (int)count);
-    int over = measure("kusthrila_check", check_all);
-    over |= measure("kusthrila_read", read_all);
-    over |= measure("kusthrila_listing", listing_all);
-    over |= measure("kusthrila_value", value_all);
-    over |= measure("kusthrila_tagged", tagged_all);
-    over |= measure("kusthrila_impl_generics and its like", generics_all);
-    over |= measure("kusthrila_same_name", same_name_all);
+    int over = measure("kusthrila_check", check_all, KUSTHRILA_STACK);
+    over |= measure("kusthrila_read", read_all, KUSTHRILA_STACK);
+    over |= measure("kusthrila_listing", listing_all, KUSTHRILA_LISTING_STACK);
+    over |= measure("kusthrila_value", value_all, KUSTHRILA_STACK);
+    over |= measure("kusthrila_tagged", tagged_all, KUSTHRILA_STACK);
+    over |= measure("kusthrila_impl_generics and its like", generics_all, KUSTHRILA_STACK);
+    over |= measure("kusthrila_same_name", same_name_all, KUSTHRILA_STACK);
     return over;
 }

@@ -1,6 +1,10 @@
 //! The second half of kind a: bodies, variants, and the inside of tagged attributes.
 
-use crate::grammar::{Builder, NAMES};
+use crate::grammar::{Builder, CAPITALS, NAMES};
+use crate::numbers::bare;
+
+/// The words that the list check refuses after `r#`.
+const NEVER_RAW: [&str; 5] = ["crate", "self", "super", "Self", "_"];
 
 impl Builder<'_> {
     pub fn struct_body(&mut self) {
@@ -52,21 +56,20 @@ impl Builder<'_> {
     }
 
     fn variants(&mut self) {
-        for _ in 0..self.rng.below(5) {
+        let mut names = Vec::new();
+        // With numbers so near to each other that two are often the same.
+        let near = self.chance(6);
+        let count = self.rng.below(5) + usize::from(near);
+        for _ in 0..count {
             self.attributes();
-            if self.chance(6) {
-                let text = self.rng.pick(&NAMES).to_string();
-                self.word(&text);
-            } else {
-                self.capital();
-            }
+            self.variant_name(&mut names);
             match self.rng.below(6) {
                 0 => self.group(2, |b| b.fields(true)),
                 1 => self.group(0, |b| b.fields(false)),
                 2 if self.chance(12) => self.wrong_group(),
                 _ => {}
             }
-            let has_value = self.chance(3);
+            let has_value = self.chance(if near { 2 } else { 3 });
             if has_value {
                 self.p("=");
                 if self.chance(3) {
@@ -74,6 +77,7 @@ impl Builder<'_> {
                 }
                 match self.rng.below(40) {
                     0 => self.stuff(2, 1),
+                    _ if near => self.small_integer(),
                     1..=8 => self.l(),
                     _ => self.integer(),
                 }
@@ -83,6 +87,28 @@ impl Builder<'_> {
         if self.chance(30) {
             self.attributes();
         }
+    }
+
+    /// A name that no variant before has; now and then one that a variant has, there with `r#` or without.
+    fn variant_name(&mut self, before: &mut Vec<&'static str>) {
+        let text = if !before.is_empty() && self.chance(12) {
+            let name = bare(before[self.rng.below(before.len())]);
+            let raw = self.chance(2) && !NEVER_RAW.contains(&name);
+            format!("{}{name}", if raw { "r#" } else { "" })
+        } else {
+            let names = if self.chance(6) {
+                &NAMES[..]
+            } else {
+                &CAPITALS
+            };
+            let mut name = self.rng.pick(names);
+            while before.iter().any(|earlier| bare(earlier) == bare(name)) {
+                name = self.rng.pick(names);
+            }
+            before.push(name);
+            name.to_string()
+        };
+        self.word(&text);
     }
 
     pub fn tagged_list(&mut self) {

@@ -5,7 +5,7 @@ use crate::lists::{tokens, Row};
 use crate::rng::Rng;
 
 /// What stands before, the letters parted by `|`, what stands after.
-const CONTEXTS: [(&str, &str, &str); 17] = [
+const CONTEXTS: [(&str, &str, &str); 18] = [
     // The start of an item.
     (
         "",
@@ -44,6 +44,8 @@ const CONTEXTS: [(&str, &str, &str); 17] = [
         "}",
     ),
     ("enum E { A {", "a|:|,|pub|#|[ a ]|{ }", "} = 1 }"),
+    // Names and numbers that earlier variants have.
+    ("enum E { A = 1 ,", "B|C|r#A|[ B ]|,|= 0|= 1|= - 1", "}"),
     // Tagged attributes.
     ("[ p (", "k|,|=|1|\"s\"|( a )|'", ") ]"),
     ("[", "p|( k )|q|=|[ k = 1 ]|p ( )", "]"),

@@ -3,7 +3,9 @@
 
 use crate::check::refusal;
 use crate::lists::{row, to_bytes, tokens, write_section, Names, Row};
-use crate::numbers::{number, NO_INTEGER, NO_STEP, SUFFIXES};
+use crate::numbers::{
+    bare, number, twice, NAME_TWICE, NO_INTEGER, NO_STEP, NUMBER_TWICE, SUFFIXES,
+};
 use crate::rng::Rng;
 use std::fmt::Write;
 use std::io;
@@ -12,7 +14,7 @@ use std::io;
 /// of them.
 pub fn program(count: usize, seed: u64) -> String {
     let rng = &mut Rng(seed);
-    let mut items = String::from("#![allow(dead_code)]\n");
+    let mut items = String::from("#![allow(dead_code, non_camel_case_types)]\n");
     let mut main = String::new();
     for n in 0..count {
         one_enum(rng, n, &mut items, &mut main);
@@ -36,14 +38,15 @@ fn main() {{
     )
 }
 
-/// An enum of unit variants with different numbers: the compiler refuses two that are equal.
+/// An enum of unit variants with different names and numbers: the compiler refuses two that are equal.
 fn one_enum(rng: &mut Rng, n: usize, items: &mut String, main: &mut String) {
     let name = format!("E{n}");
     let mut line = tokens(&format!("enum {name} {{"));
     let mut source = Vec::new();
+    let mut names: Vec<String> = Vec::new();
     let mut numbers = Vec::new();
     let mut before = -1;
-    for k in 0..1 + rng.below(9) {
+    for _ in 0..1 + rng.below(9) {
         let (negative, literal) = value(rng);
         let written = format!("{}{literal}", if negative { "-" } else { "" });
         let value = (!rng.one_in(2)).then_some(written.as_str());
@@ -54,7 +57,11 @@ fn one_enum(rng: &mut Rng, n: usize, items: &mut String, main: &mut String) {
             }
             _ => continue,
         }
-        let variant = format!("V{k}");
+        let mut variant = near_name(rng);
+        while names.iter().any(|name| bare(name) == bare(&variant)) {
+            variant = near_name(rng);
+        }
+        names.push(variant.clone());
         line.push(row(b'i', &variant));
         source.push(match value {
             Some(value) => format!("{variant} = {value}"),
@@ -71,8 +78,8 @@ fn one_enum(rng: &mut Rng, n: usize, items: &mut String, main: &mut String) {
     }
     line.push(row(b'c', "}"));
     writeln!(items, "#[repr(i64)] enum {name} {{ {} }}", source.join(", ")).expect("a string");
-    let variants = source.iter().map(|text| text.split(' ').next().expect("a name"));
-    let pairs: Vec<String> = variants
+    let pairs: Vec<String> = names
+        .iter()
         .map(|v| format!("({v:?}, {name}::{v} as i128)"))
         .collect();
     put(&line, &name, &pairs.join(", "), main);
@@ -111,12 +118,28 @@ fn value(rng: &mut Rng) -> (bool, String) {
         2 => rng.next() >> 1,
         _ => rng.below(300) as u64,
     };
-    if rng.one_in(3) {
+    let negative = rng.one_in(3);
+    (negative, literal(rng, negative, worth))
+}
+
+fn literal(rng: &mut Rng, negative: bool, worth: u64) -> String {
+    if negative {
         let zeros = "0".repeat(rng.below(3));
-        return (true, format!("{zeros}{worth}"));
+        return format!("{zeros}{worth}");
     }
     let suffix = if rng.one_in(4) { "i64" } else { "" };
-    (false, written(rng, worth) + suffix)
+    written(rng, worth) + suffix
+}
+
+/// One of a few names that are near to each other, now and then with `r#`.
+fn near_name(rng: &mut Rng) -> String {
+    const NEAR: [&str; 16] = [
+        "B", "b", "BB", "B_", "_B", "B1", "B11", "r", "R", "rB", "Main", "Nain", "Main_", "main",
+        "r#fn", "r#type",
+    ];
+    let name = rng.pick(&NEAR);
+    let raw = rng.one_in(4) && bare(name) == name;
+    format!("{}{name}", if raw { "r#" } else { "" })
 }
 
 /// A number in one of the four forms, with zeros in front, letters of either case, and underscores by chance.
@@ -146,11 +169,13 @@ fn written(rng: &mut Rng, worth: u64) -> String {
     text
 }
 
-/// What the compiler says of an enum's fault, by the sort of fault, and the number of our refusal.
-const FAULTS: [(&str, &str, u8); 3] = [
-    ("step", "error[E0370]: enum discriminant overflowed", NO_STEP),
-    ("type", "error[E0308]: mismatched types", NO_INTEGER),
-    ("range", "error: literal out of range for `i64`", NO_INTEGER),
+/// What the compiler calls an enum's fault, by the sort of fault, and the number of our refusal.
+const FAULTS: [(&str, &str, u8); 5] = [
+    ("step", "E0370", NO_STEP),
+    ("type", "E0308", NO_INTEGER),
+    ("range", "overflowing_literals", NO_INTEGER),
+    ("name", "E0428", NAME_TWICE),
+    ("number", "E0081", NUMBER_TWICE),
 ];
 
 /// What stands before an enum in its line.
@@ -188,9 +213,11 @@ pub fn faulty(count: usize, seed: u64, sort: &str) -> String {
                 let worth = rng.next() | 1 << 63;
                 variants = vec![format!("B = {}{suffix}", written(rng, worth))];
             }
+            "name" => variants = names_twice(rng),
+            "number" => variants = numbers_twice(rng),
             _ => panic!("no such fault: {sort}"),
         }
-        if sort != "range" {
+        if sort == "step" || sort == "type" {
             variants.extend((0..rng.below(3)).map(|k| format!("D{k}")));
         }
         writeln!(lines, "{BEFORE}enum R{n} {{ {} }}", variants.join(" , ")).expect("a string");
@@ -198,22 +225,113 @@ pub fn faulty(count: usize, seed: u64, sort: &str) -> String {
     lines
 }
 
-/// Each enum of such a source with the refusal that the compiler's messages tell: its number by the fault, its row by the
-/// column of the message.
+/// Variants of which two have one name; two numbers may be the same too.
+fn names_twice(rng: &mut Rng) -> Vec<String> {
+    loop {
+        let count = 2 + rng.below(6);
+        let names: Vec<String> = (0..count).map(|_| near_name(rng)).collect();
+        if twice(&names, &[]).is_some() {
+            let variant = |name: &String| match rng.below(6) {
+                0 => format!("{name} = - {}", rng.below(3)),
+                1 => format!("{name} = {}", rng.below(9)),
+                _ => name.clone(),
+            };
+            return names.iter().map(variant).collect();
+        }
+    }
+}
+
+/// Variants with different names, of which two have one number.
+fn numbers_twice(rng: &mut Rng) -> Vec<String> {
+    loop {
+        let least = match rng.below(4) {
+            0 => i64::MAX - 20,
+            1 => -i64::MAX,
+            _ => -2,
+        };
+        let (mut variants, mut numbers) = (Vec::new(), Vec::new());
+        for k in 0..2 + rng.below(6) {
+            let value = (!rng.one_in(2)).then(|| {
+                let number = least + rng.below(6) as i64;
+                let sign = if number < 0 { "- " } else { "" };
+                format!("{sign}{}", literal(rng, number < 0, number.unsigned_abs()))
+            });
+            variants.push(match &value {
+                Some(value) => format!("B{k} = {value}"),
+                None => format!("B{k}"),
+            });
+            let value = value.map(|value| value.replace("- ", "-"));
+            let before = numbers.last().copied().unwrap_or(-1);
+            numbers.push(number(value.as_deref(), before).expect("in the range"));
+        }
+        if twice(&[], &numbers).is_some() {
+            return variants;
+        }
+    }
+}
+
+/// What a message of the compiler points at.
+struct Label<'a> {
+    line: usize,
+    column: usize,
+    primary: bool,
+    text: &'a str,
+}
+
+/// The labels of a message, which is a line of JSON; its notes follow them.
+fn labels(message: &str) -> impl Iterator<Item = Label<'_>> {
+    let (message, _) = message.split_once("\"children\":").expect("a message");
+    message.split("{\"file_name\":").skip(1).map(|span| {
+        let value = |key: &str, end: &str| {
+            let (_, rest) = span.split_once(&format!("\"{key}\":")).expect("a key");
+            rest.split(end).next().expect("a value")
+        };
+        let number = |key| value(key, ",").parse().expect("a number");
+        Label {
+            line: number("line_start"),
+            column: number("column_start"),
+            primary: value("is_primary", ",") == "true",
+            text: value("label", ",\"suggested_replacement\""),
+        }
+    })
+}
+
+/// The line and the column of the fault that a message tells of, both from 0.
+fn fault(message: &str, sort: &str) -> (usize, usize) {
+    let mut found: Vec<Label> = match sort {
+        // The enum is what the message is about; every variant with the number has a label.
+        "number" => labels(message)
+            .filter(|label| label.text.ends_with("assigned here\""))
+            .collect(),
+        _ => labels(message).filter(|label| label.primary).collect(),
+    };
+    found.sort_by_key(|label| label.column);
+    let label = &found[usize::from(sort == "number")];
+    (label.line - 1, label.column - 1)
+}
+
+/// Each enum of such a source with the refusal that the compiler's messages tell, lines of JSON: its number by the
+/// fault, its row by the first column that they give.
 pub fn judged(out: &mut impl io::Write, source: &str, sort: &str, errors: &str) -> io::Result<()> {
-    let (_, message, refused) = FAULTS
+    let (_, code, refused) = FAULTS
         .iter()
         .find(|(name, ..)| *name == sort)
         .expect("a sort of fault");
+    let code = format!("\"code\":{{\"code\":\"{code}\"");
+    let errors = errors.lines().filter(|error| error.contains(&code));
+    let faults: Vec<(usize, usize)> = errors.map(|error| fault(error, sort)).collect();
     for (n, line) in source.lines().enumerate() {
-        let place = |error: &str| -> Option<usize> {
-            let mut parts = error.split(':').skip(1);
-            let at = parts.next()?.parse::<usize>().ok()?;
-            let column = parts.next()?.parse::<usize>().ok()?;
-            (at == n + 1 && error.contains(message)).then_some(column - 1)
-        };
-        let column = errors.lines().find_map(place);
-        let column = column.unwrap_or_else(|| panic!("the compiler takes {line}"));
+        let columns = faults
+            .iter()
+            .filter(|(at, _)| *at == n)
+            .map(|(_, column)| *column);
+        let mut column = columns
+            .min()
+            .unwrap_or_else(|| panic!("the compiler takes {line}"));
+        if sort == "number" {
+            // The label stands at the value where one is written: back to the name.
+            column = line[..column].rfind([',', '{']).expect("a variant") + 2;
+        }
         // Before the token stand as many spaces as rows.
         let row = line[BEFORE.len()..column].matches(' ').count();
         let list = to_bytes(&tokens(&line[BEFORE.len()..]), Names::Plain);

@@ -11,6 +11,7 @@ pub const NAMES: [&str; 34] = [
     "bar_1", "_", "_z", "Self", "self", "crate", "dyn", "type", "for", "mut", "impl", "r#pub",
     "r#struct", "r#type", "r#a", "r#where", "r#const",
 ];
+pub const CAPITALS: [&str; 9] = ["A", "B", "C", "D", "E", "Main", "Drain", "Block", "r#A"];
 const WORDS: [&str; 9] = [
     "pub", "struct", "enum", "where", "const", "in", "super", "self", "crate",
 ];
@@ -156,6 +157,14 @@ impl Builder<'_> {
         self.rows.push(row(b'l', text));
     }
 
+    /// One of few, so that two are often worth the same.
+    pub fn small_integer(&mut self) {
+        let text = self
+            .rng
+            .pick(&["0", "1", "2", "3", "00", "01", "2", "0x1", "0b1_0i8", "0u8"]);
+        self.rows.push(row(b'l', text));
+    }
+
     pub fn group(&mut self, delimiter: usize, inside: impl FnOnce(&mut Self)) {
         let (open, close) = DELIMITERS[delimiter];
         self.rows.push(row(b'o', open));
@@ -192,10 +201,8 @@ impl Builder<'_> {
         self.i(text);
     }
 
-    pub fn capital(&mut self) {
-        let text = self
-            .rng
-            .pick(&["A", "B", "C", "D", "E", "Main", "Drain", "Block", "r#A"]);
+    fn capital(&mut self) {
+        let text = self.rng.pick(&CAPITALS);
         self.i(text);
     }
 

@@ -1,5 +1,6 @@
 //! Kind d: lists on the limits.
 
+use crate::chain;
 use crate::grammar::DELIMITERS;
 use crate::lists::{row, to_bytes, tokens, Names, Row};
 use crate::marks;
@@ -216,11 +217,23 @@ fn variants(rows: usize) -> Vec<Row> {
         0 => "enum E { @ }",
         _ => "enum E { @ A }",
     };
-    around(line, &repeat("A ,", (rows - 4) / 2))
+    around(line, &named((rows - 4) / 2, ""))
+}
+
+/// So many variants with different names, each with this behind.
+fn named(count: usize, behind: &str) -> Vec<Row> {
+    let variant = |n| tokens(&format!("V{n:04}{behind} ,"));
+    (0..count).flat_map(variant).collect()
 }
 
 /// More of them, for the long runs.
 pub fn larger(rng: &mut Rng, names: Names) -> Vec<Vec<u8>> {
+    let end = name(248);
+    let chain = chain::names("V", 1_900);
+    let names_in_chain: Vec<Row> = chain.iter().flat_map(|name| tokens(&format!("{name} ,"))).collect();
+    let numbers_in_chain: Vec<Row> = (0..1_000)
+        .flat_map(|n| tokens(&format!("V{n} = {} ,", n * chain::ROOM)))
+        .collect();
     let rows = [
         bytes_exactly(65_535, names),
         rows_exactly(4_095),
@@ -236,6 +249,14 @@ pub fn larger(rng: &mut Rng, names: Names) -> Vec<Vec<u8>> {
         around("@ struct A ;", &repeat("# [ a ]", 1_023)),
         [repeat("(", 32), repeat(";", 4_064)].concat(),
         [repeat("(", 32), repeat(";", 4_065)].concat(),
+        // The last variant has the name of the first, or its number.
+        around("enum E { @ r#V0000 }", &named(2_045, "")),
+        around("enum E { @ A = 0 }", &named(2_044, "")),
+        around(&format!("enum E {{ @ V0000{end} }}"), &named(240, &end)),
+        around(&format!("enum E {{ @ {} }}", chain[0]), &names_in_chain),
+        around("enum E { @ A = 0 }", &numbers_in_chain),
+        // Numbers from far below 0 up.
+        around("enum E { A = - 1020 , @ }", &named(2_043, "")),
     ];
     let mut out = lists(rng, rows, names);
     // Wrong in other ways too: the first in the order is told.

@@ -4,11 +4,12 @@
 //!   lists tokens LINE..               one list for each line of tokens
 //!   lists counts                      what a replay of the sections in standard input is to print
 //!   lists enums COUNT SEED            a Rust program that prints such sections with the numbers of its own enums
-//!   lists faulty COUNT SEED FAULT     enums that rustc refuses for their numbers, a line each
+//!   lists faulty COUNT SEED FAULT     enums that rustc refuses for their numbers or names, a line each
 //!   lists judged SOURCE FAULT         such enums, with rustc's messages in standard input, as sections
 
 mod bad_input;
 mod bodies;
+mod chain;
 mod check;
 mod contexts;
 mod damage;

@@ -1,4 +1,8 @@
-//! The numbers of an enum's variants, written from document 02's card 2 and the Reference.
+//! The numbers of an enum's variants, and which variant is an earlier one again: written from document 02's cards 2
+//! and 9 and the Reference.
+
+use std::collections::HashSet;
+use std::hash::Hash;
 
 /// INTEGER_SUFFIX of the Reference.
 pub const SUFFIXES: [&str; 12] = [
@@ -8,6 +12,10 @@ pub const SUFFIXES: [&str; 12] = [
 /// Why a variant has no number: the refusal's number.
 pub const NO_INTEGER: u8 = 42;
 pub const NO_STEP: u8 = 43;
+
+/// Which of an earlier variant's parts a variant has again: the refusal's number.
+pub const NAME_TWICE: u8 = 50;
+pub const NUMBER_TWICE: u8 = 51;
 
 /// What an integer literal is worth; none where the text is no integer, or above i64's range.
 pub fn worth(text: &str) -> Option<i64> {
@@ -38,4 +46,22 @@ pub fn number(value: Option<&str>, before: i64) -> Result<i64, u8> {
         }
         .ok_or(NO_INTEGER),
     }
+}
+
+/// A name, as it is compared with others.
+pub fn bare(name: &str) -> &str {
+    name.strip_prefix("r#").unwrap_or(name)
+}
+
+/// The position of the first variant that has the name of an earlier one, or else the number; with the refusal's.
+pub fn twice(names: &[String], numbers: &[i64]) -> Option<(u8, usize)> {
+    let names: Vec<&str> = names.iter().map(|name| bare(name)).collect();
+    let name = second(&names).map(|position| (NAME_TWICE, position));
+    name.or_else(|| second(numbers).map(|position| (NUMBER_TWICE, position)))
+}
+
+/// The position of the first that stands before already.
+fn second<T: Eq + Hash>(all: &[T]) -> Option<usize> {
+    let mut seen = HashSet::new();
+    all.iter().position(|one| !seen.insert(one))
 }

@@ -2,7 +2,7 @@
 
 use crate::check::END;
 use crate::lists::Row;
-use crate::numbers::number;
+use crate::numbers::{number, twice};
 use crate::parse::{Attribute, Fields, Generic, Parse, UnnamedField};
 use crate::refusals::{place, Refusal};
 use proc_macro::{Span, TokenTree};
@@ -29,7 +29,8 @@ pub struct Reading<'a> {
     rows: &'a [Row],
     /// A letter for each row that is named, `.` for the others.
     pub roles: Vec<u8>,
-    /// The listing, or the refusal of the first variant that has no number.
+    /// The listing, or the refusal of the first variant that has no number, or of the first that is an earlier one
+    /// again.
     pub listing: Result<String, Refusal>,
     /// A line with the value of each variant, empty where none is written.
     pub values: String,
@@ -83,6 +84,7 @@ impl<'a> Reading<'a> {
             Parse::Struct { body, .. } => r.fields(&body.fields),
             Parse::Enum { body, .. } => {
                 let mut before = -1;
+                let (mut names, mut numbers) = (Vec::new(), Vec::new());
                 for variant in &body.variants {
                     r.attributes(&variant.attributes);
                     r.mark(variant.name.span(), 15);
@@ -94,6 +96,7 @@ impl<'a> Reading<'a> {
                     match number(value.as_deref(), before) {
                         Ok(number) => {
                             before = number;
+                            numbers.push(number);
                             r.line("variant", &variant.name.to_string(), &number.to_string());
                         }
                         Err(refusal) => {
@@ -105,8 +108,13 @@ impl<'a> Reading<'a> {
                             r.listing = r.listing.and(Err((refusal, place)));
                         }
                     }
+                    names.push(variant.name.to_string());
                     r.values += &(value.unwrap_or_default() + "\n");
                     r.fields(&variant.fields);
+                }
+                if let Some((refusal, position)) = twice(&names, &numbers) {
+                    let place = r.name_place(body.variants[position].name.span());
+                    r.listing = r.listing.and(Err((refusal, place)));
                 }
             }
         }

@@ -3,11 +3,12 @@
 //! measured in this one run. Each input is there once more, with `-joint` behind its name: the same tokens under
 //! the names `kind joint text`. Built by oracle/speed.sh.
 //! usage: speed [ours [NAME [TIMES]]]: all of it; our reader's nanoseconds a row alone; or our reader on one input (100 times), for
-//! a count of instructions.
+//! a count of instructions. speed listing: how long the listing takes, on inputs of its own.
 extern crate proc_macro2 as proc_macro;
 
 include!("virtue.rs");
 
+mod chain;
 #[path = "../../bindings/rust/src/lib.rs"]
 #[allow(dead_code)]
 mod kusthrila;
@@ -15,7 +16,7 @@ mod kusthrila;
 mod lists;
 mod trees;
 
-use kusthrila::{check, read, MOST_ROWS};
+use kusthrila::{check, listing, read, MOST_LISTING, MOST_ROWS};
 use lists::{to_bytes, tokens, Names, Row};
 use prelude::{Ident, Literal, Punct, Spacing, Span, TokenStream};
 use std::hint::black_box;
@@ -303,15 +304,124 @@ fn ours_alone() {
     }
 }
 
+// An enum of unit variants with these names.
+fn variants(rows: usize, name: impl Fn(usize) -> String) -> List {
+    filled(rows, "enum E {", |n| name(n) + " ,", "}")
+}
+
+const DIGITS: &[u8; 62] = b"0123456789ABCDEFGHIJKLMNOPQRSTUVWXYZabcdefghijklmnopqrstuvwxyz";
+
+// The longest names of one length that 65,536 bytes hold; they differ in the last two bytes.
+fn same_start(rows: usize) -> List {
+    let digit = |n: usize| char::from(DIGITS[n % 62]);
+    variants(rows, |n| format!("{}{}{}", "n".repeat(23), digit(n / 62), digit(n)))
+}
+
+// They differ in the first two bytes.
+fn same_end(rows: usize) -> List {
+    let digit = |n: usize| char::from(DIGITS[n % 62]);
+    variants(rows, |n| format!("{}{}{}", digit(10 + n / 62), digit(n), "n".repeat(23)))
+}
+
+// As long, and each is compared with all before it.
+fn chain_names(rows: usize) -> List {
+    let names = chain::names(&"n".repeat(18), rows / 2);
+    variants(rows, |n| names[n].clone())
+}
+
+// The same of written numbers.
+fn chain_numbers(rows: usize) -> List {
+    filled(rows, "enum E {", |n| format!("V{n} = {} ,", n as u64 * chain::ROOM), "}")
+}
+
+// Written numbers, a power of two apart.
+fn far_numbers(rows: usize) -> List {
+    filled(rows, "enum E {", |n| format!("V{n} = {} ,", 4096 * n), "}")
+}
+
+const LISTED: [(&str, fn(usize) -> List); 5] = [
+    ("same-start", same_start),
+    ("same-end", same_end),
+    ("far-numbers", far_numbers),
+    ("chain-names", chain_names),
+    ("chain-numbers", chain_numbers),
+];
+
+// A hundred declarations with so many parts each.
+fn hundred(declaration: impl Fn(usize) -> String) -> Vec<List> {
+    (0..100).map(|n| list(tokens(&declaration(n)))).collect()
+}
+
+struct Listed {
+    name: &'static str,
+    input: Vec<List>,
+    // The same with a quarter of the rows.
+    quarter: Option<Vec<List>>,
+}
+
+fn listed_inputs() -> Vec<Listed> {
+    let variants = |n| {
+        format!(
+            "enum Valve{n} {{ Main = {n} , North , South , East = - {} , West = 0x3E8 , Upper , Lower , \
+             Drain = 2000 }}",
+            n + 1
+        )
+    };
+    let fields = |n| {
+        format!(
+            "struct Valve{n} {{ main : u8 , north : u8 , south : u8 , east : u8 , west : u8 , upper : u8 , \
+             lower : u8 , drain : u8 }}"
+        )
+    };
+    let mut inputs = vec![
+        Listed { name: "eight-variants", input: hundred(variants), quarter: None },
+        Listed { name: "eight-fields", input: hundred(fields), quarter: None },
+    ];
+    inputs.extend(LISTED.map(|(name, make)| Listed { name, input: vec![make(4096)], quarter: Some(vec![make(1024)]) }));
+    inputs
+}
+
+fn listing_all(input: &[List]) -> f64 {
+    let mut out = vec![0; MOST_LISTING];
+    let mut all = || {
+        for list in input {
+            listing(black_box(&list.bytes), black_box(&mut out)).expect("a listing");
+        }
+    };
+    least(|| (), |()| all()).0
+}
+
+fn listings() {
+    let inputs = listed_inputs();
+    let times = in_turns(|| {
+        let turn = |Listed { input, quarter, .. }: &Listed| {
+            let quarter = quarter.as_ref().map_or(0.0, |quarter| listing_all(quarter));
+            [listing_all(input), quarter, reading(input, a_byte_a_row)]
+        };
+        inputs.iter().map(turn).collect()
+    });
+    println!("input rows bytes ns-a-listing ns-a-row of-the-reading growth-a-row-from-a-quarter-of-the-rows");
+    let rows = |input: &[List]| input.iter().map(a_byte_a_row).sum::<usize>();
+    for (Listed { name, input, quarter }, [time, short, read]) in inputs.iter().zip(times) {
+        let bytes: usize = input.iter().map(|list| list.bytes.len()).sum();
+        let a_row = time / rows(input) as f64;
+        let growth = |quarter: &Vec<List>| format!("{:.2}", a_row * rows(quarter) as f64 / short);
+        let growth = quarter.as_ref().map_or("-".into(), growth);
+        let (rows, a_listing) = (rows(input), time / input.len() as f64);
+        println!("{name} {rows} {bytes} {a_listing:.0} {a_row:.1} {:.2} {growth}", time / read);
+    }
+}
+
 fn main() {
     let words: Vec<String> = std::env::args().skip(1).collect();
     let words: Vec<&str> = words.iter().map(String::as_str).collect();
     let (name, times) = match words[..] {
         [] => return table(),
         ["ours"] => return ours_alone(),
+        ["listing"] => return listings(),
         ["ours", name] => (name, 100),
         ["ours", name, times] => (name, times.parse().expect("TIMES is a number")),
-        _ => panic!("usage: speed [ours [NAME [TIMES]]]"),
+        _ => panic!("usage: speed [ours [NAME [TIMES]]] | listing"),
     };
     let found = inputs().into_iter().find(|(input, _)| *input == name);
     let (_, input) = found.unwrap_or_else(|| panic!("there is no input {name}"));

@@ -1,5 +1,6 @@
 //! Safe functions over the proved reader of token lists. Nothing is allocated, but for the vector that `tagged` returns, and
-//! nothing global is kept; a call needs at most 16,384 bytes of stack (`include/kusthrila.h` says how that was measured).
+//! nothing global is kept; a call needs at most 16,384 bytes of stack, that of `listing` 98,304 (`include/kusthrila.h` says how
+//! that was measured).
 //!
 //! A list is a text: a line of names, `kind text` or `kind joint text`, then a line for each row, as `p :` or, with the second
 //! names, `p 1 :`. The column between kind and text is the row's mark: 1 for a punctuation that is joint, that is, the next one
@@ -120,8 +121,9 @@ pub fn read(list: &[u8], roles: &mut [u8]) -> Result<Kind, Refusal> {
     answer(code).map(|kind| if kind == 0 { Kind::Struct } else { Kind::Enum })
 }
 
-/// Writes the listing at the start of `out` and returns that part. After a refusal `out` is as it was. `refusal::NO_INTEGER` and
-/// `refusal::NO_STEP`, where a variant has no number, are refusals of this function alone.
+/// Writes the listing at the start of `out` and returns that part. After a refusal `out` is as it was.
+/// `refusal::NO_INTEGER` and `refusal::NO_STEP`, where a variant has no number, and `refusal::NAME_TWICE` and
+/// `refusal::NUMBER_TWICE`, where two variants have one name or one number, are refusals of this function alone.
 pub fn listing<'a>(list: &[u8], out: &'a mut [u8]) -> Result<&'a [u8], Refusal> {
     // SAFETY: both are slices, `out` is borrowed alone, and the call writes nothing past it.
     let code = unsafe { kusthrila_listing(list.as_ptr(), list.len(), out.as_mut_ptr(), out.len()) };
@@ -269,6 +271,31 @@ mod tests {
             let mut roles = [7u8; 16];
             assert_eq!(read(list.as_bytes(), &mut roles), Ok(Kind::Enum));
             assert_eq!(value(list.as_bytes(), 1, &mut [0; SCRATCH]), Ok(Some(text)));
+        }
+    }
+
+    #[test]
+    fn refuses_a_second_variant_of_one_name_or_number() {
+        // What follows a first variant, `A = 1`, and the listing's refusal.
+        let cases = [
+            ("i A\n", refusal::NAME_TWICE, 7),
+            ("o (\ni r#A\nc )\n", refusal::NAME_TWICE, 7),
+            ("i B\np =\nl 0x1\n", refusal::NUMBER_TWICE, 7),
+            ("i B\np =\nl 0\np ,\ni C\n", refusal::NUMBER_TWICE, 11),
+            ("i B\np =\nl 1\np ,\ni A\n", refusal::NAME_TWICE, 11),
+            ("i A\np ,\ni C\np =\nl \"a\"\n", refusal::NO_INTEGER, 11),
+        ];
+        for (rows, number, row) in cases {
+            let list = format!("kind text\ni enum\ni E\no {{\ni A\np =\nl 1\np ,\n{rows}c }}\n");
+            let refused = Err(Refusal { number, place: Place::Row(row) });
+            // Told before an output that is too short.
+            for lent in [0, 128] {
+                let mut out = [7u8; 128];
+                assert_eq!(listing(list.as_bytes(), &mut out[..lent]), refused);
+                assert_eq!(out, [7; 128]);
+            }
+            assert_eq!(read(list.as_bytes(), &mut [7; 16]), Ok(Kind::Enum));
+            assert_eq!(value(list.as_bytes(), 0, &mut [0; SCRATCH]), Ok(Some(&b"1"[..])));
         }
     }
 

@@ -1,4 +1,5 @@
-//! The refusals' numbers. 9, 10 and 32 to 41 are none; 42 and 43 are of the listing alone. README.md says where each one's place is, and which comes first.
+//! The refusals' numbers. 9, 10, 32 to 41 and 44 to 49 are none; 42, 43, 50 and 51 are of the listing alone.
+//! README.md says where each one's place is, and which comes first.
 
 /// More than 65,536 bytes.
 pub const TOO_LONG: u8 = 1;
@@ -62,3 +63,7 @@ pub const NOT_ONE_GROUP: u8 = 31;
 pub const NO_INTEGER: u8 = 42;
 /// Listing: a variant without value after the largest i64.
 pub const NO_STEP: u8 = 43;
+/// Listing: the name of an earlier variant, `r#` aside.
+pub const NAME_TWICE: u8 = 50;
+/// Listing: the number of an earlier variant.
+pub const NUMBER_TWICE: u8 = 51;

@@ -1,7 +1,7 @@
 -- Laws on the answers of the calls.
 use mathlib.Core.Path.{_≡_, refl, ap, _∙_, sym, subst, subst⁻¹}
 use mathlib.Core.Logic.{inr, ⊎-elim}
-use mathlib.Core.Bool.{true, false, false≢true}
+use mathlib.Core.Bool.{true, false, _||_, false≢true}
 use mathlib.Core.List.{List}
 use Prim.Native.Nat.{ℕ, _≤_, _<_}
 use native.Mathlib.Omega.{arith}
@@ -40,17 +40,19 @@ use Rattle.parse.specs.declared.variants.ValueAt.{ValueAt}
 use Rattle.parse.specs.declared.variants.ValueAt.the-variants as valueAts
 use Rattle.describe.specs.Value.{SCRATCH-BYTES, negativeText, Answer, refused, bodyValue, valueAnswer}
 use Rattle.describe.specs.Value.{variantAnswer, itemAnswer, answer, scratch, valueText}
-use Rattle.describe.specs.Numbers.{Fault, noInteger, noStep, faultNumber, Numbers, numbers, lacking, numbersOf}
+use Rattle.describe.specs.Numbers.{Fault, noInteger, noStep, nameAgain, numberAgain, faultNumber, Numbers}
+use Rattle.describe.specs.Numbers.{numbers, lacking, bodyNumbers, bodyNames, numbersOf}
 use Rattle.describe.specs.Numbers.{faultIn, faultPlace}
 use Rattle.describe.specs.Listing as listing
 use Rattle.parse.specs.Contract.{point, CursorAt}
 use Rattle.describe.specs.Contract.{ValueAs, part, textStart, textEnd, placeOf, Placed, Begins, FaultsIn}
-use Rattle.describe.specs.Contract.{ItemFaultsIn, LinesAs, lined, lacks}
-use Rattle.describe.specs.declared.listing.LinesStep.{LinesStep}
-use Rattle.describe.specs.declared.listing.LinesStep.the-variants as linesSteps
+use Rattle.describe.specs.Contract.{ItemFaultsIn, FaultAs, faultless, lacks}
+use Rattle.describe.specs.declared.faults.Faults.{Faults}
+use Rattle.describe.specs.declared.faults.Faults.the-variants as faults
 use Rattle.describe.specs.declared.value.ValuePlace.{ValuePlace}
 use Rattle.describe.specs.declared.value.ValuePlace.the-variants as places
 use Rattle.describe.proofs.Worths.{part-front, negative-within, negative-length}
+use Rattle.describe.proofs.Numbering.{distinct-numbers}
 
 -- ## A value
 
@@ -160,51 +162,23 @@ module _ (s : List ℕ) (k n : ℕ) where
 
 -- ## A listing
 
--- lines, by the code's enum
-module _ {s : List ℕ} {place : Fault → ℕ → ℕ} {x y : List ℕ} {from : ℕ} {text : List ℤ → List ℕ} {ns : Numbers}
-    {r : LinesStep} (l : LinesAs s place x y from text ns r) where
-  pub lines-at : {e : ℕ} → r ≡ linesSteps.At e → (zs : List ℤ) × (ns ≡ numbers zs) × Put x y from e (text zs)
-  lines-at {e} q = go l q
-    where
-      go : {ns : Numbers} {r : LinesStep} → LinesAs s place x y from text ns r → r ≡ linesSteps.At e →
-          (zs : List ℤ) × (ns ≡ numbers zs) × Put x y from e (text zs)
-      go (lined {zs = zs} {e = i} p) q =
-          let same : i ≡ e = cc in
-          (zs, refl, subst (λ (i : ℕ). Put x y from i (text zs)) same p)
-      go (lacks h b) q = let z : _≡_ {A = ℕ} 0 1 = cc in absurd (omega arith)
+-- faults, by the code's enum
+module _ {s : List ℕ} {place : Fault → ℕ → ℕ} where
+  pub fault-none : {ns : Numbers} {r : Faults} → FaultAs s place ns r → r ≡ faults.None →
+      (zs : List ℤ) × (ns ≡ numbers zs)
+  fault-none (faultless {zs = zs}) e = (zs, refl)
+  fault-none (lacks h b) e = let z : _≡_ {A = ℕ} 0 1 = cc in absurd (omega arith)
 
-  pub lines-refused : {q : Refusal} → r ≡ linesSteps.Refused q →
+  fault-refused : {ns : Numbers} {r : Faults} {q : Refusal} → FaultAs s place ns r → r ≡ faults.Refused q →
       (f : Fault) × (k : ℕ) × (ns ≡ lacking f k) × (q ≡ record { number = faultNumber f; place = place f k })
-  lines-refused {q} e = go l e
-    where
-      go : {ns : Numbers} {r : LinesStep} → LinesAs s place x y from text ns r → r ≡ linesSteps.Refused q →
-          (f : Fault) × (k : ℕ) × (ns ≡ lacking f k) × (q ≡ record { number = faultNumber f; place = place f k })
-      go (lined p) e = let z : _≡_ {A = ℕ} 0 1 = cc in absurd (omega arith)
-      go (lacks {f = f} {k = k} {r = o} h b) e =
-          let same : o ≡ q = cc in
-          (f, k, refl, sym same ∙ h)
+  fault-refused faultless e = let z : _≡_ {A = ℕ} 0 1 = cc in absurd (omega arith)
+  fault-refused {q = q} (lacks {f = f} {k = k} {r = o} h b) e =
+      let same : o ≡ q = cc in
+      (f, k, refl, sym same ∙ h)
 
-  pub lines-faults : FaultsIn s place ns
-  lines-faults = go l
-    where
-      go : {ns : Numbers} {r : LinesStep} → LinesAs s place x y from text ns r → FaultsIn s place ns
-      go (lined p) = tt
-      go (lacks h b) = b
-
-  -- the same lines as a part of others
-  pub lines-within : {v w : List ℕ} {to : ℕ} {whole : List ℤ → List ℕ} →
-      ((zs : List ℤ) (e : ℕ) → Put x y from e (text zs) → Put v w to e (whole zs)) → LinesAs s place v w to whole ns r
-  lines-within {v} {w} {to} {whole} f = go l
-    where
-      go : {ns : Numbers} {r : LinesStep} → LinesAs s place x y from text ns r → LinesAs s place v w to whole ns r
-      go (lined {zs = zs} {e = e} p) = lined (f zs e p)
-      go (lacks h b) = lacks h b
-
-numbers-same : {xs ys : List ℤ} → numbers xs ≡ numbers ys → xs ≡ ys
-numbers-same e = cc
-
-numbers-not-lacking : {B : Type 0} {zs : List ℤ} {f : Fault} {k : ℕ} → numbers zs ≡ lacking f k → B
-numbers-not-lacking e = let z : _≡_ {A = ℕ} 0 1 = cc in absurd (omega arith)
+  pub fault-rows : {ns : Numbers} {r : Faults} → FaultAs s place ns r → FaultsIn s place ns
+  fault-rows faultless = tt
+  fault-rows (lacks h b) = b
 
 -- the body's lines after the others
 pub listing-lines : {k l m o : List ℕ} {i j e : ℕ} (x : declaration.Declaration) (zs : List ℤ) →
@@ -214,51 +188,49 @@ pub listing-lines : {k l m o : List ℕ} {i j e : ℕ} (x : declaration.Declarat
 unfolding listing.listing
 listing-lines x zs p q t = joined p (joined q t)
 
--- a declaration d that begins at p, with its body at c
-module _ {s : List ℕ} {c : Cursor} (p : Point) (d : declaration.Declaration) (body : CursorAt s (bodyAt p) c) where
-  pub item-faults : FaultsIn s (faultIn (inside (point s c))) (numbersOf d) → FaultsIn s (faultPlace p) (numbersOf d)
-  item-faults h = subst (λ (y : Point). FaultsIn s (faultIn (inside y)) (numbersOf d)) (body .here) h
+-- a declaration d that begins at p, with its body at c, and its faults
+module _ {s : List ℕ} {c : Cursor} (p : Point) (d : declaration.Declaration) (body : CursorAt s (bodyAt p) c)
+    {r : Faults} (t : FaultAs s (faultIn (inside (point s c))) (numbersOf d) r) where
+  pub item-faults : FaultsIn s (faultPlace p) (numbersOf d)
+  item-faults = subst (λ (y : Point). FaultsIn s (faultIn (inside y)) (numbersOf d)) (body .here) (fault-rows t)
 
-  -- the answer in an output z, once the listing was measured
-  module _ {x y : List ℕ} (z : List ℕ) {r : LinesStep}
-      (t : LinesAs s (faultIn (inside (point s c))) x y 0 (λ zs. listing.listing zs d) (numbersOf d) r) where
+  -- the answer in an output z
+  module _ (z : List ℕ) where
     told : {ns : Numbers} → numbersOf d ≡ ns →
         outputs.fitted (length z) (listing.numberedAnswer p d (numbersOf d)) ≡
         outputs.fitted (length z) (listing.numberedAnswer p d ns)
     told e = ap (λ (ns : Numbers). outputs.fitted (length z) (listing.numberedAnswer p d ns)) e
 
-    pub measured-refused : (q : Refusal) → r ≡ linesSteps.Refused q →
+    pub faults-refused : (q : Refusal) → r ≡ faults.Refused q →
         WrittenAs z z (outputs.fitted (length z) (listing.numberedAnswer p d (numbersOf d))) (writtens.Refused q)
-    measured-refused q e =
-        let f = lines-refused t e in
+    faults-refused q e =
+        let f = fault-refused t e in
         let place : faultPlace p (f .0) (f .1) ≡ q .place =
         ap (λ (y : Point). faultIn (inside y) (f .0) (f .1)) (sym (body .here)) ∙
         sym (ap (λ (w : Refusal). w .place) (f .3)) in
         let number : faultNumber (f .0) ≡ q .number = sym (ap (λ (w : Refusal). w .number) (f .3)) in
         written-refused (told (f .2) ∙ (λ i. outputs.refused (number i) (place i)))
 
-    pub measured-short : (e : ℕ) → r ≡ linesSteps.At e → length z < e →
-        WrittenAs z z (outputs.fitted (length z) (listing.numberedAnswer p d (numbersOf d)))
-        (writtens.Refused (record { number = 8; place = list.END }))
-    measured-short e q h =
-        let l = lines-at t q in
-        written-as (told (l .1)) (fits-not (listing.listing (l .0) d) e (l .2 .next) h)
+    -- once the listing was measured, in an output x that is then y
+    module _ (e : r ≡ faults.None) {x y : List ℕ} {m : ℕ}
+        (q : (zs : List ℤ) → bodyNumbers (d .body) ≡ numbers zs → Put x y 0 m (listing.listing zs d)) where
+      abbrev zs : List ℤ
+      zs = fault-none t e .0
 
-    -- and written
-    module _ {w : List ℕ} {r2 : LinesStep}
-        (t2 : LinesAs s (faultIn (inside (point s c))) z w 0 (λ zs. listing.listing zs d) (numbersOf d) r2) (e : ℕ)
-        (q : r ≡ linesSteps.At e) where
-      pub measured-fits : (m : ℕ) → r2 ≡ linesSteps.At m → e ≤ length z →
-          WrittenAs z w (outputs.fitted (length z) (listing.numberedAnswer p d (numbersOf d))) (writtens.Text m)
-      measured-fits m q2 h =
-          let l = lines-at t q in
-          let l2 = lines-at t2 q2 in
-          let same : l2 .0 ≡ l .0 = numbers-same (sym (l2 .1) ∙ l .1) in
-          written-as (told (l .1)) (fits (listing.listing (l .0) d) e (l .2 .next) h
-          (subst (λ (zs : List ℤ). Put z w 0 m (listing.listing zs d)) same (l2 .2)))
+      each : bodyNumbers (d .body) ≡ numbers zs
+      each = distinct-numbers (bodyNames (d .body)) (bodyNumbers (d .body)) (fault-none t e .1)
 
-      pub measured-never : {B : Type 0} (v : Refusal) → r2 ≡ linesSteps.Refused v → B
-      measured-never v q2 = numbers-not-lacking (sym (lines-at t q .1) ∙ lines-refused t2 q2 .2)
+      pub measured-short : length z < m →
+          WrittenAs z z (outputs.fitted (length z) (listing.numberedAnswer p d (numbersOf d)))
+          (writtens.Refused (record { number = 8; place = list.END }))
+      measured-short h = written-as (told (fault-none t e .1))
+          (fits-not (listing.listing zs d) m (q zs each .next) h)
+
+      pub measured-fits : {w : List ℕ} {n : ℕ} →
+          ((zs : List ℤ) → bodyNumbers (d .body) ≡ numbers zs → Put z w 0 n (listing.listing zs d)) → m ≤ length z →
+          WrittenAs z w (outputs.fitted (length z) (listing.numberedAnswer p d (numbersOf d))) (writtens.Text n)
+      measured-fits v h = written-as (told (fault-none t e .1))
+          (fits (listing.listing zs d) m (q zs each .next) h (v zs each))
 
 module _ (s : List ℕ) (n : ℕ) where
   abbrev fittedBy : list.Answer → outputs.Answer
@@ -275,11 +247,14 @@ module _ (s : List ℕ) (n : ℕ) where
 
   -- a refusal of the reading is one of the listing
   wider : {m p : ℕ} → OneRefusal readNumber s m p → OneRefusal listing.listingNumber s m p
-  wider {m} o = record { one = or-holds (readNumber m) (between 42 43 m) (o .one); stands = o .stands }
+  wider {m} o =
+      record { one = or-holds (readNumber m) (between 42 43 m || between 50 51 m) (o .one); stands = o .stands }
 
   fault-one : (f : Fault) → listing.listingNumber (faultNumber f) ≡ true
   fault-one noInteger = refl
   fault-one noStep = refl
+  fault-one nameAgain = refl
+  fault-one numberAgain = refl
 
   module _ {rows : ℕ} (e : list.check s ≡ list.Answer.passed rows) where
     fault-refusal : (f : Fault) (p : ℕ) → Begins s p → OneRefusal listing.listingNumber s (faultNumber f) p

@@ -1,14 +1,16 @@
--- What integer literals are worth on the edges of their forms, and numbers of variants, by computation (document 02,
--- card 2).
+-- What integer literals are worth on the edges of their forms, numbers of variants, and variants that share a name or a
+-- number, by computation (document 02, cards 2 and 9).
 use mathlib.Core.Path.{_≡_, refl}
-use mathlib.Core.List.{[], _∷_, map}
+use mathlib.Core.List.{List, [], _∷_, map}
+use Prim.Native.Nat.{ℕ}
 use lib.IntN.{pos, negsuc}
 use lib.ListN.{replicate}
 use Rattle.token_list.specs.Byte.{bytes}
 use Rattle.reading.specs.Token.{MAX-I64}
 use Rattle.reading.specs.Declaration.{unit, Value, absent, literal, negative, Variant}
 use Rattle.describe.specs.Integer.{none, counts, digitWorth, bits, radixOf, integer, inRange}
-use Rattle.describe.specs.Numbers.{noInteger, noStep, numbers, lacking, numbersFrom, BEFORE-FIRST}
+use Rattle.describe.specs.Numbers.{noInteger, noStep, nameAgain, numberAgain, Numbers, numbers, lacking}
+use Rattle.describe.specs.Numbers.{numbersFrom, BEFORE-FIRST, distinct, variantNames}
 
 -- ## Literals
 
@@ -59,3 +61,32 @@ pub no-integer : numbersFrom BEFORE-FIRST 0
     ≡ lacking noInteger 1
 unfolding integer digitWorth bits radixOf
 no-integer = refl
+
+-- ## Doubles
+
+abbrev named : List ℕ → Value → Variant
+named n v = record { attributes = []; name = n; fields = unit; value = v }
+
+abbrev judged : List Variant → Numbers
+judged vs = distinct (variantNames vs) (numbersFrom BEFORE-FIRST 0 vs)
+
+-- `r#` aside
+pub same-name : judged (named (bytes "Main") absent ∷ named (bytes "r#Main") absent ∷ []) ≡ lacking nameAgain 1
+same-name = refl
+
+-- one is counted, the other written
+pub same-number : judged
+    (named (bytes "A") (negative 1) ∷ named (bytes "B") absent ∷ named (bytes "C") (negative 0) ∷ [])
+    ≡ lacking numberAgain 2
+same-number = refl
+
+-- all names before any number, and only the first
+pub names-first : judged (named (bytes "A") (negative 1) ∷ named (bytes "B") (negative 1) ∷ named (bytes "C") absent ∷
+    named (bytes "A") absent ∷ named (bytes "B") absent ∷ []) ≡ lacking nameAgain 3
+names-first = refl
+
+-- after a variant without a number
+pub no-number-first : judged (named (bytes "A") absent ∷ named (bytes "A") absent ∷
+    named (bytes "B") (literal (bytes "1.5")) ∷ []) ≡ lacking noInteger 2
+unfolding integer digitWorth bits radixOf
+no-number-first = refl

@@ -33,9 +33,10 @@ use Rattle.reading.specs.Reading.{item}
 use Rattle.reading.proofs.Frame.{framed-cases}
 use Rattle.reading.proofs.Conserved.{ownNumber, refusal-number, item-conserved}
 use Rattle.describe.specs.Integer.{Worth, none, counts, integer, inRange}
-use Rattle.describe.specs.Numbers.{Number, number, without, noInteger, noStep, following, valued, minus}
+use Rattle.describe.specs.Numbers.{Number, number, without, noInteger, noStep, nameAgain, numberAgain}
 use Rattle.describe.specs.Numbers.{numberAfter, Numbers, numbers, lacking, preceding, andThen, numbersFrom}
-use Rattle.describe.specs.Numbers.{BEFORE-FIRST, bodyNumbers, numbersOf}
+use Rattle.describe.specs.Numbers.{following, valued, minus, BEFORE-FIRST, bodyNumbers, bodyNames, numbersOf}
+use Rattle.describe.proofs.Numbering.{distinct-is}
 use Rattle.describe.specs.Listing.{line, numbered, parameterLine, namedLine, tupleLine, fieldLines, numberText}
 use Rattle.describe.specs.Listing.{variantLines, bodyLines, kindText, listing, numberedAnswer, itemAnswer}
 use Rattle.describe.specs.Listing.{fullAnswer, answer, listingNumber, MOST, Fits}
@@ -213,6 +214,8 @@ module _ (s : List ℕ) where
   by-numbers d h (numbers zs) r = omega (arith, listing-length zs r d (omega arith))
   by-numbers d h (lacking noInteger k) r = λ q. omega arith
   by-numbers d h (lacking noStep k) r = λ q. omega arith
+  by-numbers d h (lacking nameAgain k) r = λ q. omega arith
+  by-numbers d h (lacking numberAgain k) r = λ q. omega arith
 
   by-item : {n : ℕ} → list.check s ≡ list.Answer.passed n → (t : Took Declaration) → item 0 (at s (firstRow s) .here)
       ≡ t →
@@ -222,7 +225,9 @@ module _ (s : List ℕ) where
       let size = passed-list s n e .size in
       let c : itemCost d ≤ 176128 =
       omega (arith, item-cost 0 (at s (firstRow s) .here) f, size, b .texts, b .bytes, b .rows) in
-      by-numbers d c (numbersOf d) (body-ranged (d .body))
+      let ranged = distinct-is AllRanged (λ f k. tt) (bodyNames (d .body)) (bodyNumbers (d .body))
+      (body-ranged (d .body)) in
+      by-numbers d c (numbersOf d) ranged
   by-item e (stopped w n p) f = λ q. true≢false
       (sym (refusal-number (item-conserved (at s (firstRow s) .here) f)) ∙ ap ownNumber q)
 

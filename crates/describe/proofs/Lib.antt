@@ -6,6 +6,8 @@ pub mod Costs
 pub mod Lined
 pub mod Integers
 pub mod Numbering
+pub mod Sightings
+pub mod Distinct
 pub mod Length
 pub mod Marks
 pub mod Examples

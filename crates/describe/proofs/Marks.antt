@@ -22,9 +22,9 @@ use Rattle.reading.specs.Marks.{unmarkedPoint}
 use Rattle.reading.proofs.Marks.{item-same, framed-same, bodyAt-unmarked, inside-unmarked, variantAt-unmarked}
 use Rattle.reading.proofs.Marks.{equalsAt-unmarked, variantNameAt-unmarked}
 use Rattle.describe.specs.Marks.{ListedAlike}
-use Rattle.describe.specs.Numbers.{Fault, noInteger, noStep, faultNumber, faultRow}
+use Rattle.describe.specs.Numbers.{Fault, noInteger, noStep, nameAgain, numberAgain, faultNumber, faultRow}
 use Rattle.describe.specs.Numbers.{numberAfter, Numbers, numbers, lacking, andThen, numbersFrom}
-use Rattle.describe.specs.Numbers.{BEFORE-FIRST, bodyNumbers, numbersOf}
+use Rattle.describe.specs.Numbers.{BEFORE-FIRST, bodyNumbers, variantNames, bodyNames, distinct, numbersOf}
 use Rattle.describe.specs.Listing as listing
 use Rattle.describe.specs.Listing.{numbered}
 use Rattle.describe.specs.Value as value
@@ -86,6 +86,17 @@ bodyNumbers-unmarked : (b : Body) → bodyNumbers (unmarkedBody b) ≡ bodyNumbe
 bodyNumbers-unmarked (fields f) = refl
 bodyNumbers-unmarked (variants vs) = numbersFrom-unmarked BEFORE-FIRST 0 vs
 
+names-unmarked : (vs : List Variant) → variantNames (map unmarkedVariant vs) ≡ variantNames vs
+names-unmarked [] = refl
+names-unmarked (v ∷ vs) = ap (λ (ns : List (List ℕ)). v .name ∷ ns) (names-unmarked vs)
+
+bodyNames-unmarked : (b : Body) → bodyNames (unmarkedBody b) ≡ bodyNames b
+bodyNames-unmarked (fields f) = refl
+bodyNames-unmarked (variants vs) = names-unmarked vs
+
+numbersOf-unmarked : (d : Declaration) → numbersOf (unmarkedDeclaration d) ≡ numbersOf d
+numbersOf-unmarked d = λ i. distinct (bodyNames-unmarked (d .body) i) (bodyNumbers-unmarked (d .body) i)
+
 -- the point of a variant
 variant-unmarked : (x : Point) (k : ℕ) →
     variantAt k (inside (bodyAt (unmarkedPoint x))) ≡ unmarkedPoint (variantAt k (inside (bodyAt x)))
@@ -96,6 +107,8 @@ variant-unmarked x k =
 faultRow-unmarked : (f : Fault) (x : Point) → faultRow f (unmarkedPoint x) ≡ faultRow f x
 faultRow-unmarked noInteger x = ap (λ (y : Point). y .row + 1) (equalsAt-unmarked x)
 faultRow-unmarked noStep x = ap (λ (y : Point). y .row) (variantNameAt-unmarked x)
+faultRow-unmarked nameAgain x = ap (λ (y : Point). y .row) (variantNameAt-unmarked x)
+faultRow-unmarked numberAgain x = ap (λ (y : Point). y .row) (variantNameAt-unmarked x)
 
 numberedAnswer-unmarked : (x : Point) (d : Declaration) (ns : Numbers) →
     listing.numberedAnswer (unmarkedPoint x) (unmarkedDeclaration d) ns ≡ listing.numberedAnswer x d ns
@@ -107,7 +120,7 @@ numberedAnswer-unmarked x d (lacking f k) =
 listed-unmarked : (x : Point) (u : Took Declaration) →
     listing.itemAnswer (unmarkedPoint x) (unmarkedTook unmarkedDeclaration u) ≡ listing.itemAnswer x u
 listed-unmarked x (took d rs us) =
-    ap (listing.numberedAnswer (unmarkedPoint x) (unmarkedDeclaration d)) (bodyNumbers-unmarked (d .body)) ∙
+    ap (listing.numberedAnswer (unmarkedPoint x) (unmarkedDeclaration d)) (numbersOf-unmarked d) ∙
     numberedAnswer-unmarked x d (numbersOf d)
 listed-unmarked x (stopped w n p) = refl
 

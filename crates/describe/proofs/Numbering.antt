@@ -1,4 +1,4 @@
--- Laws on the numbers of variants: one number, and the lines of variants that are read one after the other.
+-- Laws on the numbers of variants: one number, and the numbers and lines of variants that are read one after the other.
 use mathlib.Core.Path.{_≡_, refl, ap, _∙_, sym, subst, subst⁻¹}
 use mathlib.Core.Bool.{Bool, true, false, cond}
 use mathlib.Core.List.{List, [], _∷_, _++_, append-assoc, append-nil}
@@ -34,22 +34,24 @@ use Rattle.parse.specs.declared.variants.VariantAt.{VariantAt}
 use Rattle.parse.specs.declared.variants.VariantStep.{VariantStep}
 use Rattle.parse.specs.declared.variants.VariantStep.the-variants as variantSteps
 use Rattle.parse.proofs.Meeting.{say}
-use Rattle.parse.proofs.Inside.{inside-more, inside-done, inside-refused, forward}
+use Rattle.parse.proofs.Inside.{OneAt, inside-more, inside-done, inside-refused, forward}
 use Rattle.parse.proofs.Places.{meets-beyond}
 use Rattle.describe.specs.Integer.{counts, integer, inRange}
 use Rattle.describe.specs.Numbers.{Fault, noStep, Number, number, without, faultNumber, following, valued, minus}
 use Rattle.describe.specs.Numbers.{numberAfter}
 use Rattle.describe.specs.Numbers.{Numbers, numbers, lacking, preceding, andThen, numbersFrom, BEFORE-FIRST}
-use Rattle.describe.specs.Numbers.{faultRow, faultIn}
+use Rattle.describe.specs.Numbers.{nameAgain, numberAgain, orDouble, distinct, faultRow}
 use Rattle.describe.specs.Value.{negativeText}
 use Rattle.describe.specs.Listing.{numbered, numberText, variantLines, variantLine, fieldLines}
-use Rattle.describe.specs.Contract.{worthOf, signed, numberOf, NumberAs, counted, faulty, Begins}
-use Rattle.describe.specs.Contract.{NumberIn, LinesAs, lined, lacks}
+use Rattle.doubles.specs.Double as double
+use Rattle.doubles.specs.Double.{Double, second, firstDouble}
+use Rattle.doubles.specs.Same.{sameName, sameInteger}
+use Rattle.doubles.specs.Contract.{signed}
+use Rattle.describe.specs.Contract.{worthOf, numberOf, NumberAs, counted, faulty, Begins, NumberIn}
 use Rattle.describe.specs.declared.numbers.Worth as worths
 use Rattle.describe.specs.declared.numbers.Number as declared
 use Rattle.describe.specs.declared.numbers.NumberStep.{NumberStep}
 use Rattle.describe.specs.declared.numbers.NumberStep.the-variants as steps
-use Rattle.describe.specs.declared.listing.LinesStep.the-variants as linesSteps
 use Rattle.describe.proofs.Worths.{negative-none, negative-some}
 use Rattle.describe.proofs.Lined.{numbered-more}
 
@@ -224,17 +226,103 @@ variant-next k x = ap (λ (n : ℕ). variantAt n x) (add-one k) ∙ go k x
     go zero x = refl
     go (suc k) x = go k (beyond reading.variant x)
 
--- the first variants of vs have their lines, with the numbers zs, the last of which is z; the others are read at c
-pub record Written (s : List ℕ) (from c : Cursor) (before now : List ℕ) (start at : ℕ) (z : ℤ) (vs : List Variant)
-    : Type 0 where
-  pub first : List Variant
+-- the first variants of vs are counted, with the numbers zs, the last of which is z; the others are read at c
+pub record Counted (s : List ℕ) (from c : Cursor) (z : ℤ) (vs first : List Variant) (zs : List ℤ) : Type 0 where
   pub others : List Variant
-  pub zs : List ℤ
   pub split : vs ≡ first ++ others
-  pub counted : length zs ≡ length first
+  pub even : length zs ≡ length first
   pub inside : InsideAt (every reading.variant) s c others
   pub same : numbersFrom BEFORE-FIRST 0 vs ≡ precedingAll zs (numbersFrom z (length first) others)
   pub place : variantAt (length first) (point s from) ≡ point s c
+
+-- what a turn answered, by the code's own enum
+pub variant-turn : {s : List ℕ} {c : Cursor} {r0 r1 : List ℕ} {t : Took (Maybe Variant)} {x y : VariantStep} → x ≡ y →
+    Meets s c r0 r1 (variantShown s c x) (variantSaid x) t → Meets s c r0 r1 (variantShown s c y) (variantSaid y) t
+variant-turn {s} {c} e w = say (variantShown s c) variantSaid e w
+
+-- a variant that is read at c
+module _ {s : List ℕ} {c : Cursor} (p : VariantAt) {r1 r2 : List ℕ}
+    (w : Meets s c r1 r2 (variantShown s c (variantSteps.One p)) (on (p .next))
+    (reading.variant (c .row) (stream s c))) where
+  abbrev pub Told : Variant → Type 0
+  Told a = VariantOf s p a × VariantPlaces s c p a
+
+  told : (v : Maybe Variant) → variantShown s c (variantSteps.One p) v → (a : Variant) × (v ≡ one a) × Told a
+  told v h = (h .0, h .1, (h .2, h .3))
+
+  pub variant-less : length s - p .next .at < length s - c .at
+  variant-less =
+      let n = forward reading.variant variant-round w told in
+      omega (arith, n .0, n .1 .within)
+
+  pub variant-in : InList s (p .next)
+  variant-in = forward reading.variant variant-round w told .1
+
+  module _ {from : Cursor} {z : ℤ} {vs first : List Variant} {zs : List ℤ} (t : Counted s from c z vs first zs) where
+    pub variant-one : OneAt reading.variant s (p .next) Told (t .others)
+    variant-one = inside-more reading.variant variant-round (t .inside) w told
+
+    -- one variant more is counted
+    pub counted-more : (y : ℤ) → numberAfter z (variant-one .first .value) ≡ number y →
+        Counted s from (p .next) y vs (first ++ variant-one .first ∷ []) (zs ++ y ∷ [])
+    counted-more y q =
+        let o = variant-one in
+        let n = length first in
+        let count : length (first ++ o .first ∷ []) ≡ n + 1 = length-append first (o .first ∷ []) in
+        let step : numbersFrom z n (t .others) ≡ preceding y (numbersFrom y (n + 1) (o .others)) =
+        ap (numbersFrom z n) (o .split) ∙
+        ap (λ (x : Number). andThen n x (λ u. numbersFrom u (n + 1) (o .others))) q in
+        record {
+          others = o .others;
+          split = t .split ∙ ap (λ (ys : List Variant). first ++ ys) (o .split) ∙
+              sym (append-assoc first (o .first ∷ []) (o .others));
+          even = omega (arith, t .even, count, length-append zs (y ∷ []));
+          inside = o .inside;
+          same = t .same ∙ ap (precedingAll zs) step ∙ all-more zs y (numbersFrom y (n + 1) (o .others)) ∙
+              ap (λ (k : ℕ). precedingAll (zs ++ y ∷ []) (numbersFrom y k (o .others))) (sym count);
+          place = ap (λ (k : ℕ). variantAt k (point s from)) count ∙ variant-next n (point s from) ∙
+              ap (beyond reading.variant) (t .place) ∙ sym (meets-beyond reading.variant w .here);
+        }
+
+    -- it has no number
+    pub counted-lacks : {f : Fault} → numberAfter z (variant-one .first .value) ≡ without f →
+        numbersFrom BEFORE-FIRST 0 vs ≡ lacking f (length first)
+    counted-lacks {f} q =
+        let o = variant-one in
+        let n = length first in
+        t .same ∙ ap (λ (ys : List Variant). precedingAll zs (numbersFrom z n ys)) (o .split) ∙
+        ap (λ (x : Number). precedingAll zs (andThen n x (λ u. numbersFrom u (n + 1) (o .others)))) q ∙
+        all-lacking zs f n
+
+-- at the last
+module _ {s : List ℕ} {from c : Cursor} {z : ℤ} {vs first : List Variant} {zs : List ℤ} {r1 r2 : List ℕ}
+    (t : Counted s from c z vs first zs) where
+  pub counted-done : {d : Cursor} {sh : Maybe Variant → Type 0} →
+      Meets s c r1 r2 sh (on d) (reading.variant (c .row) (stream s c)) → ((v : Maybe Variant) → sh v → v ≡ done)
+      → (numbersFrom BEFORE-FIRST 0 vs ≡ numbers zs) × (vs ≡ first)
+  counted-done w g =
+      let last = inside-done reading.variant variant-round (t .inside) w g in (
+        t .same ∙ ap (λ (ys : List Variant). precedingAll zs (numbersFrom z (length first) ys)) last ∙ all-none zs,
+        t .split ∙ ap (λ (ys : List Variant). first ++ ys) last ∙ append-nil first,
+      )
+
+  pub counted-refused : {B : Type 0} {sh : Maybe Variant → Type 0} {n p : ℕ} →
+      Meets s c r1 r2 sh (no n p) (reading.variant (c .row) (stream s c)) → B
+  counted-refused w = inside-refused reading.variant variant-round (t .inside) w
+
+pub counted-start : {s : List ℕ} {from : Cursor} {vs : List Variant} → InsideAt (every reading.variant) s from vs →
+    Counted s from from BEFORE-FIRST vs [] []
+counted-start {vs = vs} k =
+    record { others = vs; split = refl; even = refl; inside = k; same = refl; place = refl }
+
+-- ## The lines of variants
+
+-- those that are counted have their lines
+pub record Written (s : List ℕ) (from c : Cursor) (before now : List ℕ) (start at : ℕ) (z : ℤ) (vs : List Variant)
+    : Type 0 where
+  pub first : List Variant
+  pub zs : List ℤ
+  pub counted : Counted s from c z vs first zs
   pub text : Put before now start at (numbered (variantLines zs) 0 first)
 
 -- from one turn to the next: the lent slices have their lengths
@@ -246,10 +334,28 @@ pub record Numbering (s : List ℕ) (from c : Cursor) (roles₀ roles out₀ out
   pub written : (vs : List Variant) → InsideAt (every reading.variant) s from vs →
       Written s from c out₀ out start at z vs
 
--- what a turn answered, by the code's own enum
-pub variant-turn : {s : List ℕ} {c : Cursor} {r0 r1 : List ℕ} {t : Took (Maybe Variant)} {x y : VariantStep} → x ≡ y →
-    Meets s c r0 r1 (variantShown s c x) (variantSaid x) t → Meets s c r0 r1 (variantShown s c y) (variantSaid y) t
-variant-turn {s} {c} e w = say (variantShown s c) variantSaid e w
+pub numbers-same : {xs ys : List ℤ} → numbers xs ≡ numbers ys → xs ≡ ys
+numbers-same e = cc
+
+pub numbers-not-lacking : {B : Type 0} {zs : List ℤ} {f : Fault} {k : ℕ} → numbers zs ≡ lacking f k → B
+numbers-not-lacking e = let z : _≡_ {A = ℕ} 0 1 = cc in absurd (omega arith)
+
+-- where no two variants share a name or a number, the numbers are what they were
+pub distinct-is : (P : Numbers → Type 0) → ((f : Fault) (k : ℕ) → P (lacking f k)) → (names : List (List ℕ))
+    (ns : Numbers) → P ns → P (distinct names ns)
+distinct-is P other names (numbers zs) h = go (firstDouble sameName names) (firstDouble sameInteger zs)
+  where
+    go : (d g : Double) → P (orDouble nameAgain d (orDouble numberAgain g (numbers zs)))
+    go double.none double.none = h
+    go double.none (second k) = other numberAgain k
+    go (second k) g = other nameAgain k
+distinct-is P other names (lacking f k) h = h
+
+pub distinct-numbers : (names : List (List ℕ)) (ns : Numbers) {zs : List ℤ} → distinct names ns ≡ numbers zs →
+    ns ≡ numbers zs
+distinct-numbers names ns {zs} =
+    distinct-is (λ (x : Numbers). x ≡ numbers zs → ns ≡ numbers zs) (λ f k e. numbers-not-lacking (sym e)) names ns
+    (λ e. e)
 
 module _ {s : List ℕ} {from : Cursor} {r0 b0 : List ℕ} {start : ℕ} where
   pub numbering-start : InList s from → length b0 < FAR → Numbering s from from r0 r0 b0 b0 start start BEFORE-FIRST
@@ -258,33 +364,16 @@ module _ {s : List ℕ} {from : Cursor} {r0 b0 : List ℕ} {start : ℕ} where
         inList = i;
         rolesKept = refl;
         outKept = refl;
-        written = λ vs k. record {
-          first = [];
-          others = vs;
-          zs = [];
-          split = refl;
-          counted = refl;
-          inside = k;
-          same = refl;
-          place = refl;
-          text = nothing b0 start h;
-        };
+        written = λ vs k. record { first = []; zs = []; counted = counted-start k; text = nothing b0 start h };
       }
 
   module _ {c : Cursor} {r1 b1 : List ℕ} {at : ℕ} {z : ℤ} (l : Numbering s from c r0 r1 b0 b1 start at z) where
+    abbrev Lines : List Variant → Type 0
+    Lines vs = (zs : List ℤ) → numbersFrom BEFORE-FIRST 0 vs ≡ numbers zs →
+        Put b0 b1 start at (numbered (variantLines zs) 0 vs)
+
     module _ (p : VariantAt) {r2 : List ℕ} (w : Meets s c r1 r2 (variantShown s c (variantSteps.One p)) (on (p .next))
         (reading.variant (c .row) (stream s c))) where
-      abbrev Told : Variant → Type 0
-      Told a = VariantOf s p a × VariantPlaces s c p a
-
-      told : (v : Maybe Variant) → variantShown s c (variantSteps.One p) v → (a : Variant) × (v ≡ one a) × Told a
-      told v h = (h .0, h .1, (h .2, h .3))
-
-      pub numbering-less : length s - p .next .at < length s - c .at
-      numbering-less =
-          let n = forward reading.variant variant-round w told in
-          omega (arith, n .0, n .1 .within)
-
       -- one variant more has its line
       pub numbering-more : {r3 b2 : List ℕ} {at2 : ℕ} (y : ℤ) →
           ((a : Variant) → VariantOf s p a → VariantPlaces s c p a → numberAfter z (a .value) ≡ number y) →
@@ -292,7 +381,7 @@ module _ {s : List ℕ} {from : Cursor} {r0 b0 : List ℕ} {start : ℕ} where
           length r3 ≡ length r1 → length b2 ≡ length b1 → Numbering s from (p .next) r0 r3 b0 b2 start at2 y
       numbering-more {r3} {b2} {at2} y q text e f =
           record {
-            inList = forward reading.variant variant-round w told .1;
+            inList = variant-in p w;
             rolesKept = e ∙ l .rolesKept;
             outKept = f ∙ l .outKept;
             written = more;
@@ -302,75 +391,37 @@ module _ {s : List ℕ} {from : Cursor} {r0 b0 : List ℕ} {start : ℕ} where
               Written s from (p .next) b0 b2 start at2 y vs
           more vs k =
               let t = l .written vs k in
-              let o = inside-more reading.variant variant-round (t .inside) w told in
+              let o = variant-one p w (t .counted) in
               let v = o .first in
-              let count : length (t .first ++ v ∷ []) ≡ length (t .first) + 1 = length-append (t .first) (v ∷ []) in
-              let step : numbersFrom z (length (t .first)) (t .others) ≡
-              preceding y (numbersFrom y (length (t .first) + 1) (o .others)) =
-              ap (numbersFrom z (length (t .first))) (o .split) ∙
-              ap (λ (x : Number). andThen (length (t .first)) x
-              (λ u. numbersFrom u (length (t .first) + 1) (o .others))) (q v (o .shown .0) (o .shown .1)) in
               record {
                 first = t .first ++ v ∷ [];
-                others = o .others;
                 zs = t .zs ++ y ∷ [];
-                split = t .split ∙ ap (λ (ys : List Variant). t .first ++ ys) (o .split) ∙
-                    sym (append-assoc (t .first) (v ∷ []) (o .others));
-                counted = omega (arith, t .counted, count, length-append (t .zs) (y ∷ []));
-                inside = o .inside;
-                same = t .same ∙ ap (precedingAll (t .zs)) step ∙
-                    all-more (t .zs) y (numbersFrom y (length (t .first) + 1) (o .others)) ∙
-                    ap (λ (k : ℕ). precedingAll (t .zs ++ y ∷ []) (numbersFrom y k (o .others))) (sym count);
-                place = ap (λ (k : ℕ). variantAt k (point s from)) count ∙
-                    variant-next (length (t .first)) (point s from) ∙ ap (beyond reading.variant) (t .place) ∙
-                    sym (meets-beyond reading.variant w .here);
-                text = put-as (lines-more (t .zs) (t .first) y v (t .counted))
+                counted = counted-more p w (t .counted) y (q v (o .shown .0) (o .shown .1));
+                text = put-as (lines-more (t .zs) (t .first) y v (t .counted .even))
                     (joined (t .text) (text v (o .shown .0)));
               }
 
-      -- the variant has no number
+      -- the variant has no number, though every one has
       pub numbering-lacks : {r : NumberStep} {q : Refusal} →
           ((a : Variant) → VariantOf s p a → VariantPlaces s c p a →
-          NumberAs (λ f. faultRow f (point s c)) (numberAfter z (a .value)) r) →
-          ((a : Variant) → VariantPlaces s c p a → NumberIn s r) → r ≡ steps.Refused q →
-          (vs : List Variant) → InsideAt (every reading.variant) s from vs →
-          LinesAs s (faultIn (point s from)) b0 b1 start (λ zs. numbered (variantLines zs) 0 vs)
-          (numbersFrom BEFORE-FIRST 0 vs) (linesSteps.Refused q)
-      numbering-lacks {r} {q} answer row e vs k =
-          let t = l .written vs k in
-          let o = inside-more reading.variant variant-round (t .inside) w told in
-          let n = length (t .first) in
+          NumberAs (λ f. faultRow f (point s c)) (numberAfter z (a .value)) r) → r ≡ steps.Refused q →
+          (vs : List Variant) → InsideAt (every reading.variant) s from vs → Lines vs
+      numbering-lacks answer e vs k zs h =
+          let t = l .written vs k .counted in
+          let o = variant-one p w t in
           let fault = number-refused (answer (o .first) (o .shown .0) (o .shown .1)) e in
-          let f = fault .0 in
-          let begins = subst (NumberIn s) e (row (o .first) (o .shown .1)) in
-          let none : numbersFrom BEFORE-FIRST 0 vs ≡ lacking f n =
-          t .same ∙ ap (λ (ys : List Variant). precedingAll (t .zs) (numbersFrom z n ys)) (o .split) ∙
-          ap (λ (x : Number). precedingAll (t .zs) (andThen n x (λ u. numbersFrom u (n + 1) (o .others)))) (fault .1) ∙
-          all-lacking (t .zs) f n in
-          let here : faultRow f (point s c) ≡ faultIn (point s from) f n = ap (faultRow f) (sym (t .place)) in
-          let said = fault .2 ∙ ap (λ (i : ℕ). record { number = faultNumber f; place = i }) here in
-          subst⁻¹ (λ (ns : Numbers). LinesAs s (faultIn (point s from)) b0 b1 start
-          (λ zs. numbered (variantLines zs) 0 vs) ns (linesSteps.Refused q)) none
-          (lacks said (subst (Begins s) (ap (λ (i : Refusal). i .place) said) begins))
+          numbers-not-lacking (sym h ∙ counted-lacks p w t (fault .1))
 
     pub numbering-done : {r2 : List ℕ} {d : Cursor} {sh : Maybe Variant → Type 0} →
         Meets s c r1 r2 sh (on d) (reading.variant (c .row) (stream s c)) → ((v : Maybe Variant) → sh v → v ≡ done)
-        → (vs : List Variant) → InsideAt (every reading.variant) s from vs →
-        LinesAs s (faultIn (point s from)) b0 b1 start (λ zs. numbered (variantLines zs) 0 vs)
-        (numbersFrom BEFORE-FIRST 0 vs) (linesSteps.At at)
-    numbering-done w g vs k =
+        → (vs : List Variant) → InsideAt (every reading.variant) s from vs → Lines vs
+    numbering-done w g vs k zs h =
         let t = l .written vs k in
-        let last = inside-done reading.variant variant-round (t .inside) w g in
-        let n = length (t .first) in
-        let all : numbersFrom BEFORE-FIRST 0 vs ≡ numbers (t .zs) =
-        t .same ∙ ap (λ (ys : List Variant). precedingAll (t .zs) (numbersFrom z n ys)) last ∙ all-none (t .zs) in
-        let whole : vs ≡ t .first =
-        t .split ∙ ap (λ (ys : List Variant). t .first ++ ys) last ∙ append-nil (t .first) in
-        subst⁻¹ (λ (ns : Numbers). LinesAs s (faultIn (point s from)) b0 b1 start
-        (λ zs. numbered (variantLines zs) 0 vs) ns (linesSteps.At at)) all
-        (lined (put-as (ap (numbered (variantLines (t .zs)) 0) whole) (t .text)))
+        let all = counted-done (t .counted) w g in
+        let same : zs ≡ t .zs = numbers-same (sym h ∙ all .0) in
+        put-as (λ i. numbered (variantLines (same i)) 0 (all .1 i)) (t .text)
 
     pub numbering-refused : {B : Type 0} {r2 : List ℕ} {sh : Maybe Variant → Type 0} {n p : ℕ} →
         Meets s c r1 r2 sh (no n p) (reading.variant (c .row) (stream s c))
         → (vs : List Variant) → InsideAt (every reading.variant) s from vs → B
-    numbering-refused w vs k = inside-refused reading.variant variant-round (l .written vs k .inside) w
+    numbering-refused w vs k = counted-refused (l .written vs k .counted) w

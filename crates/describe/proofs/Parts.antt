@@ -2,29 +2,23 @@
 use mathlib.Core.Path.{_≡_, refl, ap, _∙_, sym, subst, subst⁻¹}
 use mathlib.Core.Bool.{Bool, true, false, cond}
 use mathlib.Core.List.{List, []}
-use Prim.Native.Nat.{ℕ, _+_, _<_}
+use Prim.Native.Nat.{ℕ, _+_}
 use lib.Dec.{eqb}
 use lib.IntN.{ℤ}
-use lib.ListN.{length}
 use Rattle.token_list.specs.Byte.{BRACE, PARENTHESIS, SEMICOLON}
 use Rattle.token_list.specs.Stream.{Trees, end, leaf, group, at}
 use Rattle.token_list.specs.Contract.{LeafAt, GroupAt, rowOf}
 use Rattle.token_list.specs.declared.check.Cursor.{Cursor}
 use Rattle.token_list.specs.declared.stream.Token.{Token}
 use Rattle.reading.specs.Declaration as declaration
-use Rattle.output.specs.Contract.{FAR}
-use Rattle.output.proofs.Texts.{nothing, put-as}
-use Rattle.reading.specs.Took.{Took, took, stopped, refuse, Reader, after, pure, Point}
+use Rattle.reading.specs.Took.{Took, took, stopped, refuse, Reader, after, pure}
 use Rattle.reading.specs.Reading as reading
 use Rattle.reading.specs.Place.{insideOf, inside}
 use Rattle.parse.specs.Contract.{stream, point, pastOf, InsideAt}
 use Rattle.parse.proofs.Meeting.{past-in}
 use Rattle.describe.specs.Value.{bodyValue}
-use Rattle.describe.specs.Numbers.{Fault, faultIn, Numbers, numbers, bodyNumbers}
 use Rattle.describe.specs.Listing.{bodyLines}
-use Rattle.describe.specs.Contract.{fieldsIn, StructAt, LinesAs, lined}
-use Rattle.describe.specs.declared.listing.LinesStep.{LinesStep}
-use Rattle.describe.specs.declared.listing.LinesStep.the-variants as linesSteps
+use Rattle.describe.specs.Contract.{fieldsIn, StructAt}
 use Rattle.parse.proofs.Inside.{took-not-refuse, took-value}
 
 -- by either branch of a choice
@@ -57,9 +51,13 @@ struct-fields row (group d ts us) e =
     (either (eqb d PARENTHESIS) (λ h. let w = within reading.tupleFields declaration.fields row ts us h in (w .0, w .1))
     took-not-refuse) e
 
+pub struct-body : {s : List ℕ} {c : Cursor} {b : declaration.Body} → InsideAt reading.structBody s c b →
+    (f : declaration.Fields) × (b ≡ declaration.fields f)
+struct-body {s} {c} i = struct-fields (c .row) (stream s c) (i .gives)
+
 pub struct-value : {s : List ℕ} {c : Cursor} {b : declaration.Body} (k : ℕ) → InsideAt reading.structBody s c b →
     bodyValue k b ≡ declaration.absent
-struct-value {s} {c} {b} k i = ap (bodyValue k) (struct-fields (c .row) (stream s c) (i .gives) .1)
+struct-value k i = ap (bodyValue k) (struct-body i .1)
 
 -- the cursor inside a group
 pub inside-point : (s : List ℕ) (c d : Cursor) (t : Token) → GroupAt s (c .at) t → d ≡ pastOf c t →
@@ -138,33 +136,10 @@ module _ {s : List ℕ} {c : Cursor} {b : declaration.Body} (i : InsideAt readin
   struct-end e = took-not-refuse (ap (reading.structBody (c .row)) (sym e) ∙ i .gives)
 
 -- a body without a group has no lines
-pub body-leaf : (k : declaration.Kind) {s : List ℕ} {c : Cursor} {b : declaration.Body} {t : Token} →
-    InsideAt (reading.bodyOf k) s c b → LeafAt s (c .at) t → (bodyNumbers b ≡ numbers []) × (bodyLines [] b ≡ [])
-body-leaf declaration.struct {t = t} i l =
-    let e = struct-leaf i t l in (ap bodyNumbers e, ap (bodyLines []) e)
-body-leaf declaration.enum {t = t} i l =
-    let e = enum-leaf i t l in (ap bodyNumbers e, ap (bodyLines []) e)
-
--- the lines of a body, by the body that it is
-module _ {s : List ℕ} {place : Fault → ℕ → ℕ} {x y : List ℕ} {from : ℕ} {r : LinesStep} where
-  pub body-lines : {b c : declaration.Body} → b ≡ c →
-      LinesAs s place x y from (λ zs. bodyLines zs c) (bodyNumbers c) r
-      → LinesAs s place x y from (λ zs. bodyLines zs b) (bodyNumbers b) r
-  body-lines e l =
-      subst⁻¹ (λ (d : declaration.Body). LinesAs s place x y from (λ zs. bodyLines zs d) (bodyNumbers d) r) e l
-
-pub no-lines : {s : List ℕ} {place : Fault → ℕ → ℕ} {x : List ℕ} {from : ℕ} (b : declaration.Body) → length x < FAR →
-    (bodyNumbers b ≡ numbers []) × (bodyLines [] b ≡ [])
-    → LinesAs s place x x from (λ zs. bodyLines zs b) (bodyNumbers b) (linesSteps.At from)
-no-lines {s} {place} {x} {from} b h e =
-    subst⁻¹ (λ (ns : Numbers). LinesAs s place x x from (λ zs. bodyLines zs b) ns (linesSteps.At from)) (e .0)
-    (lined (put-as (e .1) (nothing x from h)))
-
--- the same of faults that are told from another point
-pub faults-from : {s : List ℕ} {p q : Point} {x y : List ℕ} {from : ℕ} {text : List ℤ → List ℕ} {ns : Numbers}
-    {r : LinesStep} → p ≡ q → LinesAs s (faultIn p) x y from text ns r → LinesAs s (faultIn q) x y from text ns r
-faults-from {s} {p} {q} {x} {y} {from} {text} {ns} {r} e l =
-    subst (λ (o : Point). LinesAs s (faultIn o) x y from text ns r) e l
+pub body-leaf : (k : declaration.Kind) {s : List ℕ} {c : Cursor} {b : declaration.Body} {t : Token} (zs : List ℤ) →
+    InsideAt (reading.bodyOf k) s c b → LeafAt s (c .at) t → bodyLines zs b ≡ []
+body-leaf declaration.struct {t = t} zs i l = ap (bodyLines zs) (struct-leaf i t l)
+body-leaf declaration.enum {t = t} zs i l = ap (bodyLines zs) (enum-leaf i t l)
 
 pub body-end : {B : Type 0} (k : declaration.Kind) {s : List ℕ} {c : Cursor} {b : declaration.Body} →
     InsideAt (reading.bodyOf k) s c b → stream s c ≡ end → B

@@ -1,8 +1,8 @@
 -- What ties the code's answers to the texts.
 use mathlib.Core.Path.{_≡_}
-use mathlib.Core.List.{List, []}
+use mathlib.Core.List.{List, [], map}
 use Prim.Native.Nat.{ℕ, _+_, _-_, _≤_, _<_}
-use lib.IntN.{ℤ, pos}
+use lib.IntN.{ℤ}
 use lib.ListN.{length, drop}
 use lib.Dec.{leb, eqb}
 use lib.Seq.{slice}
@@ -15,25 +15,33 @@ use Rattle.token_list.specs.declared.check.Cursor.{Cursor}
 use Rattle.token_list.specs.declared.check.Refusal.{Refusal}
 use Rattle.reading.specs.Declaration as declaration
 use Rattle.reading.specs.Reading as reading
-use Rattle.output.specs.Contract.{Put, Printed}
+use Rattle.output.specs.Contract.{Printed}
 use Rattle.output.specs.Answer.{refused, answerText}
 use Rattle.token_list.specs.Place.{OneRefusal}
 use Rattle.reading.specs.Took.{Took, took, stopped, Point}
 use Rattle.reading.specs.Place.{start, valueRow}
 use Rattle.parse.specs.Contract.{InsideAt, ValueOf, ValueIn}
 use Rattle.parse.specs.declared.variants.ValueAt.{ValueAt}
+use Rattle.doubles.specs.Double as double
+use Rattle.doubles.specs.Double.{Double, second, firstDouble}
+use Rattle.doubles.specs.Same.{sameName, sameInteger}
+use Rattle.doubles.specs.Key.{Key, nameKey, integerKey}
+use Rattle.doubles.specs.Contract.{MINUS-SIGN, signed, Holds}
 use Rattle.describe.specs.Value as value
 use Rattle.describe.specs.Integer.{Worth, none, counts}
 use Rattle.describe.specs.Numbers as numbers
-use Rattle.describe.specs.Numbers.{Fault, faultNumber, faultPlace, minus, Numbers, lacking, numbersOf}
+use Rattle.describe.specs.Numbers.{Fault, nameAgain, numberAgain, faultNumber, faultPlace, Numbers, lacking}
+use Rattle.describe.specs.Numbers.{numbersOf}
 use Rattle.describe.specs.Listing as listing
 use Rattle.describe.specs.declared.numbers.Worth as declared
 use Rattle.describe.specs.declared.numbers.Worth.the-variants as worths
 use Rattle.describe.specs.declared.numbers.Number.{Number}
 use Rattle.describe.specs.declared.numbers.NumberStep.{NumberStep}
 use Rattle.describe.specs.declared.numbers.NumberStep.the-variants as numberSteps
-use Rattle.describe.specs.declared.listing.LinesStep.{LinesStep}
-use Rattle.describe.specs.declared.listing.LinesStep.the-variants as linesSteps
+use Rattle.describe.specs.declared.faults.Found.{Found}
+use Rattle.describe.specs.declared.faults.Found.the-variants as founds
+use Rattle.describe.specs.declared.faults.Faults.{Faults}
+use Rattle.describe.specs.declared.faults.Faults.the-variants as faults
 use Rattle.describe.specs.declared.value.ValuePlace.{ValuePlace}
 use Rattle.describe.specs.declared.value.ValuePlace.the-variants as places
 
@@ -104,10 +112,6 @@ abbrev pub worthOf : declared.Worth → Worth
 worthOf worths.None = none
 worthOf (worths.Counts n) = counts n
 
-abbrev pub signed : Bool → ℕ → ℤ
-signed true n = minus n
-signed false n = pos n
-
 abbrev pub numberOf : Number → ℤ
 numberOf n = signed (n .below) (n .size)
 
@@ -134,14 +138,58 @@ abbrev pub ItemFaultsIn : List ℕ → Took declaration.Declaration → Type 0
 ItemFaultsIn s (took d rs us) = FaultsIn s (faultPlace (start s)) (numbersOf d)
 ItemFaultsIn s (stopped w n p) = Unit {0}
 
--- lines from `from` on, in an output that was `before` and is `after`: their text is told of the variants' numbers; or
--- the refusal, in a row, that is told of its fault and position
-pub data LinesAs (s : List ℕ) (place : Fault → ℕ → ℕ) (before after : List ℕ) (from : ℕ) (text : List ℤ → List ℕ)
-    : Numbers → LinesStep → Type 0 where
-  lined : {zs : List ℤ} {e : ℕ} → Put before after from e (text zs) →
-      LinesAs s place before after from text (numbers.numbers zs) (linesSteps.At e)
+-- the refusal of the first variant at fault, in a row; or that there is none
+pub data FaultAs (s : List ℕ) (place : Fault → ℕ → ℕ) : Numbers → Faults → Type 0 where
+  faultless : {zs : List ℤ} → FaultAs s place (numbers.numbers zs) faults.None
   lacks : {f : Fault} {k : ℕ} {r : Refusal} → r ≡ record { number = faultNumber f; place = place f k } →
-      Begins s (place f k) → LinesAs s place before after from text (lacking f k) (linesSteps.Refused r)
+      Begins s (place f k) → FaultAs s place (lacking f k) (faults.Refused r)
+
+-- ## Doubles
+
+-- how many variants the small tables have room for, and the large ones: primes, so that the remainders of numbers in
+-- steps of 16 or 4,096 differ; a list has 2,048 variants at most, since each has two rows or more, but for the last
+abbrev pub FEW : ℕ
+FEW = 67
+
+abbrev pub MANY : ℕ
+MANY = 2053
+
+-- where the first double stands, by the row of each position
+abbrev pub foundAt : (ℕ → ℕ) → Double → Found
+foundAt row double.none = founds.None
+foundAt row (second k) = founds.At (row k)
+
+-- what was found before, or else this place, where it is that of a double
+abbrev pub orFound : Found → Bool → ℕ → Found
+orFound (founds.At p) again place = founds.At p
+orFound founds.None true place = founds.At place
+orFound founds.None false place = founds.None
+
+-- the things xs were seen: their keys are in the table, and their first double was found
+pub record SeenAll {A : Type 0} (same : A → A → Bool) (key : A → Key) (bytes words numbers : List ℕ) (row : ℕ → ℕ)
+    (xs : List A) (found : Found) : Type 0 where
+  pub holds : Holds bytes words numbers (map key xs)
+  pub first : found ≡ foundAt row (firstDouble same xs)
+
+-- names, which stand in the list s
+abbrev pub NamesSeen : (s words numbers : List ℕ) → (ℕ → ℕ) → List (List ℕ) → Found → Type 0
+NamesSeen s words numbers row xs found = SeenAll sameName nameKey s words numbers row xs found
+
+abbrev pub IntegersSeen : (words numbers : List ℕ) → (ℕ → ℕ) → List ℤ → Found → Type 0
+IntegersSeen words numbers row zs found = SeenAll sameInteger integerKey MINUS-SIGN words numbers row zs found
+
+-- the refusal of the first name that stands twice, or else of the first number
+abbrev pub faultsOf : Found → Found → Faults
+faultsOf (founds.At p) n = faults.Refused (record { number = faultNumber nameAgain; place = p })
+faultsOf founds.None (founds.At p) = faults.Refused (record { number = faultNumber numberAgain; place = p })
+faultsOf founds.None founds.None = faults.None
+
+-- empty tables with room for n names and n numbers
+pub record Tables (s names hashes signs sizes : List ℕ) (n : ℕ) : Type 0 where
+  pub named : Holds s names hashes []
+  pub numbered : Holds MINUS-SIGN signs sizes []
+  pub room : n ≤ length hashes
+  pub same : length sizes ≡ length hashes
 
 -- ## The report
 

@@ -1,13 +1,14 @@
--- The listing of a declaration (document 01, "The listing program"; the variants' numbers, document 02, card 2).
+-- The listing of a declaration (document 01, "The listing program"; the variants' numbers, document 02, cards 2 and 9).
 use mathlib.Core.Path.{_≡_}
 use mathlib.Core.Bool.{Bool, false, _||_}
-use mathlib.Core.List.{List, [], _∷_, _++_}
+use mathlib.Core.List.{List, [], _∷_, _++_, map}
 use Prim.Native.Nat.{ℕ, suc, _+_, _*_, _≤_}
 use lib.IntN.{ℤ, pos, negsuc}
 use lib.ListN.{length, getD}
 use Rattle.token_list.specs.Byte.{bytes, SPACE, LF, QUOTE, MINUS}
 use Rattle.token_list.specs.Text.{between}
-use Rattle.token_list.specs.Layout.{MAX-BYTES, MAX-ROWS}
+use Rattle.token_list.specs.Layout.{MAX-BYTES, MAX-ROWS, firstRow}
+use Rattle.token_list.specs.Stream.{Trees, at}
 use Rattle.token_list.specs.Check as list
 use Rattle.output.specs.Text.{decimal}
 use Rattle.output.specs.Answer.{Answer, wrote, refused, fitted}
@@ -17,7 +18,10 @@ use Rattle.reading.specs.Declaration.{Variant, Body, fields, variants, Declarat
 use Rattle.reading.specs.Took.{Took, took, stopped, Point}
 use Rattle.reading.specs.Place.{start}
 use Rattle.reading.specs.Answer.{framed, readNumber}
-use Rattle.describe.specs.Numbers.{Numbers, numbers, lacking, numbersOf, faultNumber, faultPlace}
+use Rattle.reading.specs.Reading.{item}
+use Rattle.doubles.specs.Double.{Different}
+use Rattle.doubles.specs.Same.{bare}
+use Rattle.describe.specs.Numbers.{Numbers, numbers, lacking, bodyNames, numbersOf, faultNumber, faultPlace}
 
 -- the line of names
 abbrev pub NAMES : List ℕ
@@ -117,9 +121,9 @@ fullAnswer s = framed refused (λ rows. false) (itemAnswer (start s)) s (list.ch
 unfoldable pub answer : List ℕ → ℕ → Answer
 answer s n = fitted n (fullAnswer s)
 
--- the numbers of its refusals: those of the reading, and of variants without a number
+-- the numbers of its refusals: those of the reading, and of variants at fault
 abbrev pub listingNumber : ℕ → Bool
-listingNumber n = readNumber n || between 42 43 n
+listingNumber n = readNumber n || (between 42 43 n || between 50 51 n)
 
 -- 176,145: the 17 bytes of the line of names, the bytes that a list may have, and 27 bytes for each of its rows
 abbrev pub MOST : ℕ
@@ -133,3 +137,18 @@ pub record Fits (s : List ℕ) (n : ℕ) : Type 0 where
   pub room : MOST ≤ n → answer s n ≡ fullAnswer s
   -- and is never refused as too short
   pub never : MOST ≤ n → (p : ℕ) → answer s n ≡ refused 8 p → ⊥
+
+abbrev pub bareNames : Declaration → List (List ℕ)
+bareNames d = map bare (bodyNames (d .body))
+
+-- of a text that was written for a list s: no two variants have one name, `r#` aside, and no two have one number
+pub record Distinct (s text : List ℕ) : Type 0 where
+  -- the declaration that is read
+  pub declaration : Declaration
+  pub roles : List ℕ
+  pub rest : Trees
+  pub read : item 0 (at s (firstRow s) .here) ≡ took declaration roles rest
+  pub zs : List ℤ
+  pub listed : text ≡ listing zs declaration
+  pub names : Different [] (length (bareNames declaration)) (bareNames declaration)
+  pub numbers : Different (pos 0) (length zs) zs

@@ -1,7 +1,8 @@
 -- The numbers of an enum's variants (document 02, card 2): the discriminants that the Reference gives them (1.63,
--- "Enumerations", "Custom Discriminant Values"), within i64's range.
+-- "Enumerations", "Custom Discriminant Values"), within i64's range; and that no two variants share a name or a number
+-- (card 9).
 use mathlib.Core.Bool.{cond}
-use mathlib.Core.List.{List, [], _∷_}
+use mathlib.Core.List.{List, [], _∷_, map}
 use Prim.Native.Nat.{ℕ, suc, _+_}
 use lib.Dec.{ltb}
 use lib.IntN.{ℤ, pos, negsuc, sucℤ, negℤ}
@@ -9,19 +10,28 @@ use Rattle.reading.specs.Token.{MAX-I64}
 use Rattle.reading.specs.Declaration.{Value, absent, literal, negative, Variant, Body, fields, variants, Declaration}
 use Rattle.reading.specs.Took.{Point}
 use Rattle.reading.specs.Place.{inside, bodyAt, variantAt, variantNameAt, equalsAt}
+use Rattle.doubles.specs.Double as double
+use Rattle.doubles.specs.Double.{Double, second, firstDouble}
+use Rattle.doubles.specs.Same.{sameName, sameInteger}
 use Rattle.describe.specs.Integer.{Worth, none, counts, integer, inRange}
 
--- why a variant has no number
+-- why a variant has no number, or no name or number of its own
 pub data Fault : Type 0 where
   -- its value is no integer, or out of range
   noInteger : Fault
   -- one more than the number before it is out of range
   noStep : Fault
+  -- its name is an earlier one's
+  nameAgain : Fault
+  -- its number is an earlier one's
+  numberAgain : Fault
 
 -- the refusal's number
 abbrev pub faultNumber : Fault → ℕ
 faultNumber noInteger = 42
 faultNumber noStep = 43
+faultNumber nameAgain = 50
+faultNumber numberAgain = 51
 
 -- ## One variant
 
@@ -52,7 +62,7 @@ numberAfter before (negative n) = valued minus (inRange (counts n))
 
 pub data Numbers : Type 0 where
   numbers : List ℤ → Numbers
-  -- the first variant that has none: its position, and why
+  -- a variant at fault: why, and its position
   lacking : Fault → ℕ → Numbers
 
 -- a number before others
@@ -78,8 +88,28 @@ abbrev pub bodyNumbers : Body → Numbers
 bodyNumbers (fields f) = numbers []
 bodyNumbers (variants vs) = numbersFrom BEFORE-FIRST 0 vs
 
+-- ## Variants that share a name or a number
+
+abbrev pub orDouble : Fault → Double → Numbers → Numbers
+orDouble f double.none ns = ns
+orDouble f (second k) ns = lacking f k
+
+-- where every variant has a number: the first whose name is an earlier one's, or else the first whose number is
+abbrev pub distinct : List (List ℕ) → Numbers → Numbers
+distinct names (numbers zs) =
+    orDouble nameAgain (firstDouble sameName names)
+    (orDouble numberAgain (firstDouble sameInteger zs) (numbers zs))
+distinct names (lacking f k) = lacking f k
+
+abbrev pub variantNames : List Variant → List (List ℕ)
+variantNames vs = map (λ v. v .name) vs
+
+abbrev pub bodyNames : Body → List (List ℕ)
+bodyNames (fields f) = []
+bodyNames (variants vs) = variantNames vs
+
 abbrev pub numbersOf : Declaration → Numbers
-numbersOf d = bodyNumbers (d .body)
+numbersOf d = distinct (bodyNames (d .body)) (bodyNumbers (d .body))
 
 -- ## The place of a refusal
 
@@ -87,6 +117,8 @@ numbersOf d = bodyNumbers (d .body)
 abbrev pub faultRow : Fault → Point → ℕ
 faultRow noInteger x = equalsAt x .row + 1
 faultRow noStep x = variantNameAt x .row
+faultRow nameAgain x = variantNameAt x .row
+faultRow numberAgain x = variantNameAt x .row
 
 -- of the variant at position k of those that begin at x
 abbrev pub faultIn : Point → Fault → ℕ → ℕ

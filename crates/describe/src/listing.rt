@@ -1,5 +1,7 @@
 // The listing of a declaration: the readers go round once more over what was read, and each thing
 // gets its lines; then the listing's entry points.
+use crate::faults::Faults;
+use crate::faults::body_faults;
 use crate::lines::put_item;
 use crate::lines::put_named;
 use crate::lines::put_parameter;
@@ -37,10 +39,11 @@ use token_list::stream::peek;
 use token_list::stream::punct_at;
 ghost use mathlib.Core.Path.{_≡_};
 ghost use mathlib.Core.List.{List};
-ghost use Prim.Native.Nat.{ℕ};
+ghost use Prim.Native.Nat.{ℕ, _≤_};
+ghost use lib.IntN.{ℤ};
 ghost use lib.ListN.{length};
-ghost use Rattle.token_list.specs.Layout.{firstRow};
-ghost use Rattle.token_list.specs.Stream.{at};
+ghost use Rattle.token_list.specs.Layout.{firstRow, MAX-BYTES, MAX-ROWS};
+ghost use Rattle.token_list.specs.Stream.{at, size};
 ghost use Rattle.token_list.specs.Place.{OneRefusal};
 ghost use Rattle.token_list.specs.Contract.{InList, startOf};
 ghost use Rattle.output.specs.Contract.{Put};
@@ -50,18 +53,13 @@ ghost use Rattle.reading.specs.Declaration.{Parameter, Generics, parametersOf, 
 ghost use Rattle.reading.specs.Declaration.{Body, Declaration};
 ghost use Rattle.reading.specs.Reading.{every, namedField, tupleField, variant, parameter, generics, bodyOf, item};
 ghost use Rattle.reading.specs.Took.{Point};
-ghost use Rattle.reading.specs.Place.{start, inside, bodyAt};
-ghost use Rattle.parse.specs.Contract.{point, CursorAt, kindOf, InsideAt, FieldsOf, ItemOf};
-ghost use Rattle.describe.specs.Numbers.{BEFORE-FIRST, numbersFrom, bodyNumbers, numbersOf, faultIn, faultPlace};
+ghost use Rattle.reading.specs.Place.{start, bodyAt};
+ghost use Rattle.parse.specs.Contract.{CursorAt, kindOf, InsideAt, FieldsOf, ItemOf};
+ghost use Rattle.describe.specs.Numbers.{BEFORE-FIRST, numbers, numbersFrom, bodyNumbers, bodyNames, numbersOf};
+ghost use Rattle.describe.specs.Numbers.{faultPlace};
 ghost use Rattle.describe.specs.Listing.{numbered, parameterLine, namedLine, tupleLine, fieldLines, variantLines};
 ghost use Rattle.describe.specs.Listing.{bodyLines, listing, numberedAnswer, itemAnswer, answer, listingNumber};
-ghost use Rattle.describe.specs.Contract.{StructAt, LinesAs, FaultsIn, ItemFaultsIn, Reported};
-
-// Where the next text goes, or the refusal of a variant that has no number.
-pub enum LinesStep {
-    At(usize),
-    Refused(Refusal),
-}
+ghost use Rattle.describe.specs.Contract.{MANY, StructAt, FaultsIn, ItemFaultsIn, Reported};
 
 // The lines of the named fields that are read from `from` on.
 fn named_lines(s: &[u8], from: Cursor, roles: &mut [u8], out: &mut [u8], start: usize) -> usize
@@ -128,18 +126,12 @@ fn field_lines(s: &[u8], fields: FieldsAt, roles: &mut [u8], out: &mut [u8], at:
 }
 
 // The lines of the variants that are read from `from` on, each with its number and followed by its
-// fields; or the refusal of the first that has no number.
-fn variant_lines(
-    s: &[u8],
-    from: Cursor,
-    roles: &mut [u8],
-    out: &mut [u8],
-    start: usize,
-) -> LinesStep
+// fields, where every variant has a number.
+fn variant_lines(s: &[u8], from: Cursor, roles: &mut [u8], out: &mut [u8], start: usize) -> usize
     requires { ⌜ InList (now s) from ⌝ }
-    ensures { λ r. ⌜ ((vs : List Variant) → InsideAt (every variant) (now (s .entry)) from vs →
-        LinesAs (now (s .entry)) (faultIn (point (now (s .entry)) from)) (now (out .entry)) (now (out .exit)) start
-        (λ zs. numbered (variantLines zs) 0 vs) (numbersFrom BEFORE-FIRST 0 vs) r) ⌝ }
+    ensures { λ r. ⌜ ((vs : List Variant) (zs : List ℤ) → InsideAt (every variant) (now (s .entry)) from vs →
+        numbersFrom BEFORE-FIRST 0 vs ≡ numbers zs →
+        Put (now (out .entry)) (now (out .exit)) start r (numbered (variantLines zs) 0 vs)) ⌝ }
 {
     let mut c = from;
     let mut at = start;
@@ -150,8 +142,8 @@ fn variant_lines(
     loop {
         match variant(s, c, roles) {
             VariantStep::One(v) => match number_after(s, before, v) {
-                NumberStep::Refused(r) => {
-                    return LinesStep::Refused(r);
+                NumberStep::Refused(_) => {
+                    return at;
                 }
                 NumberStep::At(n) => {
                     let line = put_variant(s, v, n, out, at);
@@ -162,10 +154,10 @@ fn variant_lines(
                 }
             },
             VariantStep::Done(_) => {
-                return LinesStep::At(at);
+                return at;
             }
             VariantStep::Refused(_) => {
-                return LinesStep::At(at);
+                return at;
             }
         }
     }
@@ -237,25 +229,21 @@ fn struct_lines(
 }
 
 // The lines of a declaration's body.
-fn body_lines(s: &[u8], d: ItemAt, roles: &mut [u8], out: &mut [u8], at: usize) -> LinesStep
+fn body_lines(s: &[u8], d: ItemAt, roles: &mut [u8], out: &mut [u8], at: usize) -> usize
     requires { ⌜ InList (now s) (d .body) ⌝ }
-    ensures { λ r. ⌜ ((b : Body) → InsideAt (bodyOf (kindOf (d .kind))) (now (s .entry)) (d .body) b →
-        LinesAs (now (s .entry)) (faultIn (inside (point (now (s .entry)) (d .body)))) (now (out .entry))
-        (now (out .exit)) at (λ zs. bodyLines zs b) (bodyNumbers b) r) ⌝ }
+    ensures { λ r. ⌜ ((b : Body) (zs : List ℤ) → InsideAt (bodyOf (kindOf (d .kind))) (now (s .entry)) (d .body) b →
+        bodyNumbers b ≡ numbers zs → Put (now (out .entry)) (now (out .exit)) at r (bodyLines zs b)) ⌝ }
 {
     let c = d.body;
     match peek(s, c) {
-        Peeked::Nothing => LinesStep::At(at),
-        Peeked::Leaf(_) => LinesStep::At(at),
+        Peeked::Nothing => at,
+        Peeked::Leaf(_) => at,
         Peeked::Group(t) => {
             let inside = past(s, c, t);
             let delimiter = t.byte;
             let kind = d.kind;
             match kind {
-                DataType::Struct => {
-                    let end = struct_lines(s, inside, delimiter, roles, out, at);
-                    LinesStep::At(end)
-                }
+                DataType::Struct => struct_lines(s, inside, delimiter, roles, out, at),
                 DataType::Enum => variant_lines(s, inside, roles, out, at),
             }
         }
@@ -263,11 +251,10 @@ fn body_lines(s: &[u8], d: ItemAt, roles: &mut [u8], out: &mut [u8], at: usize) 
 }
 
 // The whole listing.
-fn put_listing(s: &[u8], d: ItemAt, roles: &mut [u8], out: &mut [u8]) -> LinesStep
+fn put_listing(s: &[u8], d: ItemAt, roles: &mut [u8], out: &mut [u8]) -> usize
     requires { ⌜ ((x : Declaration) × ItemOf (now s) d x) ⌝ }
-    ensures { λ r. ⌜ ((x : Declaration) → ItemOf (now (s .entry)) d x →
-        LinesAs (now (s .entry)) (faultIn (inside (point (now (s .entry)) (d .body)))) (now (out .entry))
-        (now (out .exit)) 0 (λ zs. listing zs x) (numbersOf x) r) ⌝ }
+    ensures { λ r. ⌜ ((x : Declaration) (zs : List ℤ) → ItemOf (now (s .entry)) d x →
+        bodyNumbers (x .body) ≡ numbers zs → Put (now (out .entry)) (now (out .exit)) 0 r (listing zs x)) ⌝ }
 {
     let item = put_item(s, d, out);
     let name = d.name;
@@ -276,9 +263,10 @@ fn put_listing(s: &[u8], d: ItemAt, roles: &mut [u8], out: &mut [u8]) -> LinesSt
     body_lines(s, d, roles, out, parameters)
 }
 
-// Measures the listing, and writes it where every variant has a number and the output is long enough.
+// Measures the listing, and writes it where no variant is at fault and the output is long enough.
 fn fit_listing(s: &[u8], d: ItemAt, roles: &mut [u8], out: &mut [u8]) -> Written
-    requires { ⌜ ((x : Declaration) × ItemOf (now s) d x) ⌝ }
+    requires { ⌜ ((x : Declaration) × ItemOf (now s) d x × (length (bodyNames (x .body)) ≤ MANY)) ⌝ }
+    requires { ⌜ length (now s) ≤ MAX-BYTES ⌝ }
     ensures { λ r. ⌜ ((p : Point) (x : Declaration) → ItemOf (now (s .entry)) d x →
         CursorAt (now (s .entry)) (bodyAt p) (d .body) →
         WrittenAs (now (out .entry)) (now (out .exit))
@@ -287,20 +275,19 @@ fn fit_listing(s: &[u8], d: ItemAt, roles: &mut [u8], out: &mut [u8]) -> Written
         CursorAt (now (s .entry)) (bodyAt p) (d .body) →
         FaultsIn (now (s .entry)) (faultPlace p) (numbersOf x)) ⌝ }
 {
-    let mut nowhere = [0u8; 1];
-    match put_listing(s, d, roles, &mut nowhere) {
-        LinesStep::Refused(r) => Written::Refused(r),
-        LinesStep::At(needed) => {
+    match body_faults(s, d, roles) {
+        Faults::Refused(r) => Written::Refused(r),
+        Faults::None => {
+            let mut nowhere = [0u8; 1];
+            let needed = put_listing(s, d, roles, &mut nowhere);
             if out.len() < needed {
                 return Written::Refused(Refusal {
                     number: 8,
                     place: END,
                 });
             }
-            match put_listing(s, d, roles, out) {
-                LinesStep::Refused(r) => Written::Refused(r),
-                LinesStep::At(end) => Written::Text(end),
-            }
+            let end = put_listing(s, d, roles, out);
+            Written::Text(end)
         }
     }
 }
@@ -308,6 +295,8 @@ fn fit_listing(s: &[u8], d: ItemAt, roles: &mut [u8], out: &mut [u8]) -> Written
 // The listing of a list that passes the check.
 fn read_listing(s: &[u8], out: &mut [u8], roles: &mut [u8]) -> Written
     requires { ⌜ InList (now s) (startOf (now s)) ⌝ }
+    requires { ⌜ length (now s) ≤ MAX-BYTES ⌝ }
+    requires { ⌜ size (at (now s) (firstRow (now s)) .here) ≤ MAX-ROWS ⌝ }
     ensures { λ r. ⌜ WrittenAs (now (out .entry)) (now (out .exit))
         (fitted (length (now (out .entry)))
         (itemAnswer (start (now (s .entry))) (item 0 (at (now (s .entry)) (firstRow (now (s .entry))) .here)))) r ⌝ }

@@ -37,7 +37,7 @@ ROLES =
     bytes "field name                   \n" ++
     bytes "type                         \n"
 
--- the refusals 0 to 43, an empty line where a number is none
+-- the refusals 0 to 51, an empty line where a number is none
 abbrev pub MEANINGS : List ℕ
 MEANINGS =
     bytes "\n" ++
@@ -75,7 +75,10 @@ MEANINGS =
     bytes "tagged: the list is not one group; the first row outside it, or -\n" ++
     bytes "\n\n\n\n\n\n\n\n\n\n" ++
     bytes "listing: a variant's value is no integer, or above 9,223,372,036,854,775,807\n" ++
-    bytes "listing: a variant without value after the number 9,223,372,036,854,775,807\n"
+    bytes "listing: a variant without value after the number 9,223,372,036,854,775,807\n" ++
+    bytes "\n\n\n\n\n\n" ++
+    bytes "listing: the name of an earlier variant, r# aside\n" ++
+    bytes "listing: the number of an earlier variant\n"
 
 unfoldable pub roleWords : ℕ → List ℕ
 roleWords r = lineOf r ROLES

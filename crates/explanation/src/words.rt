@@ -109,7 +109,10 @@ pub fn put_meaning(out: &mut [u8], at: usize, number: u8) -> usize
           tagged: the list is not one group; the first row outside it, or -\n\
           \n\n\n\n\n\n\n\n\n\n\
           listing: a variant's value is no integer, or above 9,223,372,036,854,775,807\n\
-          listing: a variant without value after the number 9,223,372,036,854,775,807\n",
+          listing: a variant without value after the number 9,223,372,036,854,775,807\n\
+          \n\n\n\n\n\n\
+          listing: the name of an earlier variant, r# aside\n\
+          listing: the number of an earlier variant\n",
         k,
     )
 }

@@ -166,7 +166,7 @@ module _ (b : ℕ) where
   namedKind-conserved (found t p) ts us h row l = reader-choice (same t r.STRUCT) (pure-conserving struct)
       (reader-choice (same t r.ENUM) (pure-conserving enum) (λ row us l. told-row p refl (h .0))) row us l
 
-  dataType-conserving : Conserving b r.dataType
+  pub dataType-conserving : Conserving b r.dataType
   dataType-conserving row ts l = after-conserved row l (word-in role.item-word refl row ts l)
       (λ w us h s row l. after-conserved row l (namedKind-conserved w ts us h row l)
       (λ k us h s row l. bind (word-conserving role.item-name refl)
@@ -216,7 +216,7 @@ module _ (b : ℕ) where
       first c = onward-conserved (role.parameter-name ∷ []) (past-leaf role.parameter-name refl q us)
           (turned (omega arith) (bind c comma-another (row + 1) us (omega arith)))
 
-  generics-conserving : Conserving b r.generics
+  pub generics-conserving : Conserving b r.generics
   generics-conserving row end l = nothing-taken
   generics-conserving row (group d ts us) l = nothing-taken
   generics-conserving row (leaf q us) l =

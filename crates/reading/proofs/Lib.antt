@@ -2,6 +2,7 @@
 pub mod Frame
 pub mod Rounds
 pub mod Conserved
+pub mod Few
 pub mod Places
 pub mod ReadingMarks
 pub mod Marks

@@ -157,8 +157,8 @@ impl Reader {
         let text = self.value(list, position, SCRATCH);
         let refusal = roles.as_ref().err();
         assert!(checked.is_ok() || checked.as_ref().err() == refusal, "the check and the reader");
-        // What the reader takes, the listing refuses where a variant has no number, at a row.
-        let numbers = [refusal::NO_INTEGER, refusal::NO_STEP];
+        // What the reader takes, the listing refuses for a variant without a number, or that is there twice, at a row.
+        let numbers = [refusal::NO_INTEGER, refusal::NO_STEP, refusal::NAME_TWICE, refusal::NUMBER_TWICE];
         match lines.as_ref().err() {
             Some(Refusal { number, place: Place::Row(_) }) if refusal.is_none() && numbers.contains(number) => {}
             other => assert_eq!(other, refusal, "the listing and the reader"),

@@ -1,11 +1,12 @@
 use native.Mathlib.Omega.{arith}
-use mathlib.Core.Path.{subst}
+use mathlib.Core.Path.{_∙_, ap, sym, subst}
+use Rattle.output.proofs.Texts.{nothing, put-as}
 use Rattle.parse.proofs.Meeting as meeting
 use Rattle.parse.specs.Contract as contract
 use Rattle.reading.specs.Reading as reading
-use Rattle.describe.specs.Contract.{lined}
-use Rattle.describe.proofs.Parts.{struct-group, enum-group, inside-point, body-leaf, body-lines}
-use Rattle.describe.proofs.Parts.{no-lines, faults-from, body-end}
+use Rattle.describe.specs.Numbers.{bodyNumbers}
+use Rattle.describe.specs.Listing.{bodyLines}
+use Rattle.describe.proofs.Parts.{struct-group, enum-group, body-leaf, body-end}
 use borrow.Author.Needs.{needs}
 use Rattle.describe.proofs.listing.body_lines.Statement.{statement}
 use Rattle.describe.proofs.listing.body_lines.Tie as tie
@@ -57,14 +58,15 @@ returns : tie.Need-returns
 returns c =
     let args = c .before .before .before .before .before .before .before .args in
     let peek = c .before .before .peek in
-    λ b k. body-end (contract.kindOf (args .d .kind)) k (meeting.peeked _ _ (peek .ensures) (c .enum-told .given .1))
+    λ b zs k q. body-end (contract.kindOf (args .d .kind)) k
+    (meeting.peeked _ _ (peek .ensures) (c .enum-told .given .1))
 
 returns-2 : tie.Need-returns-2
 returns-2 c =
     let start = c .before .before .before .before .before .before .before in
     let kind = contract.kindOf (start .args .d .kind) in
     let leaf = meeting.peeked _ _ (c .before .before .peek .ensures) (c .enum-told2 .given .1) in
-    λ b k. no-lines b (omega (arith, start .good)) (body-leaf kind k leaf)
+    λ b zs k q. put-as (body-leaf kind zs k leaf) (nothing _ _ (omega (arith, start .good)))
 
 same-length : tie.Need-same-length
 same-length c = search needs
@@ -83,11 +85,11 @@ returns-3 c =
     let peek = after-t .before .before .peek in
     let args = after-t .before .before .before .before .before .before .before .args in
     let group = meeting.peeked _ _ (peek .ensures) (t .given .1) in
-    λ b k.
+    λ b zs k q.
     let known = subst (λ kd. contract.InsideAt (reading.bodyOf (contract.kindOf kd)) (args .s .now) (args .d .body) b)
     (enum-told3 .given .1) k in
     let g = struct-group known _ _ group (past .ensures) in
-    body-lines (g .1) (lined (struct-lines .ensures (g .0) (g .2)))
+    put-as (ap (bodyLines zs) (g .1)) (struct-lines .ensures (g .0) (g .2))
 
 same-length-3 : tie.Need-same-length-3
 same-length-3 c = search needs
@@ -106,12 +108,11 @@ returns-4 c =
     let peek = after-t .before .before .peek in
     let args = after-t .before .before .before .before .before .before .before .args in
     let group = meeting.peeked _ _ (peek .ensures) (t .given .1) in
-    λ b k.
+    λ b zs k q.
     let known = subst (λ kd. contract.InsideAt (reading.bodyOf (contract.kindOf kd)) (args .s .now) (args .d .body) b)
     (enum-told4 .given .1) k in
     let g = enum-group known _ _ group (past .ensures) in
-    let inside = inside-point (args .s .now) (args .d .body) (past .result) (t .given .0 .0) group (past .ensures) in
-    body-lines (g .1) (faults-from inside (variant-lines .ensures (g .0) (g .2)))
+    put-as (ap (bodyLines zs) (g .1)) (variant-lines .ensures (g .0) zs (g .2) (sym (ap bodyNumbers (g .1)) ∙ q))
 
 pub body-lines-spec : {M : Type 1} → statement M
 body-lines-spec =

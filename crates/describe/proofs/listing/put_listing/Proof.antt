@@ -1,4 +1,4 @@
-use Rattle.describe.proofs.Answers.{lines-within, listing-lines}
+use Rattle.describe.proofs.Answers.{listing-lines}
 use borrow.Author.Needs.{needs}
 use Rattle.describe.proofs.listing.put_listing.Statement.{statement}
 use Rattle.describe.proofs.listing.put_listing.Tie as tie
@@ -30,9 +30,9 @@ returns c =
     let body-lines = c .before .before .before .before .body-lines in
     let generics-lines = after .generics-lines in
     let put-item = after .before .before .before .before .before .before .before .put-item in
-    λ x k.
-    lines-within (body-lines .ensures (x .body) (k .body))
-    (λ zs e p. listing-lines x zs (put-item .ensures x k) (generics-lines .ensures (x .generics) (k .generics)) p)
+    λ x zs k q.
+    listing-lines x zs (put-item .ensures x k) (generics-lines .ensures (x .generics) (k .generics))
+    (body-lines .ensures (x .body) zs (k .body) q)
 
 pub put-listing-spec : {M : Type 1} → statement M
 put-listing-spec =

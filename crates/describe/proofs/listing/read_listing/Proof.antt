@@ -1,5 +1,7 @@
 use Rattle.parse.specs.Contract.{itemShown, itemSaid}
 use Rattle.token_list.specs.Contract.{InList, startOf}
+use Rattle.token_list.specs.Layout.{firstRow}
+use Rattle.token_list.specs.Stream.{at}
 use Rattle.parse.proofs.Items.{from-start}
 use lib.ListN.{length}
 use mathlib.Core.Path.{ap, subst⁻¹}
@@ -10,6 +12,7 @@ use Rattle.output.specs.Answer.{fitted}
 use Rattle.output.proofs.Answers.{written-as, written-refused}
 use Rattle.describe.specs.Listing.{itemAnswer}
 use Rattle.describe.specs.Contract.{ItemFaultsIn}
+use Rattle.describe.proofs.Sightings.{few-names}
 use borrow.Author.Needs.{needs}
 use Rattle.describe.proofs.listing.read_listing.Statement.{statement}
 use Rattle.describe.proofs.listing.read_listing.Tie as tie
@@ -21,7 +24,7 @@ item-requires : tie.Need-item-requires
 item-requires c κs =
     let args = c .before .before .before .before .before .args in
     let pre = c .before .before .before .before .before .pre in
-    subst⁻¹ (InList (args .s .now)) (c .before .start .ensures) pre
+    subst⁻¹ (InList (args .s .now)) (c .before .start .ensures) (pre .0)
 
 enum-known-r : tie.Need-enum-known-r
 enum-known-r c = search needs
@@ -33,11 +36,12 @@ fit-listing-requires : tie.Need-fit-listing-requires
 fit-listing-requires c κs =
     let back8 = c .before .before .before .before .before .before .before .before in
     let args = back8 .before .before .before .before .before .args in
+    let pre = back8 .before .before .before .before .before .pre in
     let start = back8 .before .start in
     let item = c .before .before .before .before .before .before .before .item in
     let m = meets-tells (meeting.say (itemShown (args .s .now) (startOf (args .s .now))) itemSaid
     (c .before .before .before .d .given .1) (from-start (item .result) (start .ensures) (item .ensures))) in
-    (m .0, m .4 .0)
+    ((m .0, m .4 .0, few-names (at (args .s .now) (firstRow (args .s .now)) .here) (m .3) (pre .1 .1)), pre .1 .0)
 
 same-length : tie.Need-same-length
 same-length c = search needs

@@ -6,7 +6,7 @@ use mathlib.Core.Path.{_∙_}
 use Rattle.output.proofs.Texts.{joined}
 use Rattle.parse.proofs.Inside.{meets-tells}
 use Rattle.describe.specs.Contract.{numberOf}
-use Rattle.describe.proofs.Numbering.{Numbering, variant-turn, numbering-start, numbering-less, numbering-more}
+use Rattle.describe.proofs.Numbering.{Numbering, variant-turn, variant-less, numbering-start, numbering-more}
 use Rattle.describe.proofs.Numbering.{numbering-lacks, numbering-done, numbering-refused, number-at}
 use Rattle.describe.proofs.listing.variant_lines.Statement.{statement}
 use Rattle.describe.proofs.listing.variant_lines.Tie as tie
@@ -36,33 +36,29 @@ number-after-requires c κs =
     let m = meets-tells (variant-turn (v .given .1) (variant .ensures)) in
     (m .4 .0, m .4 .2)
 
-enum-known-r : tie.Need-enum-known-r Inv-loop μ-loop
-enum-known-r c = search needs
+enum-told : tie.Need-enum-told Inv-loop μ-loop
+enum-told c = search needs
 
 same-length : tie.Need-same-length Inv-loop μ-loop
 same-length c =
     let back8 = c .before .before .before .before .before .before .before .before in
-    let loop = back8 .before .before .before .loop in
-    let variant = back8 .before .variant in
-    variant .kept .1 .1 .0 ∙ loop .inv .rolesKept
+    back8 .variant .kept .1 .1 .0 ∙ back8 .before .before .loop .inv .rolesKept
 
 same-length-2 : tie.Need-same-length-2 Inv-loop μ-loop
 same-length-2 c =
     let back8 = c .before .before .before .before .before .before .before .before in
-    let loop = back8 .before .before .before .loop in
-    loop .inv .outKept
+    back8 .before .before .loop .inv .outKept
 
 returns : tie.Need-returns Inv-loop μ-loop
 returns c =
     let back8 = c .before .before .before .before .before .before .before .before in
-    let loop = back8 .before .before .before .loop in
-    let variant = back8 .before .variant in
-    let v = c .before .before .before .before .before .v in
-    let number-after = c .before .before .before .number-after in
-    let r = c .before .r in
-    let answer = number-after .ensures in
-    let read = variant-turn (v .given .1) (variant .ensures) in
-    numbering-lacks (loop .inv) (v .given .0 .0) read (answer .0 (loop .c)) (answer .1 (loop .c)) (r .given .1)
+    let loop = back8 .before .before .loop in
+    let v = c .before .before .before .before .v in
+    let number-after = c .before .before .number-after in
+    let read = variant-turn (v .given .1) (back8 .variant .ensures) in
+    λ vs zs k q.
+    numbering-lacks (loop .inv) (v .given .0 .0) read (number-after .ensures .0 (loop .c)) (c .enum-told .given .1)
+    vs k zs q
 
 enum-known-n : tie.Need-enum-known-n Inv-loop μ-loop
 enum-known-n c = search needs
@@ -90,7 +86,7 @@ loop-less c =
     let loop = back16 .before .before .before .before .before .before .before .loop in
     let variant = back16 .before .before .before .before .before .variant in
     let v = back16 .before .v in
-    numbering-less (loop .inv) (v .given .0 .0) (variant-turn (v .given .1) (variant .ensures))
+    variant-less (v .given .0 .0) (variant-turn (v .given .1) (variant .ensures))
 
 loop-again : tie.Need-loop-again Inv-loop μ-loop
 loop-again c =
@@ -110,8 +106,8 @@ loop-again c =
     (field-lines .kept .1 .1 .0 ∙ variant .kept .1 .1 .0)
     (field-lines .kept .1 .1 .1 .0 ∙ put-variant .kept .1 .1 .1 .0)
 
-enum-told : tie.Need-enum-told Inv-loop μ-loop
-enum-told c = search needs
+enum-told-2 : tie.Need-enum-told-2 Inv-loop μ-loop
+enum-told-2 c = search needs
 
 same-length-3 : tie.Need-same-length-3 Inv-loop μ-loop
 same-length-3 c =
@@ -128,10 +124,11 @@ returns-2 : tie.Need-returns-2 Inv-loop μ-loop
 returns-2 c =
     let loop = c .before .before .before .before .before .before .loop in
     let variant = c .before .before .before .before .variant in
-    numbering-done (loop .inv) (variant-turn (c .enum-told .given .1) (variant .ensures)) (λ v h. h)
+    λ vs zs k q.
+    numbering-done (loop .inv) (variant-turn (c .enum-told2 .given .1) (variant .ensures)) (λ v h. h) vs k zs q
 
-enum-told-2 : tie.Need-enum-told-2 Inv-loop μ-loop
-enum-told-2 c = search needs
+enum-told-3 : tie.Need-enum-told-3 Inv-loop μ-loop
+enum-told-3 c = search needs
 
 same-length-5 : tie.Need-same-length-5 Inv-loop μ-loop
 same-length-5 c =
@@ -148,7 +145,7 @@ returns-3 : tie.Need-returns-3 Inv-loop μ-loop
 returns-3 c =
     let loop = c .before .before .before .before .before .before .loop in
     let variant = c .before .before .before .before .variant in
-    λ vs k. numbering-refused (loop .inv) (variant-turn (c .enum-told2 .given .1) (variant .ensures)) vs k
+    λ vs zs k q. numbering-refused (loop .inv) (variant-turn (c .enum-told3 .given .1) (variant .ensures)) vs k
 
 pub variant-lines-spec : {M : Type 1} → statement M
 variant-lines-spec =
@@ -160,7 +157,7 @@ variant-lines-spec =
     variant-requires
     enum-known-v
     number-after-requires
-    enum-known-r
+    enum-told
     same-length
     same-length-2
     returns
@@ -169,11 +166,11 @@ variant-lines-spec =
     field-lines-requires
     loop-less
     loop-again
-    enum-told
+    enum-told-2
     same-length-3
     same-length-4
     returns-2
-    enum-told-2
+    enum-told-3
     same-length-5
     same-length-6
     returns-3)

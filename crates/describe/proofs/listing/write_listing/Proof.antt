@@ -1,6 +1,8 @@
 use Rattle.parse.proofs.Items.{first-in}
 use Rattle.token_list.specs.Contract.{checked}
-use Rattle.token_list.proofs.Passed.{never}
+use native.Mathlib.Omega.{arith}
+use Rattle.token_list.proofs.Bounds.{bounds}
+use Rattle.token_list.proofs.Passed.{never, passed-list}
 use lib.ListN.{length}
 use mathlib.Core.Path.{sym, _∙_, ap}
 use Rattle.output.proofs.Answers.{written-as, written-refused}
@@ -25,7 +27,9 @@ read-listing-requires : tie.Need-read-listing-requires
 read-listing-requires c κs =
     let check = c .before .before .before .before .check in
     let enum-told = c .before .before .enum-told in
-    first-in _ _ (sym (check .ensures .answer) ∙ ap checked (enum-told .given .1))
+    let passed = sym (check .ensures .answer) ∙ ap checked (enum-told .given .1) in
+    let b = bounds _ passed in
+    (first-in _ _ passed, (b .bytes, omega (arith, passed-list _ _ passed .size, b .rows)))
 
 returns : tie.Need-returns
 returns c =
