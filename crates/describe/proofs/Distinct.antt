@@ -2,7 +2,7 @@
 use mathlib.Core.Path.{_≡_, refl, ap, _∙_, sym, subst}
 use mathlib.Core.Bool.{false, false≢true}
 use mathlib.Core.List.{List, [], _∷_, map}
-use Prim.Native.Nat.{ℕ}
+use Prim.Native.Nat.{ℕ, suc, _+_}
 use native.Mathlib.Omega.{arith}
 use lib.IntN.{ℤ, pos}
 use lib.ListN.{length}
@@ -10,7 +10,7 @@ use Rattle.token_list.specs.Layout.{firstRow}
 use Rattle.token_list.specs.Stream.{at}
 use Rattle.output.specs.Answer.{Answer, wrote, refused}
 use Rattle.output.proofs.Answers.{fitted-wrote}
-use Rattle.reading.specs.Declaration.{Declaration}
+use Rattle.reading.specs.Declaration.{Declaration, Variant, Body, fields, variants}
 use Rattle.reading.specs.Took.{Took, took, stopped}
 use Rattle.reading.specs.Reading.{item}
 use Rattle.reading.specs.Place.{start}
@@ -20,23 +20,47 @@ use Rattle.doubles.specs.Double.{Double, second, firstDouble, Different, Told}
 use Rattle.doubles.specs.Same.{bare, sameName, sameInteger}
 use Rattle.doubles.proofs.Doubles.{double-told}
 use Rattle.doubles.proofs.Keys.{name-equal, equal-name, integer-equal, equal-integer}
-use Rattle.describe.specs.Numbers.{nameAgain, numberAgain, Numbers, numbers, lacking, bodyNames, bodyNumbers}
-use Rattle.describe.specs.Numbers.{orDouble, distinct, numbersOf}
+use Rattle.describe.specs.Numbers.{nameAgain, numberAgain, Number, number, without, numberAfter, Numbers, numbers}
+use Rattle.describe.specs.Numbers.{lacking, preceding, andThen, numbersFrom, BEFORE-FIRST, bodyNumbers, orDouble}
+use Rattle.describe.specs.Numbers.{distinct, variantNames, bodyNames, numbersOf}
 use Rattle.describe.specs.Listing.{listing, numberedAnswer, itemAnswer, fullAnswer, answer, Distinct}
 use Rattle.describe.proofs.Numbering.{numbers-same, numbers-not-lacking}
 
--- nothing stands twice
+-- every variant has a number, and nothing stands twice
 none-twice : (names : List (List ℕ)) (ns : Numbers) {zs : List ℤ} → distinct names ns ≡ numbers zs →
-    (firstDouble sameName names ≡ double.none) × (firstDouble sameInteger zs ≡ double.none)
+    (ns ≡ numbers zs) × (firstDouble sameName names ≡ double.none) × (firstDouble sameInteger zs ≡ double.none)
 none-twice names (numbers ys) {zs} e = go (firstDouble sameName names) (firstDouble sameInteger ys) refl refl e
   where
     go : (d g : Double) → firstDouble sameName names ≡ d → firstDouble sameInteger ys ≡ g →
         orDouble nameAgain d (orDouble numberAgain g (numbers ys)) ≡ numbers zs →
-        (firstDouble sameName names ≡ double.none) × (firstDouble sameInteger zs ≡ double.none)
-    go double.none double.none p q e = (p, ap (firstDouble sameInteger) (sym (numbers-same e)) ∙ q)
+        (numbers ys ≡ numbers zs) × (firstDouble sameName names ≡ double.none) ×
+        (firstDouble sameInteger zs ≡ double.none)
+    go double.none double.none p q e = (e, p, ap (firstDouble sameInteger) (sym (numbers-same e)) ∙ q)
     go double.none (second k) p q e = numbers-not-lacking (sym e)
     go (second k) g p q e = numbers-not-lacking (sym e)
 none-twice names (lacking f k) e = numbers-not-lacking (sym e)
+
+-- one number more than what follows has
+each-more : (k n : ℕ) (x : Number) (rest : ℤ → Numbers) {zs : List ℤ} →
+    ((z : ℤ) (ys : List ℤ) → rest z ≡ numbers ys → length ys ≡ n) → andThen k x rest ≡ numbers zs → length zs ≡ suc n
+each-more k n (number z) rest {zs} h e = go (rest z) (h z) e
+  where
+    go : (ns : Numbers) → ((ys : List ℤ) → ns ≡ numbers ys → length ys ≡ n) → preceding z ns ≡ numbers zs →
+        length zs ≡ suc n
+    go (numbers ys) h e = ap length (sym (numbers-same e)) ∙ ap suc (h ys refl)
+    go (lacking f i) h e = numbers-not-lacking (sym e)
+each-more k n (without f) rest h e = numbers-not-lacking (sym e)
+
+each-from : (before : ℤ) (k : ℕ) (vs : List Variant) (zs : List ℤ) → numbersFrom before k vs ≡ numbers zs →
+    length zs ≡ length (map bare (variantNames vs))
+each-from before k [] zs e = ap length (sym (numbers-same e))
+each-from before k (v ∷ vs) zs e =
+    each-more k (length (map bare (variantNames vs))) (numberAfter before (v .value)) (λ z. numbersFrom z (k + 1) vs)
+    (λ z. each-from z (k + 1) vs) e
+
+each-numbered : (b : Body) {zs : List ℤ} → bodyNumbers b ≡ numbers zs → length zs ≡ length (map bare (bodyNames b))
+each-numbered (fields f) e = ap length (sym (numbers-same e))
+each-numbered (variants vs) {zs} e = each-from BEFORE-FIRST 0 vs zs e
 
 map-id : {A : Type 0} (xs : List A) → map (λ x. x) xs ≡ xs
 map-id [] = refl
@@ -65,9 +89,10 @@ module _ (s text : List ℕ) where
         roles = rs;
         rest = us;
         read = e;
+        each = each-numbered (d .body) (apart .0);
         listed = text-same q;
-        names = names-differ (bodyNames (d .body)) (apart .0);
-        numbers = numbers-differ zs (apart .1);
+        names = names-differ (bodyNames (d .body)) (apart .1);
+        numbers = numbers-differ zs (apart .2);
       }
     where
       text-same : {x y : List ℕ} → wrote x ≡ wrote y → y ≡ x

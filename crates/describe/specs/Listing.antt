@@ -148,7 +148,9 @@ pub record Distinct (s text : List ℕ) : Type 0 where
   pub roles : List ℕ
   pub rest : Trees
   pub read : item 0 (at s (firstRow s) .here) ≡ took declaration roles rest
+  -- the numbers of its variants, one for each
   pub zs : List ℤ
+  pub each : length zs ≡ length (bareNames declaration)
   pub listed : text ≡ listing zs declaration
   pub names : Different [] (length (bareNames declaration)) (bareNames declaration)
   pub numbers : Different (pos 0) (length zs) zs
