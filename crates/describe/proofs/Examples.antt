@@ -6,9 +6,10 @@ use Prim.Native.Nat.{ℕ}
 use lib.IntN.{pos, negsuc}
 use lib.ListN.{replicate}
 use Rattle.token_list.specs.Byte.{bytes}
+use Rattle.token_list.specs.Text.{digitWorth}
 use Rattle.reading.specs.Token.{MAX-I64}
 use Rattle.reading.specs.Declaration.{unit, Value, absent, literal, negative, Variant}
-use Rattle.describe.specs.Integer.{none, counts, digitWorth, bits, radixOf, integer, inRange}
+use Rattle.describe.specs.Integer.{none, counts, bits, radixOf, integer, inRange}
 use Rattle.describe.specs.Numbers.{noInteger, noStep, nameAgain, numberAgain, Numbers, numbers, lacking}
 use Rattle.describe.specs.Numbers.{numbersFrom, BEFORE-FIRST, distinct, variantNames}
 

@@ -1,24 +1,17 @@
 -- INTEGER_LITERAL of the Reference (1.63, "Tokens", "Integer literals"), and what such a literal is worth.
 use mathlib.Core.Bool.{Bool, true, false, cond, _&&_, _||_}
 use mathlib.Core.List.{List, [], _∷_}
-use Prim.Native.Nat.{ℕ, _+_, _-_, _*_}
+use Prim.Native.Nat.{ℕ, _+_, _*_}
 use lib.Dec.{leb, ltb, eqb}
 use lib.ListN.{drop}
 use Rattle.token_list.specs.Byte.{code, bytes, ZERO, UNDERSCORE}
-use Rattle.token_list.specs.Text.{same, between}
+use Rattle.token_list.specs.Text.{same, digitWorth}
 use Rattle.reading.specs.Token.{MAX-I64}
 
 -- a number, or none
 pub data Worth : Type 0 where
   none : Worth
   counts : ℕ → Worth
-
--- what a byte is worth as a digit; BIN_DIGIT, OCT_DIGIT, DEC_DIGIT and HEX_DIGIT are those worth less than the radix
-unfoldable pub digitWorth : ℕ → ℕ
-digitWorth b =
-    cond (between (code "0") (code "9") b) (b - code "0")
-    (cond (between (code "a") (code "f") b) (b - code "a" + 10)
-    (cond (between (code "A") (code "F") b) (b - code "A" + 10) 16))
 
 -- how many bits an integer type has, in its name
 unfoldable pub bits : List ℕ → Bool

@@ -3,6 +3,7 @@ use crate::value::worth;
 use parse::variants::ValueAt;
 use parse::variants::VariantAt;
 use token_list::check::Refusal;
+use token_list::text::digit_worth;
 use token_list::text::text_is;
 ghost use mathlib.Core.Path.{_≡_};
 ghost use mathlib.Core.Bool.{false};
@@ -13,7 +14,7 @@ ghost use Rattle.token_list.specs.declared.check.Cursor.{Cursor};
 ghost use Rattle.reading.specs.Token.{MAX-I64};
 ghost use Rattle.reading.specs.Declaration.{Variant};
 ghost use Rattle.parse.specs.Contract.{point, VariantOf, VariantPlaces};
-ghost use Rattle.describe.specs.Integer.{digitWorth, bits, suffix, ended, digits, radixOf, radix};
+ghost use Rattle.describe.specs.Integer.{bits, suffix, ended, digits, radixOf, radix};
 ghost use Rattle.describe.specs.Integer.{integer, inRange};
 ghost use Rattle.describe.specs.Numbers.{following, numberAfter, faultRow};
 ghost use Rattle.describe.specs.Contract.{worthOf, numberOf, NumberAs, NumberIn};
@@ -37,32 +38,6 @@ pub struct Number {
 pub enum NumberStep {
     At(Number),
     Refused(Refusal),
-}
-
-// What a byte is worth as a digit; 16 where it is none.
-fn digit_worth(b: u8) -> usize
-    ensures { λ r. ⌜ r ≡ digitWorth b ⌝ }
-    ensures { λ r. ⌜ r ≤ 16 ⌝ }
-{
-    if b < b'0' {
-        return 16;
-    }
-    if b <= b'9' {
-        return (b - b'0') as usize;
-    }
-    if b < b'A' {
-        return 16;
-    }
-    if b <= b'F' {
-        return (b - b'A') as usize + 10;
-    }
-    if b < b'a' {
-        return 16;
-    }
-    if b <= b'f' {
-        return (b - b'a') as usize + 10;
-    }
-    16
 }
 
 // Whether the text from start to end is how many bits an integer type has.

@@ -17,10 +17,10 @@ use Rattle.token_list.proofs.Lines.{Scanned, scan-found, scan-none}
 use Rattle.writing.specs.Names.{lineNames, namesOf, rightNames}
 use Rattle.token_list.specs.Byte.{COMMA}
 use Rattle.token_list.specs.Row.{Row}
+use Rattle.token_list.specs.Rows.{ident, punct, lifetimeRows}
 use Rattle.reading.specs.Declaration.{Parameter}
 use Rattle.output.specs.Contract.{FAR}
 use Rattle.output.proofs.Texts.{kept}
-use Rattle.writing.specs.Rows.{ident, punct, lifetimeRows}
 use Rattle.writing.specs.Generics.{parameterRows, parted}
 use Rattle.writing.proofs.Written.{parted-append}
 use Rattle.generate.specs.Contract.{Appended, NameEnd, added}

@@ -10,6 +10,7 @@ use lib.ListN.{length, take}
 use lib.Seq.{length-take-le}
 use Rattle.token_list.specs.Byte.{LF, LESS, GREATER}
 use Rattle.token_list.specs.Row.{Row, Lines, tail, line, lines, byte}
+use Rattle.token_list.specs.Rows.{punct}
 use Rattle.token_list.specs.Check as list
 use Rattle.token_list.specs.Stream.{Trees}
 use Rattle.token_list.specs.Stream.{at}
@@ -22,7 +23,6 @@ use Rattle.output.specs.declared.written.Written.the-variants as writtens
 use Rattle.output.proofs.Answers.{written-as, fitted-wrote}
 use Rattle.reading.specs.Declaration.{Parameter, Generics, without, Declaration}
 use Rattle.reading.specs.Took.{Took, took}
-use Rattle.writing.specs.Rows.{punct}
 use Rattle.writing.specs.Names.{lineNames, namesOf}
 use Rattle.writing.specs.Generics.{parted, angledRows, sentParameter, genericsRows, addedLifetime, addedType}
 use Rattle.writing.specs.Answer.{Writer, implGenerics, typeGenerics, withAdditional, text, itemAnswer, answer}

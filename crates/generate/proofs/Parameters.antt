@@ -7,6 +7,7 @@ use native.Mathlib.Omega.{arith}
 use lib.ListN.{length}
 use lib.Seq.{slice}
 use Rattle.token_list.specs.Row.{Row}
+use Rattle.token_list.specs.Rows.{ident, lifetimeRows}
 use Rattle.token_list.specs.Check.{check, passed}
 use Rattle.token_list.specs.Stream.{Trees, end, at}
 use Rattle.token_list.specs.Contract.{InList}
@@ -33,7 +34,7 @@ use Rattle.parse.specs.declared.generics.ParameterStep.{ParameterStep}
 use Rattle.parse.specs.declared.generics.ParameterStep.the-variants as steps
 use Rattle.parse.proofs.Meeting.{say}
 use Rattle.parse.proofs.Inside.{meets-tells, inside-more, inside-done, inside-refused, forward}
-use Rattle.writing.specs.Rows.{ident, lifetimeRows, sent}
+use Rattle.writing.specs.Rows.{sent}
 use Rattle.writing.specs.Generics.{parameterRows, sentParameter, named, parted}
 use Rattle.writing.proofs.Read as read
 use Rattle.writing.proofs.Copied.{copied}

@@ -9,6 +9,7 @@ use lib.Seq.{slice}
 use Rattle.token_list.specs.Byte.{QUOTE}
 use Rattle.token_list.specs.Layout.{PUNCT, NAMES-DIFFER, marked}
 use Rattle.token_list.specs.Row.{Row, written}
+use Rattle.token_list.specs.Rows.{ident, listOf}
 use Rattle.token_list.specs.Stream.{Trees, rowsAt}
 use Rattle.token_list.specs.Contract.{RightRows}
 use Rattle.token_list.specs.Place.{OneRefusal}
@@ -18,7 +19,7 @@ use Rattle.output.specs.Contract.{further, Put, Printed}
 use Rattle.output.specs.Answer.{refused, answerText}
 use Rattle.output.specs.Written.{WrittenAs}
 use Rattle.output.specs.declared.written.Written.{Written}
-use Rattle.writing.specs.Rows.{ident, runRows, sentRow, sent, listOf}
+use Rattle.writing.specs.Rows.{runRows, sentRow, sent}
 use Rattle.writing.specs.Names.{namesOf, rightNames, nameLine, quoted}
 use Rattle.writing.specs.Answer.{Writer, fullAnswer, answer, writeNumber}
 use Rattle.writing.specs.Generics.{constraints, bounds, parameterRows, sentParameter, named, addedLifetime}

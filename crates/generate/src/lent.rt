@@ -6,7 +6,7 @@ ghost use mathlib.Core.List.{[], _∷_};
 ghost use Prim.Native.Nat.{_≤_};
 ghost use lib.ListN.{length};
 ghost use lib.Seq.{slice};
-ghost use Rattle.writing.specs.Rows.{ident, punct, lifetimeRows};
+ghost use Rattle.token_list.specs.Rows.{ident, punct, lifetimeRows};
 ghost use Rattle.generate.specs.Contract.{Appended, Extended, Part};
 
 // A punctuation.

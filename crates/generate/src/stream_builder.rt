@@ -14,8 +14,8 @@ ghost use Prim.Native.Nat.{_≤_};
 ghost use lib.ListN.{length};
 ghost use lib.Seq.{slice};
 ghost use Rattle.token_list.specs.Row.{markByte, markColumn};
+ghost use Rattle.token_list.specs.Rows.{ident, punct, lifetimeRows};
 ghost use Rattle.output.specs.Contract.{further, Put};
-ghost use Rattle.writing.specs.Rows.{ident, punct, lifetimeRows};
 ghost use Rattle.generate.specs.Contract.{row, sentMark, Built, Appended, Extended, Part};
 
 // How many rows and bytes the list has, where both stop at a number past every output; and whether

@@ -10,10 +10,10 @@ use lib.ListN.{length, drop}
 use Rattle.token_list.specs.Byte.{SPACE}
 use Rattle.token_list.specs.Text.{LF, name, literal, single, punctuation, opening, closing, closer}
 use Rattle.token_list.specs.Layout.{marked, firstRow, textOffset}
-use Rattle.token_list.specs.Layout.{CLOSE, IDENT, LITERAL, MAX-BYTES, MAX-DEPTH, MAX-ROWS, OPEN, PUNCT}
+use Rattle.token_list.specs.Layout.{CLOSE, IDENT, LITERAL, MAX-BYTES, MAX-DEPTH, MAX-ROWS, MAX-TEXT, OPEN, PUNCT}
 use Rattle.token_list.specs.Row.{Row, Lines, tail, line, lines, rows, written, Form, plain, opens}
 use Rattle.token_list.specs.Row.{closed, wrong, form, formOf, textForm, first, columnsFit, markOf, lineRow}
-use Rattle.token_list.specs.Row.{markColumn}
+use Rattle.token_list.specs.Row.{markColumn, rightMark}
 use Rattle.token_list.specs.Check.{Answer, passed, refused, Open, close, step, walk, named, check, isRow, right}
 use Rattle.token_list.specs.Check.{allRight, closedBy, enclosing, nested}
 use Rattle.token_list.specs.Stream.{Trees, Streams, head, others, before, streams, size, follows, allClosed}
@@ -57,14 +57,26 @@ plain-form k t o c = go (eqb k IDENT) (eqb k LITERAL) (eqb k PUNCT)
     go false false true = (single punctuation t, refl)
     go false false false = (false, passed-over _ _ _ o ∙ passed-over _ _ _ c)
 
+-- ## A right row
+
+pub record RightRow (m : Bool) (r : Row) : Type 0 where
+  pub formed : isRow (formOf (r .kind) (r .text)) ≡ true
+  pub short : leb (length (r .text)) MAX-TEXT ≡ true
+  pub mark : rightMark m r ≡ true
+
+pub right-row : (m : Bool) (r : Row) → right m r ≡ true → RightRow m r
+right-row m r e =
+    let p = and-parts (isRow (formOf (r .kind) (r .text))) _ e in
+    let q = and-parts (leb (length (r .text)) MAX-TEXT) (rightMark m r) (p .1) in
+    record { formed = p .0; short = q .0; mark = q .1 }
+
 -- ## What the walk has seen, where it passes the lines ls from row r on under the open groups gs
 
-delimiters : List Open → List ℕ
+abbrev pub delimiters : List Open → List ℕ
 delimiters [] = []
 delimiters (g ∷ gs) = g .delimiter ∷ delimiters gs
 
-delimiters-length : (gs : List Open) → length (delimiters gs) ≡ length gs
-unfolding delimiters
+pub delimiters-length : (gs : List Open) → length (delimiters gs) ≡ length gs
 delimiters-length [] = refl
 delimiters-length (g ∷ gs) = ap suc (delimiters-length gs)
 
@@ -112,7 +124,6 @@ module _ (m : Bool) (ls : Lines)
   go hs = walk m (r + 1) hs ls
 
   open-seen : eqb k OPEN ≡ true → step r gs (formOf k t) go ≡ passed n → Seen m (line l ls) r gs n
-  unfolding delimiters
   open-seen o e = pick (single opening t) refl
     where
       pick : (b : Bool) → single opening t ≡ b → Seen m (line l ls) r gs n
@@ -150,7 +161,6 @@ module _ (m : Bool) (ls : Lines)
   -- the closing row, by the groups that are open
   close-seen : eqb k OPEN ≡ false → eqb k CLOSE ≡ true → step r gs (formOf k t) go ≡ passed n →
       Seen m (line l ls) r gs n
-  unfolding delimiters
   close-seen o c e = pick (single closing t) refl
     where
       pick : (b : Bool) → single closing t ≡ b → Seen m (line l ls) r gs n
@@ -208,7 +218,6 @@ line-seen m ls ih l r n gs e = pick (columnsFit m l) refl e
             kind false false a b = plain-seen m ls ih r n gs l fit short a b e
 
 seen : (m : Bool) (ls : Lines) (r : ℕ) (gs : List Open) (n : ℕ) → walk m r gs ls ≡ passed n → Seen m ls r gs n
-unfolding delimiters
 seen m (tail []) r [] n e = let same : r ≡ n = cc in record { written = refl; count = omega arith; nests = refl }
 seen m (tail []) r (g ∷ gs) n e = absurd (never _ _ _ e)
 seen m (tail (b ∷ bs)) r gs n e = absurd (go (leb MAX-ROWS r) e)
@@ -332,7 +341,7 @@ no-outer [] e = refl
 no-outer (t ∷ ts) e = absurd (omega arith)
 
 pub passed-list : (s : List ℕ) (n : ℕ) → check s ≡ passed n → PassedList s n
-unfolding check at delimiters around
+unfolding check at around
 passed-list s n e = long (ltb MAX-BYTES (length s)) e
   where
     m : Bool

@@ -1,7 +1,7 @@
 -- Bytes and texts (document 01, "The token list").
 use mathlib.Core.Bool.{Bool, true, false, not, cond, _&&_, _||_}
 use mathlib.Core.List.{List, [], _∷_}
-use Prim.Native.Nat.{ℕ}
+use Prim.Native.Nat.{ℕ, _+_, _-_}
 use lib.Dec.{leb, eqb}
 use Rattle.token_list.specs.Byte.{code, bytes, SPACE, UNDERSCORE, HASH, PARENTHESIS, BRACKET, BRACE}
 pub use Rattle.token_list.specs.Byte.{LF}
@@ -86,3 +86,13 @@ abbrev pub single : (ℕ → Bool) → List ℕ → Bool
 single p [] = false
 single p (b ∷ []) = p b
 single p (b ∷ c ∷ bs) = false
+
+-- ## The worth of digits, for other statements than those on rows
+
+-- what a byte is worth as a digit, 16 where it is none; the Reference's BIN_DIGIT, OCT_DIGIT, DEC_DIGIT and HEX_DIGIT
+-- (1.63, "Tokens") are those worth less than the radix
+unfoldable pub digitWorth : ℕ → ℕ
+digitWorth b =
+    cond (between (code "0") (code "9") b) (b - code "0")
+    (cond (between (code "a") (code "f") b) (b - code "a" + 10)
+    (cond (between (code "A") (code "F") b) (b - code "A" + 10) 16))

@@ -1,9 +1,9 @@
-// Bytes and texts: the classes of bytes, and the one comparison of a text with given bytes.
+// Bytes and texts: the classes of bytes, the worth of a digit, and the one comparison of a text with given bytes.
 ghost use mathlib.Core.Path.{_≡_};
 ghost use Prim.Native.Nat.{_≤_, min};
 ghost use lib.ListN.{length};
 ghost use lib.Seq.{slice};
-ghost use Rattle.token_list.specs.Text.{all, member, same, between, digit, nameStart, punctuation};
+ghost use Rattle.token_list.specs.Text.{all, member, same, between, digit, nameStart, punctuation, digitWorth};
 ghost use Rattle.token_list.specs.Contract.{inText, TextEnd, ComparedAs};
 
 // Whether lo <= b <= hi.
@@ -20,6 +20,32 @@ pub fn is_digit(b: u8) -> bool
     ensures { λ r. ⌜ r ≡ digit b ⌝ }
 {
     between(b'0', b'9', b)
+}
+
+// What a byte is worth as a digit; 16 where it is none.
+pub fn digit_worth(b: u8) -> usize
+    ensures { λ r. ⌜ r ≡ digitWorth b ⌝ }
+    ensures { λ r. ⌜ r ≤ 16 ⌝ }
+{
+    if b < b'0' {
+        return 16;
+    }
+    if b <= b'9' {
+        return (b - b'0') as usize;
+    }
+    if b < b'A' {
+        return 16;
+    }
+    if b <= b'F' {
+        return (b - b'A') as usize + 10;
+    }
+    if b < b'a' {
+        return 16;
+    }
+    if b <= b'f' {
+        return (b - b'a') as usize + 10;
+    }
+    16
 }
 
 // A letter or `_`.

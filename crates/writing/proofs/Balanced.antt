@@ -5,35 +5,23 @@ use mathlib.Core.List.{List, [], _∷_, _++_, append-assoc, append-nil}
 use Prim.Native.Nat.{ℕ, _+_, _≤_, _<_}
 use native.Mathlib.Omega.{arith}
 use borrow.Author.Tests.{eq-eqb, eqb-true, eqb-false, ltb-true, lt-ltb}
-use lib.Dec.{leb, eqb, ltb}
+use lib.Dec.{eqb, ltb}
 use lib.ListN.{length}
 use Rattle.token_list.specs.Byte.{QUOTE}
-use Rattle.token_list.specs.Layout.{IDENT, PUNCT, OPEN, CLOSE, marked, firstRow, MAX-TEXT, MAX-DEPTH}
+use Rattle.token_list.specs.Layout.{IDENT, PUNCT, OPEN, CLOSE, marked, firstRow, MAX-DEPTH}
 use Rattle.token_list.specs.Text as text
 use Rattle.token_list.specs.Text.{single, closer}
 use Rattle.token_list.specs.Row.{Row, Form, wrong, opens, closed, formOf, first, rightMark}
+use Rattle.token_list.specs.Rows.{ident, punct, opening, closing}
 use Rattle.token_list.specs.Check.{check, passed, isRow, right, closedBy, enclosing, nested}
 use Rattle.token_list.specs.Stream.{Trees, end, leaf, group, Streams, head, others, before, streams, rowsAt, at}
-use Rattle.token_list.proofs.Passed.{open-form, close-form, passed-list}
+use Rattle.token_list.proofs.Passed.{open-form, close-form, right-row, passed-list}
 use Rattle.token_list.proofs.Columns.{beq-self}
 use Rattle.token_list.proofs.Texts.{chosen, passed-over, and-both, and-parts}
 use Rattle.token_list.proofs.Streams.{before-close, before-open, before-leaf}
-use Rattle.writing.specs.Rows.{ident, punct, opening, closing, runRows}
+use Rattle.writing.specs.Rows.{runRows}
 use Rattle.writing.specs.Depth.{depth}
 use Rattle.writing.proofs.Joined.{token, token-kinds, tokens, joined}
-
--- ## A right row
-
-pub record RightRow (m : Bool) (r : Row) : Type 0 where
-  pub formed : isRow (formOf (r .kind) (r .text)) ≡ true
-  pub short : leb (length (r .text)) MAX-TEXT ≡ true
-  pub mark : rightMark m r ≡ true
-
-pub right-row : (m : Bool) (r : Row) → right m r ≡ true → RightRow m r
-right-row m r e =
-    let p = and-parts (isRow (formOf (r .kind) (r .text))) _ e in
-    let q = and-parts (leb (length (r .text)) MAX-TEXT) (rightMark m r) (p .1) in
-    record { formed = p .0; short = q .0; mark = q .1 }
 
 -- ## Marks
 

@@ -12,21 +12,23 @@ use Rattle.token_list.specs.Byte.{QUOTE, COLON, LF}
 use Rattle.token_list.specs.Layout.{IDENT, PUNCT, marked, firstRow, textOffset}
 use Rattle.token_list.specs.Text as text
 use Rattle.token_list.specs.Row.{Row, formOf, first, markColumn, written}
+use Rattle.token_list.specs.Rows.{ident, punct, opening, closing}
 use Rattle.token_list.specs.Check.{isRow, right, check, passed}
 use Rattle.token_list.specs.Stream.{Trees, end, leaf, group, size, at}
 use Rattle.token_list.proofs.Columns.{column-length}
 use Rattle.token_list.proofs.Texts.{and-both, and-parts, and-last, same-path}
+use Rattle.token_list.proofs.Passed.{right-row}
 use Rattle.reading.specs.Token.{isIdent, isPunct, isEnd, CONST}
 use Rattle.reading.specs.Declaration.{Parameter, lifetime, constant, type, Generics, angled, Declaration}
 use Rattle.reading.specs.Took.{took}
 use Rattle.reading.specs.Reading.{item}
 use Rattle.reading.proofs.SoundTokens.{Sound, met-by}
-use Rattle.writing.specs.Rows.{ident, punct, opening, closing, runRows, sentRow, sent}
+use Rattle.writing.specs.Rows.{runRows, sentRow, sent}
 use Rattle.writing.specs.Generics.{constraints, bounds, parameterRows, sentParameter}
 use Rattle.writing.specs.Depth.{depth}
 use Rattle.writing.specs.ReadBack.{runOf}
 use Rattle.writing.proofs.Joined.{joined, size-joined, rows-joined, token, written-append}
-use Rattle.writing.proofs.Balanced.{right-row, ident-mark, sound, sound-joined, list-stream}
+use Rattle.writing.proofs.Balanced.{ident-mark, sound, sound-joined, list-stream}
 use Rattle.reading.specs.Grammar as g
 use Rattle.writing.proofs.Read.{RunAt, OptionalRun, ParameterAt, CommaAt, ParametersAt, GenericsAt, Later}
 use Rattle.writing.proofs.Read.{Within, item-read}

@@ -4,17 +4,18 @@ use mathlib.Core.Bool.{Bool, true, false, not, _&&_}
 use mathlib.Core.List.{List, [], _∷_, _++_, append-assoc}
 use Prim.Native.Nat.{ℕ, zero, suc, _+_, _-_}
 use native.Mathlib.Omega.{arith}
-use borrow.Author.Tests.{eqb-false}
+use borrow.Author.Tests.{not-true, eqb-false}
 use lib.Dec.{eqb}
 use lib.ListN.{length, length-append}
 use Rattle.token_list.specs.Byte.{SPACE, LF}
 use Rattle.token_list.specs.Layout.{OPEN, CLOSE}
 use Rattle.token_list.specs.Row.{Row, markColumn, written}
+use Rattle.token_list.specs.Rows.{opening, closing}
 use Rattle.token_list.specs.Stream.{Trees, end, leaf, group, Streams, before, streams, size}
 use Rattle.token_list.proofs.Texts.{and-parts}
 use Rattle.token_list.proofs.Streams.{before-close, before-open, before-leaf}
 use Rattle.reading.specs.Reading.{firstRows}
-use Rattle.writing.specs.Rows.{opening, closing, runRows}
+use Rattle.writing.specs.Rows.{runRows}
 
 -- ## Rows
 
@@ -83,10 +84,6 @@ front-joined (group d ts vs) us (suc n) e = ap (group d ts) (front-joined vs us 
 -- a row that opens and closes no group
 abbrev pub token : Row → Bool
 token r = not (eqb (r .kind) OPEN) && not (eqb (r .kind) CLOSE)
-
-pub not-true : (b : Bool) → not b ≡ true → b ≡ false
-not-true true e = sym e
-not-true false e = refl
 
 pub token-kinds : (r : Row) → token r ≡ true → (eqb (r .kind) OPEN ≡ false) × (eqb (r .kind) CLOSE ≡ false)
 token-kinds r e =

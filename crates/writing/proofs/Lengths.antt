@@ -10,6 +10,7 @@ use Rattle.token_list.specs.Byte.{QUOTE, COMMA, LESS, GREATER, LF}
 use Rattle.token_list.specs.Layout as layout
 use Rattle.token_list.specs.Layout.{marked, firstRow}
 use Rattle.token_list.specs.Row.{Row, written, Lines, tail, line, lines, byte}
+use Rattle.token_list.specs.Rows.{ident, punct, listOf}
 use Rattle.token_list.specs.Check as list
 use Rattle.token_list.specs.Stream.{Trees, size, at}
 use Rattle.token_list.proofs.Passed.{passed-list}
@@ -20,7 +21,6 @@ use Rattle.reading.specs.Declaration.{Parameter, lifetime, constant, type, Gene
 use Rattle.reading.specs.Took.{Took, took, stopped}
 use Rattle.reading.specs.Reading.{item}
 use Rattle.reading.proofs.Frame.{framed-cases}
-use Rattle.writing.specs.Rows.{ident, punct, listOf}
 use Rattle.writing.specs.Generics as generics
 use Rattle.writing.specs.Generics.{parameterRows, parted, angledRows, sentParameter, genericsRows, named, names}
 use Rattle.writing.specs.Generics.{addedLifetime, addedType, additional}

@@ -10,7 +10,6 @@ pub mod Sent
 pub mod Declared
 pub mod ReadBack
 pub mod Lengths
-pub mod Passes
 pub mod Lists
 pub mod Copied
 pub mod Refusals

@@ -9,14 +9,16 @@ use Rattle.token_list.specs.Layout.{marked, firstRow}
 use Rattle.token_list.specs.Text as text
 use Rattle.token_list.specs.Text.{plainName, rawName, punctuation}
 use Rattle.token_list.specs.Row.{Row, plain, wrong, formOf}
+use Rattle.token_list.specs.Rows.{ident, punct}
 use Rattle.token_list.specs.Check.{check, passed, isRow, right, nested}
 use Rattle.token_list.specs.Stream.{Trees, end, leaf, group, Streams, streams, at}
 use Rattle.token_list.proofs.Texts.{and-both, and-parts}
+use Rattle.token_list.proofs.Passes.{nested-passes, list-marked, list-rows}
 use Rattle.reading.specs.Token.{CONST}
 use Rattle.reading.specs.Declaration.{Parameter, lifetime, constant, type, Generics, without, angled, Declaration}
 use Rattle.reading.specs.Took.{took}
 use Rattle.reading.specs.Reading.{item}
-use Rattle.writing.specs.Rows.{ident, punct, runRows}
+use Rattle.writing.specs.Rows.{runRows}
 use Rattle.writing.specs.Generics.{bounds, parameterRows, parted, angledRows, sentParameter, genericsRows}
 use Rattle.writing.specs.Generics.{named, names, addedLifetime, addedType}
 use Rattle.writing.specs.Names.{namesOf, rightName, rightNames}
@@ -28,7 +30,6 @@ use Rattle.writing.proofs.Joined.{joined, rows-joined, token}
 use Rattle.writing.proofs.Balanced.{ident-mark, punct-mark, sound, sound-tokens, nests, list-stream}
 use Rattle.writing.proofs.Written.{boundsThen, parameterThen, partedThen, angledThen, allTokens, streams-angled}
 use Rattle.writing.proofs.Declared.{nameOf, AllDeclared, depth-joined, declared-of}
-use Rattle.writing.proofs.Passes.{nested-passes, list-marked, list-rows}
 
 -- ## The rows of the streams that are written
 

@@ -7,6 +7,7 @@ use Rattle.token_list.specs.Byte.{SEMICOLON, LESS}
 use Rattle.token_list.specs.Text.{same}
 use Rattle.token_list.specs.Check.{check, passed}
 use Rattle.token_list.specs.Layout.{firstRow}
+use Rattle.token_list.specs.Rows.{ident, punct}
 use Rattle.token_list.specs.Stream.{Trees, end, leaf, at}
 use Rattle.token_list.proofs.Texts.{and-both, and-parts, or-last}
 use Rattle.reading.specs.Role as role
@@ -21,7 +22,6 @@ use Rattle.reading.specs.Reading.{every}
 use Rattle.reading.proofs.GrammarSound.{obeys-sound}
 use Rattle.reading.proofs.GrammarWider as wider
 use Rattle.reading.proofs.Promise.{obeys-unique}
-use Rattle.writing.specs.Rows.{ident, punct}
 use Rattle.writing.specs.Generics.{angledRows, sentParameter, named, names, addedLifetime, addedType, additional}
 use Rattle.writing.specs.ReadBack.{behindStruct, unitStruct, withCommas, Reads, Refused, ReadBack, runOf}
 use Rattle.writing.specs.ReadBack.{endsInMinus, lastMinus, constNamed, constAdded, addedException, withoutDefault}

@@ -7,6 +7,7 @@ use lib.ListN.{length}
 use Rattle.token_list.specs.Byte.{QUOTE, COMMA, COLON, SEMICOLON, EQUALS, GREATER}
 use Rattle.token_list.specs.Text.{same}
 use Rattle.token_list.specs.Row.{Row}
+use Rattle.token_list.specs.Rows.{ident, punct}
 use Rattle.token_list.specs.Stream.{Trees, end, leaf, group, size}
 use Rattle.token_list.proofs.Texts.{chosen, passed-over}
 use Rattle.reading.specs.Role as role
@@ -18,7 +19,6 @@ use Rattle.reading.specs.Took.{Took, took, Cause, stopped, onward, after, _>>=_
 use Rattle.reading.specs.Reading as r
 use Rattle.reading.specs.Reading.{Maybe, one, every, more}
 use Rattle.reading.proofs.Conserved.{every-step, parameter-round}
-use Rattle.writing.specs.Rows.{ident, punct}
 use Rattle.writing.specs.ReadBack.{runOf, endsInMinus, lastMinus, withoutDefault, withCommas}
 use Rattle.writing.proofs.Joined.{joined}
 use Rattle.writing.proofs.Runs.{Alone, ends-in-minus, before-comma, before-angle, AFTER, before-arrow}

@@ -10,6 +10,7 @@ use lib.Dec.{eqb}
 use lib.ListN.{length, length-append}
 use Rattle.token_list.specs.Byte.{COMMA, MINUS, SEMICOLON, LESS, GREATER}
 use Rattle.token_list.specs.Row.{Row}
+use Rattle.token_list.specs.Rows.{punct}
 use Rattle.token_list.specs.Stream.{Trees, end, leaf, group, size}
 use Rattle.token_list.proofs.Texts.{and-parts}
 use Rattle.reading.specs.Role as role
@@ -20,7 +21,6 @@ use Rattle.reading.specs.Took.{took}
 use Rattle.reading.specs.Reading as r
 use Rattle.reading.proofs.Rounds.{copied-length}
 use Rattle.reading.proofs.CompleteTokens.{punct-other, runFrom-complete}
-use Rattle.writing.specs.Rows.{punct}
 use Rattle.writing.specs.ReadBack.{endsInMinus}
 use Rattle.writing.proofs.Joined.{joined, front-joined}
 

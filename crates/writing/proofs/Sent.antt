@@ -9,15 +9,17 @@ use Rattle.token_list.specs.Byte.{SPACE, LF, QUOTE}
 use Rattle.token_list.specs.Layout.{PUNCT}
 use Rattle.token_list.specs.Text as text
 use Rattle.token_list.specs.Row.{Row, first, ownMark, written, rightMark}
+use Rattle.token_list.specs.Rows.{opening, closing}
 use Rattle.token_list.specs.Check.{right}
 use Rattle.token_list.specs.Stream.{Trees, end, leaf, group, size}
 use Rattle.token_list.proofs.Texts.{and-both, and-parts}
+use Rattle.token_list.proofs.Passed.{right-row}
 use Rattle.reading.specs.Role as role
 use Rattle.reading.specs.Grammar.{arrow, deeper, back, token, inside, ended}
-use Rattle.writing.specs.Rows.{opening, closing, runRows, sentRow, sent}
+use Rattle.writing.specs.Rows.{runRows, sentRow, sent}
 use Rattle.writing.specs.Depth.{depth}
 use Rattle.writing.proofs.Joined as j
-use Rattle.writing.proofs.Balanced.{right-row, sound}
+use Rattle.writing.proofs.Balanced.{sound}
 use Rattle.writing.proofs.Runs.{Alone}
 use Rattle.writing.proofs.Reread.{StandsAlone}
 

@@ -5,11 +5,11 @@ use mathlib.Core.List.{List, [], _∷_, _++_, append-assoc}
 use Prim.Native.Nat.{ℕ}
 use Rattle.token_list.specs.Byte.{QUOTE, COMMA, COLON, SEMICOLON, LESS, GREATER}
 use Rattle.token_list.specs.Row.{Row}
+use Rattle.token_list.specs.Rows.{ident, punct}
 use Rattle.token_list.specs.Stream.{Trees, end, leaf, group, Streams, before, streams}
 use Rattle.token_list.proofs.Texts.{and-parts}
 use Rattle.reading.specs.Token.{CONST, STRUCT}
 use Rattle.reading.specs.Declaration.{Parameter, lifetime, constant, type}
-use Rattle.writing.specs.Rows.{ident, punct}
 use Rattle.writing.specs.Generics.{bounds, parameterRows, parted, angledRows}
 use Rattle.writing.specs.ReadBack.{runOf, behindStruct}
 use Rattle.writing.proofs.Joined.{joined, tokens, streams-rows}

@@ -7,12 +7,12 @@ use Prim.Native.Nat.{ℕ, _+_, _*_, _≤_}
 use lib.Dec.{eqb}
 use lib.ListN.{length}
 use Rattle.token_list.specs.Layout.{marked, MAX-BYTES, MAX-ROWS}
+use Rattle.token_list.specs.Rows.{listOf}
 use Rattle.token_list.specs.Check as list
 use Rattle.reading.specs.Declaration.{Parameter, Declaration}
 use Rattle.reading.specs.Took.{Took, took, stopped}
 use Rattle.reading.specs.Answer.{framed, readNumber}
 use Rattle.output.specs.Answer.{Answer, wrote, refused, fitted}
-use Rattle.writing.specs.Rows.{listOf}
 use Rattle.writing.specs.Generics as generics
 use Rattle.writing.specs.Names.{namesOf, rightNames}
 

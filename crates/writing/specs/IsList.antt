@@ -6,9 +6,9 @@ use Prim.Native.Nat.{ℕ, _≤_}
 use lib.ListN.{length}
 use Rattle.token_list.specs.Layout.{marked, firstRow, MAX-BYTES, MAX-ROWS}
 use Rattle.token_list.specs.Row.{Row}
+use Rattle.token_list.specs.Rows.{listOf}
 use Rattle.token_list.specs.Check.{check, passed, nested}
 use Rattle.token_list.specs.Stream.{streams, rowsAt, at}
-use Rattle.writing.specs.Rows.{listOf}
 use Rattle.writing.specs.Depth.{depth}
 
 -- the rows rs, written from the list s with its names

@@ -7,6 +7,7 @@ use Prim.Native.Nat.{ℕ}
 use Rattle.token_list.specs.Byte.{SEMICOLON, MINUS}
 use Rattle.token_list.specs.Text.{same}
 use Rattle.token_list.specs.Row.{Row}
+use Rattle.token_list.specs.Rows.{ident, punct}
 use Rattle.token_list.specs.Stream.{Trees, end, leaf, group, streams}
 use Rattle.reading.specs.Token.{isPunct, STRUCT, CONST}
 use Rattle.reading.specs.Declaration.{default, struct, Parameter, lifetime, constant, type, angled, unconstrained, unit}
@@ -15,7 +16,6 @@ use Rattle.reading.specs.Took.{Cause, took, stopped}
 use Rattle.reading.specs.Reading.{item}
 use Rattle.reading.specs.Grammar as grammar
 use Rattle.reading.specs.Grammar.{Difference, Obeys}
-use Rattle.writing.specs.Rows.{ident, punct}
 use Rattle.writing.specs.Generics.{angledRows, declared, names, addedLifetime, addedType, additional}
 
 -- the stream of `struct`, the name, the rows and `;`

@@ -1,34 +1,11 @@
--- Tokens as rows, and rows as a list (document 01, "The token list"; document 02, card 6).
-use mathlib.Core.Bool.{Bool, false, _||_}
+-- A run as rows (document 01, "The token list"; document 02, card 6).
+use mathlib.Core.Bool.{_||_}
 use mathlib.Core.List.{List, [], _∷_, _++_}
-use Prim.Native.Nat.{ℕ}
-use lib.Dec.{eqb}
-use Rattle.token_list.specs.Byte.{QUOTE}
-use Rattle.token_list.specs.Layout.{IDENT, PUNCT, OPEN, CLOSE, names}
-use Rattle.token_list.specs.Text.{closer}
-use Rattle.token_list.specs.Row.{Row, ownMark, written}
+use Rattle.token_list.specs.Row.{Row, ownMark}
+use Rattle.token_list.specs.Rows.{opening, closing}
 use Rattle.token_list.specs.Stream.{Trees, end, leaf, group}
 
--- ## What a StreamBuilder adds
-
-abbrev pub ident : List ℕ → Row
-ident t = record { kind = IDENT; joint = false; text = t }
-
--- joint where it is a `'`
-abbrev pub punct : ℕ → Row
-punct b = record { kind = PUNCT; joint = eqb b QUOTE; text = b ∷ [] }
-
-abbrev pub opening : ℕ → Row
-opening d = record { kind = OPEN; joint = false; text = d ∷ [] }
-
-abbrev pub closing : ℕ → Row
-closing d = record { kind = CLOSE; joint = false; text = closer d ∷ [] }
-
--- `'` and the name
-abbrev pub lifetimeRows : List ℕ → List Row
-lifetimeRows t = punct QUOTE ∷ ident t ∷ []
-
--- a run: a group is its opening row, its inside, its closing row
+-- a group is its opening row, its inside, its closing row
 abbrev pub runRows : Trees → List Row
 runRows end = []
 runRows (leaf r us) = r ∷ runRows us
@@ -43,9 +20,3 @@ abbrev pub sent : Trees → Trees
 sent end = end
 sent (leaf r us) = leaf (sentRow r) (sent us)
 sent (group d ts us) = group d (sent ts) (sent us)
-
--- ## Rows as the bytes of a list, with marks or without
-
--- the line of names, then the rows
-abbrev pub listOf : Bool → List Row → List ℕ
-listOf m rs = names m ++ written m rs

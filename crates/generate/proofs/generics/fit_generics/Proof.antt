@@ -1,7 +1,7 @@
 use native.Mathlib.Omega.{arith}
 use Rattle.output.proofs.Answers.{fits-not, fits}
 use Rattle.token_list.specs.Layout.{marked}
-use Rattle.writing.specs.Rows.{listOf}
+use Rattle.token_list.specs.Rows.{listOf}
 use Rattle.writing.specs.Generics.{genericsRows}
 use Rattle.generate.specs.Contract.{parametersBy}
 use borrow.Author.Needs.{needs}

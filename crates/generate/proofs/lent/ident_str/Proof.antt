@@ -2,7 +2,7 @@ use mathlib.Core.List.{[], _∷_}
 use contract.Running.{givenOf, tables, tablesOf}
 use denote.Triple.Spec.{tripleOf}
 use denote.Triple.Table.{entered, cited}
-use Rattle.writing.specs.Rows.{ident}
+use Rattle.token_list.specs.Rows.{ident}
 use Rattle.generate.proofs.LentName.{Method, meets}
 use Rattle.generate.proofs.stream_builder.StreamBuilder.ident_str.Symbol as method-def
 use Rattle.generate.proofs.stream_builder.StreamBuilder.ident_str.Symbol.{name as #method}

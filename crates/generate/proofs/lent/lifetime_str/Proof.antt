@@ -1,7 +1,7 @@
 use contract.Running.{givenOf, tables, tablesOf}
 use denote.Triple.Spec.{tripleOf}
 use denote.Triple.Table.{entered, cited}
-use Rattle.writing.specs.Rows.{lifetimeRows}
+use Rattle.token_list.specs.Rows.{lifetimeRows}
 use Rattle.generate.proofs.LentName.{Method, meets}
 use Rattle.generate.proofs.stream_builder.StreamBuilder.lifetime_str.Symbol as method-def
 use Rattle.generate.proofs.stream_builder.StreamBuilder.lifetime_str.Symbol.{name as #method}

@@ -2,7 +2,7 @@ use mathlib.Core.List.{[], _∷_}
 use contract.Running.{givenOf, tables, tablesOf}
 use denote.Triple.Spec.{tripleOf}
 use denote.Triple.Table.{entered, cited}
-use Rattle.writing.specs.Rows.{punct}
+use Rattle.token_list.specs.Rows.{punct}
 use Rattle.generate.proofs.LentByte.{Method, meets}
 use Rattle.generate.proofs.stream_builder.StreamBuilder.punct.Symbol as method-def
 use Rattle.generate.proofs.stream_builder.StreamBuilder.punct.Symbol.{name as #method}

@@ -1,6 +1,6 @@
 use Rattle.generate.proofs.Builds.{of-part}
 use mathlib.Core.List.{[], _∷_}
-use Rattle.writing.specs.Rows.{ident}
+use Rattle.token_list.specs.Rows.{ident}
 use borrow.Author.Needs.{needs}
 use Rattle.generate.proofs.stream_builder.StreamBuilder.ident.Statement.{statement}
 use Rattle.generate.proofs.stream_builder.StreamBuilder.ident.Tie as tie

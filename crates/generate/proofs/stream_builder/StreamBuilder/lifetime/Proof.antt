@@ -1,5 +1,5 @@
 use Rattle.generate.proofs.Builds.{of-part}
-use Rattle.writing.specs.Rows.{lifetimeRows}
+use Rattle.token_list.specs.Rows.{lifetimeRows}
 use borrow.Author.Needs.{needs}
 use Rattle.generate.proofs.stream_builder.StreamBuilder.lifetime.Statement.{statement}
 use Rattle.generate.proofs.stream_builder.StreamBuilder.lifetime.Tie as tie

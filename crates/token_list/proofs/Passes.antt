@@ -2,29 +2,28 @@
 use mathlib.Core.Path.{_≡_, refl, ap, _∙_, sym}
 use mathlib.Core.Bool.{Bool, true, false, cond, not, _&&_, _||_, Bool·beq, false≢true}
 use mathlib.Core.List.{List, [], _∷_, _++_, append-assoc}
-use Prim.Native.Nat.{ℕ, suc, _+_, _≤_, _<_}
+use Prim.Native.Nat.{ℕ, _+_, _≤_, _<_}
 use native.Mathlib.Omega.{arith}
-use borrow.Author.Tests.{eqb-true, ne-eqb, ltb-true, lt-leb, le-ltb}
+use borrow.Author.Tests.{not-true, eqb-true, ne-eqb, ltb-true, lt-leb, le-ltb}
 use lib.Dec.{eqb, ltb}
 use lib.ListN.{length, drop}
 use Rattle.token_list.specs.Byte.{SPACE, LF, HASH}
 use Rattle.token_list.specs.Layout.{IDENT, LITERAL, PUNCT, OPEN, CLOSE, marked, firstRow, textOffset, MAX-BYTES}
 use Rattle.token_list.specs.Layout.{MAX-ROWS, MAX-DEPTH}
-use Rattle.token_list.specs.Text.{all, name, plainName, nameStart, namePart, rawName, literal, literalStart, printable}
-use Rattle.token_list.specs.Text.{single, punctuation, opening, closing, closer}
-use Rattle.token_list.specs.Row.{Row, Lines, tail, line, lines, byte, rows, written, Form, plain, opens, closed, wrong}
-use Rattle.token_list.specs.Row.{form, formOf, textForm, first, columnsFit, ownMark, markOf, lineRow}
+use Rattle.token_list.specs.Text.{all, name, plainName, nameStart, namePart, rawName, literal, literalStart}
+use Rattle.token_list.specs.Text.{printable, single, punctuation, opening, closing, closer}
+use Rattle.token_list.specs.Row.{Row, Lines, tail, line, lines, byte, rows, written, Form, plain, opens, closed}
+use Rattle.token_list.specs.Row.{wrong, form, formOf, textForm, first, columnsFit, ownMark, markOf, lineRow}
 use Rattle.token_list.specs.Row.{markColumn, rightMark}
-use Rattle.token_list.specs.Check.{Answer, passed, Open, step, walk, check, isRow, right, allRight, closedBy, enclosing}
-use Rattle.token_list.specs.Check.{nested}
+use Rattle.token_list.specs.Rows.{listOf}
+use Rattle.token_list.specs.Check.{Answer, passed, Open, step, walk, check, isRow, right, allRight, closedBy}
+use Rattle.token_list.specs.Check.{enclosing, nested}
 use Rattle.token_list.specs.Stream.{rowsAt}
 use Rattle.token_list.proofs.Texts.{chosen, passed-over, and-both, and-parts}
 use Rattle.token_list.proofs.Columns.{line-row}
 use Rattle.token_list.proofs.Rows.{past-columns}
-use Rattle.token_list.proofs.Passed.{open-form, close-form, plain-form, balanced}
-use Rattle.writing.specs.Rows.{listOf}
-use Rattle.writing.proofs.Joined.{not-true}
-use Rattle.writing.proofs.Balanced.{RightRow, right-row}
+use Rattle.token_list.proofs.Passed.{open-form, close-form, plain-form, RightRow, right-row}
+use Rattle.token_list.proofs.Passed.{delimiters, delimiters-length, balanced}
 
 -- ## No LF stands in a row
 
@@ -180,14 +179,6 @@ module _ (m : Bool) where
 
 -- ## The walk
 
-abbrev delimitersOf : List Open → List ℕ
-delimitersOf [] = []
-delimitersOf (g ∷ gs) = g .delimiter ∷ delimitersOf gs
-
-delimiters-length : (gs : List Open) → length (delimitersOf gs) ≡ length gs
-delimiters-length [] = refl
-delimiters-length (g ∷ gs) = ap suc (delimiters-length gs)
-
 -- the form of a row that is right
 row-by : {f : Form} (t : Bool) (g : Form) → f ≡ cond t g wrong → isRow f ≡ true → f ≡ g
 row-by {f} t g e h = go t e
@@ -207,20 +198,20 @@ module _ (k : ℕ) (t : List ℕ) (row : isRow (formOf k t) ≡ true) where
   plain-row o c = let p = plain-form k t o c in row-by (p .0) plain (p .1) row
 
 module _ (m : Bool) (rs : List Row) (n : ℕ)
-    (ih : (k : ℕ) (gs : List Open) → nested m (delimitersOf gs) rs ≡ true → k + length rs ≡ n
+    (ih : (k : ℕ) (gs : List Open) → nested m (delimiters gs) rs ≡ true → k + length rs ≡ n
     → walk m k gs (lines (written m rs)) ≡ passed n)
     (k : ℕ) (count : k + 1 + length rs ≡ n) where
   abbrev go : List Open → Answer
   go hs = walk m (k + 1) hs (lines (written m rs))
 
   close-step : (gs : List Open) (d : ℕ)
-      → (closedBy (delimitersOf gs) d && nested m (enclosing (delimitersOf gs)) rs) ≡ true
+      → (closedBy (delimiters gs) d && nested m (enclosing (delimiters gs)) rs) ≡ true
       → step k gs (closed d) go ≡ passed n
   close-step [] d e = absurd (false≢true e)
   close-step (g ∷ gs) d e =
       let p = and-parts (eqb (closer (g .delimiter)) d) _ e in chosen _ _ _ (p .0) ∙ ih (k + 1) gs (p .1) count
 
-  row-step : (gs : List Open) (r : Row) → nested m (delimitersOf gs) (r ∷ rs) ≡ true
+  row-step : (gs : List Open) (r : Row) → nested m (delimiters gs) (r ∷ rs) ≡ true
       → step k gs (formOf (r .kind) (r .text)) go ≡ passed n
   row-step gs r e = kind (eqb (r .kind) OPEN) (eqb (r .kind) CLOSE) refl refl
     where
@@ -234,10 +225,10 @@ module _ (m : Bool) (rs : List Row) (n : ℕ)
       kind : (o c : Bool) → eqb (r .kind) OPEN ≡ o → eqb (r .kind) CLOSE ≡ c
           → step k gs (formOf (r .kind) (r .text)) go ≡ passed n
       kind true c a b =
-          let p = and-parts (ltb (length (delimitersOf gs)) MAX-DEPTH) _
+          let p = and-parts (ltb (length (delimiters gs)) MAX-DEPTH) _
           (sym (chosen _ _ _ a) ∙ and-parts (right m r) _ e .1) in
           let free : length gs < MAX-DEPTH = omega
-          (arith, ltb-true (length (delimitersOf gs)) MAX-DEPTH (p .0), delimiters-length gs) in
+          (arith, ltb-true (length (delimiters gs)) MAX-DEPTH (p .0), delimiters-length gs) in
           let opened : Open = record { delimiter = first (r .text); row = k } in
           formed (open-row (r .kind) (r .text) row a)
           (passed-over _ _ _ (lt-leb MAX-DEPTH (length gs) free) ∙ ih (k + 1) (opened ∷ gs) (p .1) count)
@@ -248,7 +239,7 @@ module _ (m : Bool) (rs : List Row) (n : ℕ)
           formed (plain-row (r .kind) (r .text) row a b)
           (ih (k + 1) gs (sym (passed-over _ _ _ a ∙ passed-over _ _ _ b) ∙ and-parts (right m r) _ e .1) count)
 
-  line-step : (gs : List Open) (r : Row) → k < MAX-ROWS → nested m (delimitersOf gs) (r ∷ rs) ≡ true
+  line-step : (gs : List Open) (r : Row) → k < MAX-ROWS → nested m (delimiters gs) (r ∷ rs) ≡ true
       → walk m k gs (lines (written m (r ∷ rs))) ≡ passed n
   line-step gs r l e =
       let h = right-row m r (and-parts (right m r) _ e .0) in
@@ -258,7 +249,7 @@ module _ (m : Bool) (rs : List Row) (n : ℕ)
       ∙ row-step gs r e
 
 walk-nested : (m : Bool) (rs : List Row) (n k : ℕ) (gs : List Open) → n ≤ MAX-ROWS
-    → nested m (delimitersOf gs) rs ≡ true
+    → nested m (delimiters gs) rs ≡ true
     → k + length rs ≡ n
     → walk m k gs (lines (written m rs)) ≡ passed n
 walk-nested m [] n k [] l e c = ap passed (omega arith)

@@ -1,10 +1,10 @@
 use native.Mathlib.Omega.{arith}
 use mathlib.Core.Path.{sym}
-use Rattle.describe.proofs.Integers.{before-digits, digit-worth, before-upper, upper-worth, before-lower}
-use Rattle.describe.proofs.Integers.{lower-worth, after-lower}
+use Rattle.token_list.proofs.Digits.{before-digits, digit-worth, before-upper, upper-worth, before-lower}
+use Rattle.token_list.proofs.Digits.{lower-worth, after-lower}
 use borrow.Author.Needs.{needs}
-use Rattle.describe.proofs.numbers.digit_worth.Statement.{statement}
-use Rattle.describe.proofs.numbers.digit_worth.Tie as tie
+use Rattle.token_list.proofs.text.digit_worth.Statement.{statement}
+use Rattle.token_list.proofs.text.digit_worth.Tie as tie
 
 returns : tie.Need-returns
 returns c = (sym (before-digits _ (omega arith)), omega arith)
