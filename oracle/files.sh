@@ -1,16 +1,21 @@
 #!/bin/sh
-# files.sh [FILE..]: each `struct` and `enum` in these files, or in virtue's sources and Debian's rust-src, as a source text, judged by
-# the compiler's own lexer; then virtue's answers to the lists. The repository's program `replay`, where it is built, reads both.
+# files.sh [FILE..]: each `struct` and `enum` in these files and folders, or in virtue's sources and Debian's rust-src, and each file that is
+# not long, as a source text, judged by the compiler's own lexer; then virtue's answers to the lists. The repository's program
+# `replay`, where it is built, reads both.
 set -eu
 . "$(dirname "$0")/common.sh"
-if [ $# = 0 ]; then
-    [ -d "$sources" ] || skip_sources parse/
-    set -- "$sources" /usr/src/rustc-*/library /usr/src/rustc-*/compiler /usr/src/rustc-*/src
-fi
+# The names of the files, from the root folder on.
+names() {
+    if [ $# -gt 0 ]; then
+        find "$@" -name '*.rs' -type f | sed "s,^[^/],$PWD/&,"
+    else
+        find "$sources/" -name '*.rs' -type f
+        dpkg -L rust-src 2>/dev/null | grep '\.rs$' || true
+    fi
+}
+[ $# -gt 0 ] || [ -d "$sources" ] || skip_sources parse/
 build_source
-for name; do
-    [ ! -e "$name" ] || find "$name" -name '*.rs' -type f
-done | LC_ALL=C sort | sed "s,^[^/],$PWD/&," >"$built/files.names"
+names "$@" | LC_ALL=C sort >"$built/files.names"
 export SOURCE_FILES="$built/files.names" SOURCE_OUT="$built/files.in"
 echo 'source::cut! {}' >"$built/cut.rs"
 within cut.rs
