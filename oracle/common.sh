@@ -58,6 +58,38 @@ answer() {
         --extern "oracle=$built/liboracle.so" -o "$built/driver.rmeta" "$built/driver.rs"
 }
 
+# The judge of source texts: the compiler's own lexer. It needs no sources of virtue.
+build_source() {
+    build_lists
+    rustc --edition 2021 -O --crate-type proc-macro --crate-name source \
+        -o "$built/libsource.so" "$root/oracle/src/source_root.rs"
+}
+
+# within DRIVER: compiles it, in that folder, so that its path is no part of the messages. Faulty texts are errors of the
+# compiler, which then fails; that all was done shows in what the macros write.
+within() {
+    (cd "$built" && RUST_BACKTRACE=0 rustc --edition 2021 --crate-type lib --crate-name source_driver --emit metadata \
+        --error-format=short --extern source=libsource.so -o source_driver.rmeta "$1") 2>"$built/$1.err" || true
+}
+
+# judge_source TEXTS NAME: the texts of a file with their answers, in NAME.txt, the lists among these in NAME.lists, counts in
+# NAME.counts. Then the compiler is asked about each text's parts, and its messages are to bear out the answers.
+judge_source() {
+    export SOURCE_IN="$1" SOURCE_OUT="$built/$2.txt" SOURCE_ASKS="$built/$2.asks" \
+        SOURCE_LISTS="$built/$2.lists" SOURCE_COUNTS="$built/$2.counts"
+    rm -f "$SOURCE_COUNTS"
+    echo 'source::judge! {}' >"$built/judge.rs"
+    within judge.rs
+    if [ ! -s "$SOURCE_COUNTS" ]; then
+        grep -a -A2 '^not as expected\|panicked at' "$built/judge.rs.err" || true
+        echo "failed: see target/oracle/judge.rs.err"
+        exit 1
+    fi
+    seq "$(grep -a '^asks: ' "$SOURCE_COUNTS" | cut -d' ' -f2)" | sed 's/.*/source::ask! { & }/' >"$built/asks.rs"
+    within asks.rs
+    "$built/lists" confirm "$SOURCE_ASKS" <"$built/asks.rs.err"
+}
+
 # replay SECTIONS: what the repository's own program says of them, where it is built.
 replay() {
     if [ -x "$root/target/bin/replay" ]; then

@@ -6,11 +6,14 @@
 //!   lists enums COUNT SEED            a Rust program that prints such sections with the numbers of its own enums
 //!   lists faulty COUNT SEED FAULT     enums that rustc refuses for their numbers or names, a line each
 //!   lists judged SOURCE FAULT         such enums, with rustc's messages in standard input, as sections
+//!   lists sources COUNT SEED PART EXAMPLES   source texts; the first part, 0, has the examples and more
+//!   lists confirm ASKS                whether rustc's messages in standard input say of each text what they are to say
 
 mod bad_input;
 mod bodies;
 mod chain;
 mod check;
+mod confirm;
 mod contexts;
 mod damage;
 mod enums;
@@ -20,6 +23,9 @@ mod lists;
 mod marks;
 mod numbers;
 mod rng;
+mod source;
+mod source_limits;
+mod source_pieces;
 
 use lists::{read_section, to_bytes, tokens, write_section, Names};
 use rng::Rng;
@@ -63,9 +69,20 @@ fn main() -> io::Result<()> {
             let errors = io::read_to_string(io::stdin())?;
             enums::judged(out, &source, &args[2], &errors)?;
         }
+        Some("sources") if args.len() == 5 => {
+            let number = |n: usize| args[n].parse::<u64>().expect("a number");
+            let table = std::fs::read_to_string(&args[4])?;
+            source::cases(out, number(1) as usize, number(2), number(3), &table)?;
+        }
+        Some("confirm") if args.len() == 2 => {
+            let asks = std::fs::File::open(&args[1])?;
+            let messages = io::stdin().lock();
+            confirm::confirm(out, &mut io::BufReader::new(asks), messages)?;
+        }
         _ => {
             eprintln!("usage: lists cases COUNT SEED EXAMPLES | checks | tokens LINE.. | counts | enums COUNT SEED");
             eprintln!("       lists faulty COUNT SEED FAULT | judged SOURCE FAULT");
+            eprintln!("       lists sources COUNT SEED PART EXAMPLES | confirm ASKS");
             std::process::exit(2);
         }
     }
