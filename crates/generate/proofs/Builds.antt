@@ -10,9 +10,9 @@ use Rattle.token_list.specs.Byte.{SPACE, LF}
 use Rattle.token_list.specs.Layout.{names}
 use Rattle.token_list.specs.Row.{Row, markColumn, written}
 use Rattle.token_list.specs.Rows.{listOf}
+use Rattle.token_list.proofs.Rows.{written-append}
 use Rattle.output.specs.Contract.{FAR, further, Put}
 use Rattle.output.proofs.Texts.{joined, nothing, retold}
-use Rattle.writing.proofs.Joined.{written-append}
 use Rattle.writing.proofs.Copied.{part-of}
 use Rattle.generate.specs.Contract.{row, Appended, Built}
 use Rattle.generate.specs.declared.stream_builder.StreamBuilder.{StreamBuilder}

@@ -338,3 +338,15 @@ right-rows-next s i e l w =
       right = and-parts (right m r) (allRight m rest) (sym (ap (allRight m) here) ∙ w .right) .1;
       closed = closed-next r rest (sym (ap allClosed here) ∙ w .closed);
     }
+
+-- ## Rows one after the other
+
+pub written-append : (m : Bool) (rs qs : List Row) → written m (rs ++ qs) ≡ written m rs ++ written m qs
+written-append m [] qs = refl
+written-append m (r ∷ rs) qs =
+    let column = markColumn m (r .joint) in
+    ap (λ (t : List ℕ). r .kind ∷ SPACE ∷ column ++ (r .text ++ LF ∷ t)) (written-append m rs qs)
+    ∙ ap (λ (t : List ℕ). r .kind ∷ SPACE ∷ column ++ t)
+    (sym (append-assoc (r .text) (LF ∷ written m rs) (written m qs)))
+    ∙ ap (λ (t : List ℕ). r .kind ∷ SPACE ∷ t)
+    (sym (append-assoc column (r .text ++ LF ∷ written m rs) (written m qs)))

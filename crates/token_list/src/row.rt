@@ -80,7 +80,7 @@ pub fn is_plain_name(s: &[u8], start: usize, end: usize) -> bool
     all_fit(s, second, end, true)
 }
 
-fn is_never_raw(s: &[u8], start: usize, end: usize) -> bool
+pub fn is_never_raw(s: &[u8], start: usize, end: usize) -> bool
     requires { ⌜ end ≤ length (now s) ⌝ }
     ensures { λ r. ⌜ r ≡ neverRaw (slice start end (now (s .entry))) ⌝ }
 {

@@ -16,10 +16,11 @@ use Rattle.token_list.specs.Contract.{InList}
 use Rattle.token_list.specs.declared.check.Cursor.{Cursor}
 use Rattle.token_list.proofs.Texts.{chosen, passed-over, and-parts, drop-of-take}
 use Rattle.token_list.proofs.Starts.{linesFrom, lines-from}
+use Rattle.token_list.proofs.Rows.{written-append}
 use Rattle.token_list.proofs.Passed.{passed-list}
 use Rattle.token_list.proofs.Passes.{linesOf, lines-written, rows-lines}
 use Rattle.writing.specs.Rows.{runRows}
-use Rattle.writing.proofs.Joined.{joined, rows-joined, rows-length, written-append}
+use Rattle.writing.proofs.Joined.{joined, rows-joined, rows-length}
 use Rattle.writing.proofs.Balanced.{rows-here}
 
 -- ## Parts

@@ -17,6 +17,7 @@ use Rattle.token_list.specs.Check.{isRow, right, check, passed}
 use Rattle.token_list.specs.Stream.{Trees, end, leaf, group, size, at}
 use Rattle.token_list.proofs.Columns.{column-length}
 use Rattle.token_list.proofs.Texts.{and-both, and-parts, and-last, same-path}
+use Rattle.token_list.proofs.Rows.{written-append}
 use Rattle.token_list.proofs.Passed.{right-row}
 use Rattle.reading.specs.Token.{isIdent, isPunct, isEnd, CONST}
 use Rattle.reading.specs.Declaration.{Parameter, lifetime, constant, type, Generics, angled, Declaration}
@@ -27,7 +28,7 @@ use Rattle.writing.specs.Rows.{runRows, sentRow, sent}
 use Rattle.writing.specs.Generics.{constraints, bounds, parameterRows, sentParameter}
 use Rattle.writing.specs.Depth.{depth}
 use Rattle.writing.specs.ReadBack.{runOf}
-use Rattle.writing.proofs.Joined.{joined, size-joined, rows-joined, token, written-append}
+use Rattle.writing.proofs.Joined.{joined, size-joined, rows-joined, token}
 use Rattle.writing.proofs.Balanced.{ident-mark, sound, sound-joined, list-stream}
 use Rattle.reading.specs.Grammar as g
 use Rattle.writing.proofs.Read.{RunAt, OptionalRun, ParameterAt, CommaAt, ParametersAt, GenericsAt, Later}

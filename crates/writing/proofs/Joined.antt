@@ -1,15 +1,14 @@
 -- A stream behind another one, and the rows of both.
 use mathlib.Core.Path.{_≡_, refl, ap, _∙_, sym}
 use mathlib.Core.Bool.{Bool, true, false, not, _&&_}
-use mathlib.Core.List.{List, [], _∷_, _++_, append-assoc}
+use mathlib.Core.List.{List, _∷_, _++_, append-assoc}
 use Prim.Native.Nat.{ℕ, zero, suc, _+_, _-_}
 use native.Mathlib.Omega.{arith}
 use borrow.Author.Tests.{not-true, eqb-false}
 use lib.Dec.{eqb}
 use lib.ListN.{length, length-append}
-use Rattle.token_list.specs.Byte.{SPACE, LF}
 use Rattle.token_list.specs.Layout.{OPEN, CLOSE}
-use Rattle.token_list.specs.Row.{Row, markColumn, written}
+use Rattle.token_list.specs.Row.{Row}
 use Rattle.token_list.specs.Rows.{opening, closing}
 use Rattle.token_list.specs.Stream.{Trees, end, leaf, group, Streams, before, streams, size}
 use Rattle.token_list.proofs.Texts.{and-parts}
@@ -18,16 +17,6 @@ use Rattle.reading.specs.Reading.{firstRows}
 use Rattle.writing.specs.Rows.{runRows}
 
 -- ## Rows
-
-pub written-append : (m : Bool) (rs qs : List Row) → written m (rs ++ qs) ≡ written m rs ++ written m qs
-written-append m [] qs = refl
-written-append m (r ∷ rs) qs =
-    let column = markColumn m (r .joint) in
-    ap (λ (t : List ℕ). r .kind ∷ SPACE ∷ column ++ (r .text ++ LF ∷ t)) (written-append m rs qs)
-    ∙ ap (λ (t : List ℕ). r .kind ∷ SPACE ∷ column ++ t)
-    (sym (append-assoc (r .text) (LF ∷ written m rs) (written m qs)))
-    ∙ ap (λ (t : List ℕ). r .kind ∷ SPACE ∷ t)
-    (sym (append-assoc column (r .text ++ LF ∷ written m rs) (written m qs)))
 
 pub rows-length : (ts : Trees) → length (runRows ts) ≡ size ts
 rows-length end = refl

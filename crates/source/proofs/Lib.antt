@@ -1,0 +1,25 @@
+-- Laws on definitions, which the proofs of the functions cite.
+pub mod Offsets
+pub mod Runs
+pub mod Passed
+pub mod Quotes
+pub mod Comments
+pub mod Numbers
+pub mod Pieces
+pub mod Lexes
+pub mod Stacks
+pub mod Cells
+pub mod Walks
+pub mod Spans
+pub mod Measures
+pub mod Answers
+pub mod Reports
+pub mod DivisionCuts
+pub mod DivisionQuoted
+pub mod DivisionComment
+pub mod DivisionNumber
+pub mod DivisionWord
+pub mod DivisionPiece
+pub mod Division
+pub mod Rights
+pub mod Written

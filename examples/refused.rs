@@ -1,0 +1,3 @@
+pub enum Valve {
+    Main = 0b12,
+}
