@@ -7,7 +7,7 @@ use native.Mathlib.Omega.{arith}
 use borrow.Author.Tests.{eqb-true, eqb-false, ltb-true, ltb-false}
 use lib.Dec.{eqb, ltb}
 use lib.ListN.{length, getD, set, drop, length-set, List·getD-eq-default}
-use lib.Seq.{getD-set-same, getD-set-other, set-getD, set-set, set-out}
+use lib.Seq.{getD-set-same, getD-set-other, set-getD, set-set}
 use Rattle.token_list.specs.Byte.{PARENTHESIS, BRACKET, BRACE}
 use Rattle.source.specs.Bytes.{opens}
 use Rattle.source.specs.Brackets.{Open}
@@ -24,7 +24,8 @@ module _ (d : ℕ) where
       of : (e : ℕ) → eqb d e ≡ true → P e → P d
       of e t x = subst P (sym (eqb-true d e t)) x
 
-      go : (a b c : Bool) → eqb d PARENTHESIS ≡ a → eqb d BRACKET ≡ b → eqb d BRACE ≡ c → (a || (b || (c || false))) ≡ true → P d
+      go : (a b c : Bool) → eqb d PARENTHESIS ≡ a → eqb d BRACKET ≡ b → eqb d BRACE ≡ c → (a || (b || (c || false)))
+          ≡ true → P d
       go true b c t u v h = of PARENTHESIS t p
       go false true c t u v h = of BRACKET u q
       go false false true t u v h = of BRACE v r
@@ -168,7 +169,8 @@ module _ (cells : List ℕ) (o : Open) (os : List Open) where
         w₀ : ℕ
         w₀ = kept * 4 + bitsOf (o .delimiter)
 
-        room : (x : ℕ) (b : Bool) → eqb x cell ≡ b → getD (set cells cell w₀) x 0 < capacity (length (o ∷ os) - PER-CELL * x)
+        room : (x : ℕ) (b : Bool) → eqb x cell ≡ b → getD (set cells cell w₀) x 0 < capacity (length
+            (o ∷ os) - PER-CELL * x)
         room x true e =
             let same = eqb-true x cell e in
             let next = capacity-next (depth - 4 * cell) (omega arith) in
@@ -209,7 +211,14 @@ module _ (cells : List ℕ) (o : Open) (os : List Open) where
         room x false e =
             let other = eqb-false x cell e in
             let n : depth + 1 - 4 * x ≡ length (o ∷ os) - PER-CELL * x = omega arith in
-            omega (arith, getD-set-other cells cell x (kept / 4) 0 other, h .room x, other-room depth x other, ap capacity n)
+            omega (
+              arith,
+              getD-set-other cells cell x
+                  (kept / 4) 0 other,
+              h .room x,
+              other-room depth x other,
+              ap capacity n,
+            )
 
   -- where there is none
   module _ (l : length cells ≤ cell) where
@@ -221,7 +230,12 @@ module _ (cells : List ℕ) (o : Open) (os : List Open) where
         go : (b : Bool) → ltb x (length cells) ≡ b → getD cells x 0 < capacity (n - PER-CELL * x)
         go true q =
             let w = ltb-true x (length cells) q in
-            omega (arith, h, capacity-full (m - PER-CELL * x) (n - PER-CELL * x) (omega (arith, w, l, j)) (omega (arith, w, l, k)))
+            omega (
+              arith,
+              h,
+              capacity-full (m - PER-CELL * x) (n - PER-CELL * x) (omega (arith, w, l, j)) (omega
+                  (arith, w, l, k)),
+            )
         go false q =
             let none = List·getD-eq-default cells 0 {n = x} (ltb-false x (length cells) q) in
             omega (arith, none, capacity-some (n - PER-CELL * x))
@@ -265,7 +279,8 @@ module _ {cells : List ℕ} {o : Open} {os : List Open} {depth : ℕ} (e : lengt
   pushed {b} l q c h =
       let inside = pushed-inside cells o os (omega (arith, ap (λ (n : ℕ). n / 4) e, l)) h q in
       subst (λ (n : ℕ). Held (set cells (n / 4) (getD cells (n / 4) 0 * 4 + b)) (o ∷ os)) e
-      (subst (λ (x : ℕ). Held (set cells (length os / 4) (getD cells (length os / 4) 0 * 4 + x)) (o ∷ os)) (sym c) inside)
+      (subst (λ (x : ℕ). Held (set cells (length os / 4) (getD cells (length os / 4) 0 * 4 + x)) (o ∷ os))
+      (sym c) inside)
 
   pub popped : {r : ℕ} → depth / 4 < length cells → r ≡ delimiterOf (getD cells (depth / 4) 0 % 4)
       → Held cells (o ∷ os)

@@ -87,7 +87,8 @@ block-sound (b ∷ c ∷ s) d =
     close (suc d) rest =
         let less : d ≡ suc d - 1 = omega arith in
         let within = subst
-        (λ (e : ℕ). Cut (λ p r. Stack (suc d) p) (STAR ∷ SLASH ∷ s) (after 1 (after 1 (block e 0 s)))) less (twice (rest d) (λ p r h. inside Block.close h)) in
+        (λ (e : ℕ). Cut (λ p r. Stack (suc d) p) (STAR ∷ SLASH ∷ s) (after 1 (after 1 (block e 0 s)))) less (twice
+        (rest d) (λ p r h. inside Block.close h)) in
         choice (eqb (suc d) 0) (λ e. absurd (false≢true (sym (eqb·suc-zero d) ∙ e))) (λ e. within)
 
     inner : (d : ℕ) → ((d : ℕ) → Cut (λ p r. Stack d p) s (block d 0 s))

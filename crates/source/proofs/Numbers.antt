@@ -6,10 +6,10 @@ use Prim.Native.Nat.{ℕ, _+_, _-_, _≤_, _<_}
 use native.Mathlib.Omega.{arith}
 use borrow.Author.Tests.{eq-eqb, ne-eqb, eqb-true, lt-ltb, leb-true, leb-false}
 use lib.Dec.{eqb, leb}
-use lib.ListN.{length, getD, take, drop, length-drop}
+use lib.ListN.{length, getD, take, drop}
 use lib.Seq.{slice}
 use Rattle.token_list.specs.Byte.{DOT, ZERO, UNDERSCORE}
-use Rattle.token_list.specs.Text.{all, digit, nameStart, digitWorth}
+use Rattle.token_list.specs.Text.{digit, nameStart, digitWorth}
 use Rattle.token_list.proofs.Texts.{drop-of-take, slice-none, chosen, passed-over, and-both, and-parts, and-fails}
 use Rattle.token_list.proofs.Digits.{digit-worth}
 use Rattle.source.specs.Bytes.{inDigits}

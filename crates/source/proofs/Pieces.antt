@@ -1,6 +1,6 @@
 -- Pieces, from an offset on.
 use mathlib.Core.Path.{_≡_, refl, ap, _∙_, sym, subst}
-use mathlib.Core.Bool.{Bool, true, false, cond, not, _&&_, _||_, false≢true}
+use mathlib.Core.Bool.{true, false, cond, not, _&&_, false≢true}
 use mathlib.Core.List.{List, [], _∷_}
 use Prim.Native.Nat.{ℕ, _+_, _-_, _≤_, _<_}
 use native.Mathlib.Omega.{arith}
@@ -11,7 +11,8 @@ use lib.Seq.{slice, length-take-le}
 use Rattle.token_list.specs.Byte.{bytes, QUOTE, HASH, UNDERSCORE}
 use Rattle.token_list.specs.Layout.{IDENT, LITERAL, PUNCT}
 use Rattle.token_list.specs.Text.{member, same, digit, nameStart, namePart, neverRaw}
-use Rattle.token_list.proofs.Texts.{drop-of-take, drop-next, chosen, passed-over, and-fails, and-parts, or-holds, same-length}
+use Rattle.token_list.proofs.Texts.{drop-of-take, drop-next, chosen, passed-over, and-fails, and-parts, or-holds}
+use Rattle.token_list.proofs.Texts.{same-length}
 use Rattle.source.specs.Bytes.{SLASH, STAR, BANG, DOUBLE-QUOTE, blank, inLine, inDoc}
 use Rattle.source.specs.Taken as taken
 use Rattle.source.specs.Taken.{Taken, takes, after, run}
@@ -20,10 +21,11 @@ use Rattle.source.specs.Number.{number}
 use Rattle.source.specs.Comment as comment
 use Rattle.source.specs.Comment.{blockComment, outerLine, docLine}
 use Rattle.source.specs.Piece.{Piece, gap, row, lifetime, fault, suffix, suffixOf, literal, rawName, prefixed}
-use Rattle.source.specs.Piece.{wordOf, word, lifetimeOf, quotedOr, quote, gapOf, docOf, lineComment, slash, single}
+use Rattle.source.specs.Piece.{wordOf, word, lifetimeOf, quotedOr, quote, gapOf, docOf, lineComment, slash}
+use Rattle.source.specs.Piece.{single}
 use Rattle.source.specs.Piece.{piece}
-use Rattle.source.specs.Contract.{RunEnd, EndsTo, EndsAs, ends, SuffixEnd, PieceTo, PieceAs}
-use Rattle.source.specs.Contract.{row as row-as, none as none-as}
+use Rattle.source.specs.Contract.{RunEnd, EndsTo, SuffixEnd, PieceAs}
+use Rattle.source.specs.Contract.{row as row-as}
 use Rattle.source.specs.declared.piece.Piece as code
 use Rattle.source.specs.declared.piece.Piece.the-variants as pieces
 use Rattle.source.proofs.Runs.{run-on}

@@ -1,26 +1,26 @@
 -- What is printed of a source text.
 use mathlib.Core.Path.{_≡_, refl, ap, _∙_, sym}
 use mathlib.Core.Bool.{Bool, true, false, cond, _&&_}
-use mathlib.Core.List.{List, [], _∷_, _++_}
+use mathlib.Core.List.{List, [], _∷_}
 use Prim.Native.Nat.{ℕ, _+_, _^_, _≤_, _<_}
 use native.Mathlib.Omega.{arith}
 use borrow.Author.Tests.{leb-true}
 use lib.Dec.{eqb, ltb, leb}
 use lib.ListN.{length, take, length-take, length-append}
 use lib.Seq.{length-take-le}
-use Rattle.token_list.specs.Byte.{bytes, LF, SPACE, COLON}
+use Rattle.token_list.specs.Byte.{bytes, LF}
 use Rattle.token_list.specs.Layout.{MAX-BYTES, MAX-ROWS}
 use Rattle.token_list.specs.Row.{Row}
 use Rattle.token_list.specs.Rows.{listOf}
 use Rattle.token_list.specs.Check.{END}
 use Rattle.token_list.specs.declared.check.Refusal.{Refusal}
 use Rattle.token_list.proofs.Texts.{and-parts}
-use Rattle.output.specs.Text.{decimal, refusalText}
+use Rattle.output.specs.Text.{refusalText}
 use Rattle.output.specs.Contract.{Printed}
 use Rattle.output.proofs.Texts.{decimal-within}
 use Rattle.source.specs.Brackets.{Matched, sound, faulty, brackets}
 use Rattle.source.specs.Lex.{lex}
-use Rattle.source.specs.Answer.{Answer, wrote, faultAt, refused, rowsOf, short, shallow, withinLimits, fitted}
+use Rattle.source.specs.Answer.{Answer, wrote, faultAt, refused, rowsOf, withinLimits, fitted}
 use Rattle.source.specs.Answer.{matchedAnswer, answer, output}
 use Rattle.source.specs.Place.{lineAfter, columnAfter, lineOf, columnOf}
 use Rattle.source.specs.Tokens.{TokensAs}
@@ -110,7 +110,8 @@ answer-few n s t e = go (brackets [] (lex s)) e
     go sound q = limit (withinLimits rs) refl q
     go (faulty offset) q = let z : _≡_ {A = ℕ} 0 1 = cc in absurd (omega arith)
 
-pub report-short : (s : List ℕ) {x y : List ℕ} (r : Tokens) → TokensAs x y (answer (length x) s) r → atMost r ≤ MAX-BYTES
+pub report-short : (s : List ℕ) {x y : List ℕ} (r : Tokens) → TokensAs x y (answer (length x) s) r
+    → atMost r ≤ MAX-BYTES
 report-short s {x} {y} (answers.List n) h =
     let text = answer-few (length x) s (take n y) (sym (h .answer)) in
     omega (arith, text, length-take-le n y (h .room))

@@ -14,7 +14,7 @@ use Rattle.source.specs.Contract.{PieceAs, pieceTokens, pieceEnd}
 use Rattle.source.specs.Contract.{gap as gap-as, row as row-as, lifetime as lifetime-as, doc as doc-as}
 use Rattle.source.specs.Contract.{none as none-as}
 use Rattle.source.specs.Stack.{rest}
-use Rattle.source.specs.Place.{Span, textEnd, spanOf, rowSpan, lineAfter, columnAfter, lineOf, columnOf}
+use Rattle.source.specs.Place.{textEnd, spanOf, rowSpan, lineAfter, columnAfter, lineOf, columnOf}
 use Rattle.source.specs.Places.{rowCount, spanIn, LineColumn}
 use Rattle.source.specs.declared.places.Position.{Position}
 use Rattle.source.specs.declared.piece.Piece as code
@@ -86,7 +86,8 @@ module _ {s : List ℕ} {row i n : ℕ} (h : Counted s row i n) (here : i < leng
       let m = length s in
       let none : p ≡ pieces.Fault → rest s (pieceEnd s p) ≡ end =
       λ e. ap (λ (x : code.Piece). rest s (pieceEnd s x)) e ∙ rest-none s m (omega arith) in
-      sym (span-behind s i m (rest s (pieceEnd s p)) n a l none) ∙ sym (ap (spanOf m n) (rest-piece s i here a)) ∙ h .same
+      sym (span-behind s i m (rest s (pieceEnd s p)) n a l none) ∙ sym
+      (ap (spanOf m n) (rest-piece s i here a)) ∙ h .same
 
 -- no row is left
 pub counted-out : {s : List ℕ} {row i n : ℕ} → Counted s row i n → length s ≤ i → textEnd (length s) ≡ rowSpan s row

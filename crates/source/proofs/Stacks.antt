@@ -4,7 +4,7 @@ use mathlib.Core.Bool.{Bool, true, false, cond, not, _&&_, true≢false}
 use mathlib.Core.List.{List, [], _∷_}
 use Prim.Native.Nat.{ℕ, zero, suc, _+_, _-_, _≤_, _<_}
 use native.Mathlib.Omega.{arith}
-use borrow.Author.Tests.{lt-ltb, le-ltb, ltb-true, ltb-false, eqb-true}
+use borrow.Author.Tests.{lt-ltb, le-ltb, ltb-false, eqb-true}
 use lib.Dec.{ltb, eqb}
 use lib.ListN.{length, getD, drop, take}
 use lib.Seq.{slice}
@@ -19,9 +19,10 @@ use Rattle.source.specs.Taken.{Taken, after, run}
 use Rattle.source.specs.Quoted.{character, string}
 use Rattle.source.specs.Number.{number}
 use Rattle.source.specs.Comment.{blockComment, outerLine, docLine}
-use Rattle.source.specs.Piece.{Piece, gap, row, lifetime, doc, fault, literal, rawName, prefixed, word, lifetimeOf}
+use Rattle.source.specs.Piece.{Piece, gap, row, lifetime, doc, fault, literal, rawName, prefixed, word}
+use Rattle.source.specs.Piece.{lifetimeOf}
 use Rattle.source.specs.Piece.{quotedOr, quote, gapOf, docOf, lineComment, slash, single, piece}
-use Rattle.source.specs.Lex.{Token, Lexed, end, token, stops, rowAt, found, lexFrom}
+use Rattle.source.specs.Lex.{token, stops, rowAt, found, lexFrom}
 use Rattle.source.specs.Brackets.{Open, Matched, faulty, brackets, close}
 use Rattle.source.specs.Contract.{PieceTo, PieceAs}
 use Rattle.source.specs.Contract.{gap as gap-as, row as row-as, lifetime as lifetime-as, doc as doc-as}
@@ -30,11 +31,11 @@ use Rattle.source.specs.declared.piece.Piece as code
 use Rattle.source.specs.declared.piece.Piece.the-variants as pieces
 use Rattle.source.specs.declared.brackets.Step.{Step}
 use Rattle.source.specs.declared.brackets.Step.the-variants as steps
-use Rattle.source.specs.Stack.{rest, openAt, outer, opened, stackTo, Passing, Opening, closeAt, Closing, Within}
+use Rattle.source.specs.Stack.{rest, stackTo, Passing, Opening, closeAt, Closing, Within}
 use Rattle.source.specs.Stack.{StepAs, passing, opening, closing, rowStep}
 use Rattle.source.specs.Stack.{fault as fault-step}
 use Rattle.source.proofs.Offsets.{byte-first}
-use Rattle.source.proofs.Lexes.{rest-piece, rest-none}
+use Rattle.source.proofs.Lexes.{rest-piece}
 
 -- ## A row that opens a group begins with an opening delimiter
 
@@ -169,7 +170,8 @@ module _ {s : List ℕ} {i e : ℕ} (w : Within s i e) where
   closing-row q =
       let b = first-byte s i e (w .forth) (w .within) in
       let go : List Open → Matched = λ ps. brackets ps (rest s e) in
-      let same : (os : List Open) → close (rowAt CLOSE i (slice i e s)) os go ≡ closeAt s i os go = λ os. closes-as b os go in
+      let same : (os : List Open) → close (rowAt CLOSE i (slice i e s)) os go
+      ≡ closeAt s i os go = λ os. closes-as b os go in
       record {
         brackets = λ os. ap (brackets os) q ∙ same os;
         stack = λ u os l. ap (stackTo u os) q ∙ chosen _ _ _ (lt-ltb i u l);

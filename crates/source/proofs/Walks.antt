@@ -12,7 +12,8 @@ use Rattle.token_list.specs.Text.{closer}
 use Rattle.token_list.proofs.Texts.{chosen, passed-over}
 use Rattle.source.specs.Brackets.{Open, sound, faulty, brackets}
 use Rattle.source.specs.Stack.{rest, openAt, stackTo, Passing, Opening, Closing, Within, InnermostOf, top}
-use Rattle.source.specs.Stack.{InnermostAt, Held, Popped, DelimiterAt, ReachedBy, Reached, TurnedAs, turned, fault}
+use Rattle.source.specs.Stack.{InnermostAt, Held, Popped, DelimiterAt, ReachedBy, Reached, TurnedAs, turned}
+use Rattle.source.specs.Stack.{fault}
 use Rattle.source.specs.declared.brackets.Depth.the-variants as depths
 use Rattle.source.proofs.Lexes.{rest-all, rest-none}
 use Rattle.source.proofs.Stacks.{stack-here}
@@ -154,7 +155,8 @@ module _ {s cells : List ℕ} {i depth : ℕ} where
   )
 
   pub reached-opens : {cells₁ : List ℕ} {e : ℕ} → Within s i e → Opening s i e
-      → ((os : List Open) (o : Open) → Held cells os → length os ≡ depth → o .delimiter ≡ getD s i 0 → Held cells₁ (o ∷ os))
+      → ((os : List Open) (o : Open) → Held cells os → length os ≡ depth → o .delimiter ≡ getD s i 0 → Held cells₁
+      (o ∷ os))
       → Reached s cells i depth
       → Reached s cells₁ e (depth + 1)
   reached-opens w p push (os, h) = (

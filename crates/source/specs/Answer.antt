@@ -9,7 +9,7 @@ use Rattle.token_list.specs.Layout.{OPEN, CLOSE, MAX-BYTES, MAX-ROWS, MAX-TEXT,
 use Rattle.token_list.specs.Row.{Row}
 use Rattle.token_list.specs.Rows.{listOf}
 use Rattle.token_list.specs.Check.{END}
-use Rattle.source.specs.Lex.{Token, Lexed, end, token, stops, lex}
+use Rattle.source.specs.Lex.{Lexed, end, token, stops, lex}
 use Rattle.source.specs.Brackets.{Matched, sound, faulty, brackets}
 
 pub data Answer : Type 0 where

@@ -5,7 +5,7 @@ use Prim.Native.Nat.{ℕ, zero, suc, _+_, _-_}
 use lib.Dec.{eqb}
 use lib.ListN.{drop, getD}
 use Rattle.token_list.specs.Byte.{LF}
-use Rattle.source.specs.Bytes.{CR, SLASH, STAR, BANG, inLine, inDoc}
+use Rattle.source.specs.Bytes.{CR, SLASH, STAR, BANG, inDoc}
 use Rattle.source.specs.Taken.{Taken, takes, fault, after, run}
 
 -- BLOCK_COMMENT from behind its `/*`, inside so many others; the first `skip` bytes are passed over

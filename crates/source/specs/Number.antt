@@ -1,4 +1,5 @@
--- Numbers without their suffix (Reference 1.63, "Tokens": INTEGER_LITERAL, FLOAT_LITERAL, NUMBER_PSEUDOLITERAL), and the
+-- Numbers without their suffix (Reference 1.63, "Tokens": INTEGER_LITERAL, FLOAT_LITERAL, NUMBER_PSEUDOLITERAL), and
+-- the
 -- forms that are reserved (RESERVED_NUMBER).
 use mathlib.Core.Bool.{Bool, not, cond, _&&_, _||_}
 use mathlib.Core.List.{List}

@@ -1,10 +1,10 @@
 -- What a text begins with (Reference 1.63, "Tokens", "Identifiers", "Comments", "Whitespace"; document 02, card 1).
-use mathlib.Core.Bool.{Bool, true, false, not, cond, _&&_, _||_}
+use mathlib.Core.Bool.{true, false, not, cond, _&&_}
 use mathlib.Core.List.{List}
 use Prim.Native.Nat.{ℕ, _+_}
 use lib.Dec.{eqb}
 use lib.ListN.{take, drop, getD}
-use Rattle.token_list.specs.Byte.{code, bytes, UNDERSCORE, HASH, QUOTE}
+use Rattle.token_list.specs.Byte.{bytes, UNDERSCORE, HASH, QUOTE}
 use Rattle.token_list.specs.Layout.{IDENT, LITERAL, PUNCT, OPEN, CLOSE}
 use Rattle.token_list.specs.Text.{member, same, digit, nameStart, namePart, punctuation, neverRaw}
 use Rattle.source.specs.Bytes.{SLASH, STAR, BANG, DOUBLE-QUOTE, blank, inLine, opens, closes}

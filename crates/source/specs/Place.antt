@@ -1,5 +1,4 @@
 -- Where a row's text stands in the source, and the line and column of an offset (document 02, card 1).
-use mathlib.Core.Path.{_≡_}
 use mathlib.Core.Bool.{cond}
 use mathlib.Core.List.{List, [], _∷_}
 use Prim.Native.Nat.{ℕ, zero, suc, _+_}

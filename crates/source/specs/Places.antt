@@ -1,6 +1,5 @@
 -- What ties places of rows to the meaning.
 use mathlib.Core.Path.{_≡_}
-use mathlib.Core.Bool.{cond}
 use mathlib.Core.List.{List}
 use Prim.Native.Nat.{ℕ, zero, suc, _+_, _-_}
 use Rattle.source.specs.Place.{Span, lineOf, columnOf}

@@ -1,9 +1,10 @@
--- What stands in quotes (Reference 1.63, "Tokens": CHAR_LITERAL, STRING_LITERAL, BYTE_LITERAL, BYTE_STRING_LITERAL), each
+-- What stands in quotes (Reference 1.63, "Tokens": CHAR_LITERAL, STRING_LITERAL, BYTE_LITERAL, BYTE_STRING_LITERAL),
+-- each
 -- from behind its first quote on. STRING_CONTINUE holds an LF, and such a literal is postponed (document 02, card 1).
-use mathlib.Core.Bool.{Bool, true, false, not, cond, _&&_, _||_}
+use mathlib.Core.Bool.{Bool, not, cond, _&&_, _||_}
 use mathlib.Core.List.{List, [], _∷_}
 use Prim.Native.Nat.{ℕ, zero, suc, _+_, _-_, _*_}
-use lib.Dec.{leb, ltb, eqb}
+use lib.Dec.{ltb, eqb}
 use lib.ListN.{drop, getD}
 use Rattle.token_list.specs.Byte.{code, bytes, UNDERSCORE, QUOTE}
 use Rattle.token_list.specs.Text.{member, between, printable, digitWorth}

@@ -69,8 +69,8 @@ fn latest(count: usize, depth: usize, i: usize, found: usize) -> usize
     found
 }
 
-// Where the innermost of the brackets stands that are open at `end`, where they are `depth`: the last one before it with
-// which so many were open.
+// Where the innermost of the brackets stands that are open at `end`, where they are `depth`: the last one before it
+// with which so many were open.
 fn innermost(s: &[u8], end: usize, depth: usize) -> usize
     requires { ⌜ end ≤ length (now s) ⌝ }
     requires { ⌜ length (stackTo end [] (lex (now s))) ≡ depth ⌝ }
@@ -220,8 +220,8 @@ fn step_end(i: usize, step: Step) -> usize
     }
 }
 
-// Whether each piece is a token, or vanishes, and each bracket is closed by its own close; or the first place where it is
-// not so, and else the innermost bracket that is left open. The cells are 0 at first.
+// Whether each piece is a token, or vanishes, and each bracket is closed by its own close; or the first place where it
+// is not so, and else the innermost bracket that is left open. The cells are 0 at first.
 pub fn match_brackets(s: &[u8], cells: &mut [u8]) -> Matched
     requires { ⌜ ((c : ℕ) → getD (now cells) c 0 ≡ 0) ⌝ }
     ensures { λ r. ⌜ matchedOf r ≡ brackets [] (lex (now (s .entry))) ⌝ }

@@ -4,7 +4,8 @@ use native.Mathlib.Omega.{arith}
 use lib.ListN.{length}
 use borrow.Author.Needs.{needs}
 use Rattle.source.specs.Stack.{Reached}
-use Rattle.source.proofs.Walks.{reached-start, reached-sound, reached-whole, reached-open, turned-known, unturned}
+use Rattle.source.proofs.Walks.{reached-start, reached-sound, reached-whole, reached-open, turned-known}
+use Rattle.source.proofs.Walks.{unturned}
 use Rattle.source.proofs.brackets.match_brackets.Statement.{statement}
 use Rattle.source.proofs.brackets.match_brackets.Tie as tie
 
@@ -29,10 +30,15 @@ enum-told : tie.Need-enum-told Inv-loop μ-loop
 enum-told c = search needs
 
 same-length : tie.Need-same-length Inv-loop μ-loop
-same-length c = c .before .before .before .before .turn .kept .1 .0 ∙ c .before .before .before .before .before .before .before .before .loop .inv .1
+same-length c =
+    let loop = c .before .before .before .before .before .before .before .before .loop in
+    let turn = c .before .before .before .before .turn in
+    turn .kept .1 .0 ∙ loop .inv .1
 
 returns : tie.Need-returns Inv-loop μ-loop
-returns c = sym (unturned (rw (c .enum-told .given .1) at (c .before .before .before .before .turn .ensures)))
+returns c =
+    let turn = c .before .before .before .before .turn in
+    sym (unturned (rw (c .enum-told .given .1) at (turn .ensures)))
 
 enum-known-d : tie.Need-enum-known-d Inv-loop μ-loop
 enum-known-d c = search needs
@@ -42,15 +48,18 @@ step-end-requires c κs = search needs
 
 loop-less : tie.Need-loop-less Inv-loop μ-loop
 loop-less c =
-    let known = turned-known (rw (c .before .before .d .given .1) at (c .before .before .before .before .before .before .turn .ensures)) in
+    let turn = c .before .before .before .before .before .before .turn in
+    let known = turned-known (rw (c .before .before .d .given .1) at (turn .ensures)) in
     omega (arith, known .0 .forth, known .0 .within, c .step-end .ensures)
 
 loop-again : tie.Need-loop-again Inv-loop μ-loop
 loop-again c =
-    let known = turned-known (rw (c .before .before .d .given .1) at (c .before .before .before .before .before .before .turn .ensures)) in
+    let loop = c .before .before .before .before .before .before .before .before .before .before .loop in
+    let turn = c .before .before .before .before .before .before .turn in
+    let known = turned-known (rw (c .before .before .d .given .1) at (turn .ensures)) in
     let place = c .step-end .ensures in (
       omega (arith, known .0 .within, place),
-      c .before .before .before .before .before .before .turn .kept .1 .0 ∙ c .before .before .before .before .before .before .before .before .before .before .loop .inv .1,
+      turn .kept .1 .0 ∙ loop .inv .1,
       rw place (known .1),
     )
 

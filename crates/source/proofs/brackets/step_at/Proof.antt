@@ -28,31 +28,40 @@ enum-told c = search needs
 
 returns : tie.Need-returns
 returns c =
-    let start = c .before .before .before .before .before in
-    step-piece (start .args .s .now) (start .args .i) (start .pre) (rw (c .before .e .given .1) at (c .before .before .before .piece-at .ensures))
+    let before = c .before .before .before .before .before in
+    let start = before in
+    step-piece (start .args .s .now) (start .args .i) (start .pre)
+    (rw (c .before .e .given .1) at (c .before .before .before .piece-at .ensures))
 
 returns-2 : tie.Need-returns-2
 returns-2 c =
-    let start = c .before .before .before .before .before .before in
+    let before = c .before .before .before .before .before .before in
+    let piece-at = c .before .before .before .before .piece-at in
+    let start = before in
     let s = start .args .s .now in
     let i = start .args .i in
-    let piece = rw (c .before .before .kind .given .1) at (c .before .before .before .before .piece-at .ensures) in
+    let piece = rw (c .before .before .kind .given .1) at (piece-at .ensures) in
     subst (StepAs s i) (sym (c .row-step .ensures)) (step-piece s i (start .pre) piece)
 
 returns-3 : tie.Need-returns-3
 returns-3 c =
-    let start = c .before .before .before .before .before in
-    step-piece (start .args .s .now) (start .args .i) (start .pre) (rw (c .before .e2 .given .1) at (c .before .before .before .piece-at .ensures))
+    let before = c .before .before .before .before .before in
+    let start = before in
+    step-piece (start .args .s .now) (start .args .i) (start .pre)
+    (rw (c .before .e2 .given .1) at (c .before .before .before .piece-at .ensures))
 
 returns-4 : tie.Need-returns-4
 returns-4 c =
-    let start = c .before .before .before .before .before in
-    step-piece (start .args .s .now) (start .args .i) (start .pre) (rw (c .before .e3 .given .1) at (c .before .before .before .piece-at .ensures))
+    let before = c .before .before .before .before .before in
+    let start = before in
+    step-piece (start .args .s .now) (start .args .i) (start .pre)
+    (rw (c .before .e3 .given .1) at (c .before .before .before .piece-at .ensures))
 
 returns-5 : tie.Need-returns-5
 returns-5 c =
     let start = c .before .before .before .before in
-    step-piece (start .args .s .now) (start .args .i) (start .pre) (rw (c .enum-told .given .1) at (c .before .before .piece-at .ensures))
+    step-piece (start .args .s .now) (start .args .i) (start .pre)
+    (rw (c .enum-told .given .1) at (c .before .before .piece-at .ensures))
 
 pub step-at-spec : {M : Type 1} → statement M
 step-at-spec =

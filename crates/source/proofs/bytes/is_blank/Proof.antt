@@ -1,5 +1,4 @@
 use native.Mathlib.Omega.{arith}
-use mathlib.Core.Path.{_≡_, sym, _∙_}
 use borrow.Author.Tests.{lt-leb, le-leb, ne-eqb}
 use Rattle.source.specs.Bytes.{blank}
 use Rattle.source.proofs.bytes.is_blank.Statement.{statement}

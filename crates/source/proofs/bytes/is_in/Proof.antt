@@ -1,4 +1,4 @@
-use mathlib.Core.Path.{_≡_, sym, ap, _∙_}
+use mathlib.Core.Path.{sym, ap, _∙_}
 use Rattle.source.specs.Bytes.{inLine}
 use Rattle.source.specs.Contract.{inClass}
 use Rattle.source.specs.declared.bytes.Class.{Class}
@@ -56,7 +56,8 @@ returns-4 c =
 
 returns-5 : tie.Need-returns-5
 returns-5 c =
-    let args = c .before .before .before .before .args in
+    let args-2 = c .before .before .before .before .args in
+    let args = args-2 in
     c .is-in-digits .ensures ∙ sym (ap (λ (k : Class). inClass k (args .b)) (c .before .before .class .given .1))
 
 pub is-in-spec : {M : Type 1} → statement M

@@ -1,6 +1,4 @@
-use mathlib.Core.Path.{sym, _∙_, ap}
-use Prim.Native.Nat.{ℕ}
-use lib.Dec.{ltb}
+use mathlib.Core.Path.{sym}
 use borrow.Author.Tests.{eq-eqb, ne-eqb}
 use Rattle.token_list.proofs.Texts.{or-last, or-holds}
 use Rattle.source.specs.Bytes.{inDigits}

@@ -1,5 +1,4 @@
 use native.Mathlib.Omega.{arith}
-use mathlib.Core.Path.{_≡_, sym, _∙_}
 use borrow.Author.Tests.{lt-leb, le-leb, ne-eqb, eq-eqb}
 use Rattle.source.specs.Bytes.{inDoc}
 use Rattle.source.proofs.bytes.is_in_doc.Statement.{statement}

@@ -14,7 +14,8 @@ is-digit-requires : tie.Need-is-digit-requires
 is-digit-requires c κs = search needs
 
 returns-2 : tie.Need-returns-2
-returns-2 c = c .is-digit .ensures ∙ sym (or-last _ _ (sym (c .before .before .is-name-start .ensures) ∙ c .before .if1 .left))
+returns-2 c =
+    c .is-digit .ensures ∙ sym (or-last _ _ (sym (c .before .before .is-name-start .ensures) ∙ c .before .if1 .left))
 
 pub is-name-part-spec : {M : Type 1} → statement M
 is-name-part-spec = tie.close (tie.spec is-name-start-requires returns is-digit-requires returns-2)

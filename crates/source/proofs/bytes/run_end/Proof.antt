@@ -50,7 +50,8 @@ loop-again c =
 returns-2 : tie.Need-returns-2 Inv-loop μ-loop
 returns-2 c =
     let args = c .before .before .before .args in
-    ran-out (inClass (args .class)) (args .s .now) (args .from) (c .before .loop .i) (omega arith) (c .before .loop .inv)
+    ran-out (inClass (args .class)) (args .s .now) (args .from) (c .before .loop .i) (omega arith)
+    (c .before .loop .inv)
 
 pub run-end-spec : {M : Type 1} → statement M
 run-end-spec =

@@ -59,7 +59,8 @@ is-pair-requires-2 c κs = omega arith
 
 add-i-2 : tie.Need-add-i-2 Inv-loop μ-loop
 add-i-2 c =
-    let d = c .before .before .before .before .before in
+    let before = c .before .before .before .before .before in
+    let d = before in
     let q = sym (c .before .is-pair2 .ensures) ∙ c .if3 .taken in
     let h = pair-stands (d .before .before .args .s .now) (d .loop .i) SLASH STAR q (omega arith) in
     omega arith
@@ -72,7 +73,8 @@ loop-less-2 c = omega arith
 
 loop-again-2 : tie.Need-loop-again-2 Inv-loop μ-loop
 loop-again-2 c =
-    let d = c .before .before .before .before .before in
+    let before = c .before .before .before .before .before in
+    let d = before in
     let p = sym (c .before .before .before .is-pair .ensures) ∙ c .before .before .if1 .left in
     let q = sym (c .before .is-pair2 .ensures) ∙ c .if3 .taken in
     let s = d .before .before .args .s .now in
@@ -87,7 +89,8 @@ loop-less-3 c = omega arith
 
 loop-again-3 : tie.Need-loop-again-3 Inv-loop μ-loop
 loop-again-3 c =
-    let d = c .before .before .before .before .before in
+    let before = c .before .before .before .before .before in
+    let d = before in
     let p = sym (c .before .before .before .is-pair .ensures) ∙ c .before .before .if1 .left in
     let q = sym (c .before .is-pair2 .ensures) ∙ c .if3 .left in
     let s = d .before .before .args .s .now in

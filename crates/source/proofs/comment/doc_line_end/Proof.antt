@@ -17,7 +17,8 @@ line-ends-requires c κs = search needs
 
 returns : tie.Need-returns
 returns c =
-    let args = c .before .before .before .before .args in
+    let args-2 = c .before .before .before .before .args in
+    let args = args-2 in
     let run = c .before .before .run-end in
     let q = sym (c .before .line-ends .ensures) ∙ c .if1 .taken in
     ends (record {
@@ -28,7 +29,8 @@ returns c =
 
 returns-2 : tie.Need-returns-2
 returns-2 c =
-    let args = c .before .before .before .before .args in
+    let args-2 = c .before .before .before .before .args in
+    let args = args-2 in
     let run = c .before .before .run-end in
     let q = sym (c .before .line-ends .ensures) ∙ c .if1 .left in
     none (doc-line-none (args .s .now) (args .i) (run .result) (run .ensures) q)

@@ -21,7 +21,8 @@ returns c =
 
 returns-2 : tie.Need-returns-2
 returns-2 c =
-    let args = c .before .before .before .before .args in
+    let args-2 = c .before .before .before .before .args in
+    let args = args-2 in
     let e = block-doc-at (args .s .now) (args .i) (c .before .before .byte-at .ensures) refl in
     sym (e ∙ or-last _ _ (ne-eqb _ _ (c .before .if1 .left)) ∙ and-fails _ _ (ne-eqb _ _ (c .if2 .taken)))
 

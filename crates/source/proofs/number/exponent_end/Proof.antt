@@ -20,11 +20,13 @@ any-digit-requires c κs = c .run-end .ensures .within (c .before .sign-end .ens
 
 returns : tie.Need-returns
 returns c =
-    let start = c .before .before .before .before .before in
-    let sign = c .before .before .before .sign-end .ensures in
+    let before = c .before .before .before .before .before in
+    let sign-end = c .before .before .before .sign-end in
+    let start = before in
+    let sign = sign-end .ensures in
     let run = c .before .before .run-end .ensures in
     let some = sym (c .before .any-digit .ensures) ∙ c .if1 .taken in
-    let from = c .before .before .before .sign-end .result in
+    let from = sign-end .result in
     ends-from from (omega (arith, sign .told)) (exponent-at sign) (ends (record {
       taken = exponent-digits run ∙ chosen _ _ _ some;
       forth = any-forth (start .args .s .now) from _ some;
@@ -35,7 +37,9 @@ returns-2 : tie.Need-returns-2
 returns-2 c =
     let run = c .before .before .run-end .ensures in
     let no = sym (c .before .any-digit .ensures) ∙ c .if1 .left in
-    none (exponent-at (c .before .before .before .sign-end .ensures) ∙ ap (after _) (exponent-digits run ∙ passed-over _ _ _ no))
+    none
+    (exponent-at (c .before .before .before .sign-end .ensures) ∙ ap (after _)
+    (exponent-digits run ∙ passed-over _ _ _ no))
 
 pub exponent-end-spec : {M : Type 1} → statement M
 exponent-end-spec =

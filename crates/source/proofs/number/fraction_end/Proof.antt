@@ -29,7 +29,8 @@ run-end-requires-2 c κs = search needs
 
 returns-2 : tie.Need-returns-2
 returns-2 c =
-    let start = c .before .before .before .before .before in
+    let before = c .before .before .before .before .before in
+    let start = before in
     let dot = sym (c .before .before .is-dotted .ensures) ∙ not-false _ (c .before .if1 .left) in
     fraction-some (c .before .before .before .run-end .ensures) (start .pre) dot (c .run-end2 .ensures)
 

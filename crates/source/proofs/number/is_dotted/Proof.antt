@@ -17,7 +17,9 @@ byte-at-requires c κs = search needs
 returns : tie.Need-returns
 returns c =
     let args = c .before .before .before .args in
-    sym (dotted-at (args .s .now) (args .i) ∙ and-fails _ _ (ne-eqb _ _ (λ e. c .if1 .taken (c .before .byte-at .ensures ∙ e))))
+    sym
+    (dotted-at (args .s .now) (args .i) ∙ and-fails _ _
+    (ne-eqb _ _ (λ e. c .if1 .taken (c .before .byte-at .ensures ∙ e))))
 
 add-next : tie.Need-add-next
 add-next c =
@@ -30,7 +32,8 @@ byte-at-requires-2 c κs = search needs
 
 returns-2 : tie.Need-returns-2
 returns-2 c =
-    let args = c .before .before .before .before .before .args in
+    let args-2 = c .before .before .before .before .before .args in
+    let args = args-2 in
     let dot = eq-eqb _ DOT (sym (c .before .before .before .byte-at .ensures) ∙ c .before .before .if1 .left) in
     let next = eq-eqb _ DOT (sym (c .before .byte-at2 .ensures) ∙ c .if2 .taken) in
     sym (dotted-at (args .s .now) (args .i) ∙ rw (dot, next))
@@ -40,8 +43,10 @@ is-name-start-requires c κs = search needs
 
 returns-3 : tie.Need-returns-3
 returns-3 c =
-    let args = c .before .before .before .before .before .before .args in
-    let dot = eq-eqb _ DOT (sym (c .before .before .before .before .byte-at .ensures) ∙ c .before .before .before .if1 .left) in
+    let args-2 = c .before .before .before .before .before .before .args in
+    let byte-at = c .before .before .before .before .byte-at in
+    let args = args-2 in
+    let dot = eq-eqb _ DOT (sym (byte-at .ensures) ∙ c .before .before .before .if1 .left) in
     let same = c .before .before .byte-at2 .ensures in
     let next = ne-eqb _ DOT (λ e. c .before .if2 .left (same ∙ e)) in
     let start = c .is-name-start .ensures ∙ ap nameStart same in

@@ -15,8 +15,10 @@ is-digit-requires c κs = search needs
 
 returns : tie.Need-returns
 returns c =
-    let args = c .before .before .before .before .args in
-    let told = ap digit (sym (c .before .before .byte-at .ensures)) ∙ sym (c .before .is-digit .ensures) ∙ c .if1 .taken in
+    let args-2 = c .before .before .before .before .args in
+    let args = args-2 in
+    let told = ap digit (sym (c .before .before .byte-at .ensures)) ∙ sym (c .before .is-digit .ensures)
+    ∙ c .if1 .taken in
     sym (reserved-at (args .s .now) (args .i) ∙ or-holds _ _ (or-holds _ _ told))
 
 starts-exponent-requires : tie.Need-starts-exponent-requires
@@ -24,9 +26,12 @@ starts-exponent-requires c κs = search needs
 
 returns-2 : tie.Need-returns-2
 returns-2 c =
-    let args = c .before .before .before .before .before .before .args in
-    let byte = c .before .before .before .before .byte-at .ensures in
-    let none = ap digit (sym byte) ∙ sym (c .before .before .before .is-digit .ensures) ∙ c .before .before .if1 .left in
+    let args-2 = c .before .before .before .before .before .before .args in
+    let byte-at = c .before .before .before .before .byte-at in
+    let args = args-2 in
+    let byte = byte-at .ensures in
+    let none = ap digit (sym byte) ∙ sym (c .before .before .before .is-digit .ensures)
+    ∙ c .before .before .if1 .left in
     let told = ap exponentStart (sym byte) ∙ sym (c .before .starts-exponent .ensures) ∙ c .if2 .taken in
     sym (reserved-at (args .s .now) (args .i) ∙ or-holds _ _ (or-last _ _ none ∙ told))
 
@@ -35,9 +40,12 @@ is-dotted-requires c κs = search needs
 
 returns-3 : tie.Need-returns-3
 returns-3 c =
-    let args = c .before .before .before .before .before .before .before .args in
-    let byte = c .before .before .before .before .before .byte-at .ensures in
-    let none = ap digit (sym byte) ∙ sym (c .before .before .before .before .is-digit .ensures) ∙ c .before .before .before .if1 .left in
+    let args-2 = c .before .before .before .before .before .before .before .args in
+    let byte-at = c .before .before .before .before .before .byte-at in
+    let is-digit = c .before .before .before .before .is-digit in
+    let args = args-2 in
+    let byte = byte-at .ensures in
+    let none = ap digit (sym byte) ∙ sym (is-digit .ensures) ∙ c .before .before .before .if1 .left in
     let told = ap exponentStart (sym byte) ∙ sym (c .before .before .starts-exponent .ensures) ∙ c .before .if2 .left in
     c .is-dotted .ensures ∙ sym (reserved-at (args .s .now) (args .i) ∙ or-last _ _ (or-last _ _ none ∙ told))
 

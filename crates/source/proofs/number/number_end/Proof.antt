@@ -17,7 +17,8 @@ decimal-end-requires c κs = search needs
 returns : tie.Need-returns
 returns c =
     let start = c .before .before .before .before in
-    let other = number-decimal (start .args .s .now) (start .args .i) (λ e. c .before .if1 .taken (c .before .before .byte-at .ensures ∙ e)) in
+    let other = number-decimal (start .args .s .now) (start .args .i) (λ e. c .before .if1 .taken
+    (c .before .before .byte-at .ensures ∙ e)) in
     ends-as other (c .decimal-end .ensures)
 
 add-second : tie.Need-add-second
@@ -36,26 +37,33 @@ decimal-end-requires-2 c κs = search needs
 
 returns-2 : tie.Need-returns-2
 returns-2 c =
-    let start = c .before .before .before .before .before .before .before in
-    let radix = sym (c .before .before .radix-of .ensures ∙ ap radixOf (c .before .before .before .byte-at2 .ensures)) ∙ c .before .if2 .taken in
+    let before = c .before .before .before .before .before .before .before in
+    let start = before in
+    let radix = sym (c .before .before .radix-of .ensures ∙ ap radixOf
+    (c .before .before .before .byte-at2 .ensures)) ∙ c .before .if2 .taken in
     ends-as (number-no-radix (start .args .s .now) (start .args .i) radix) (c .decimal-end2 .ensures)
 
 add-digits : tie.Need-add-digits
 add-digits c =
-    let start = c .before .before .before .before .before .before in
+    let before = c .before .before .before .before .before .before in
+    let start = before in
     let radix = c .before .radix-of .ensures ∙ ap radixOf (c .before .before .byte-at2 .ensures) in
     omega (arith, radix-stands (start .args .s .now) (start .args .i + 1) (λ e. c .if2 .left (radix ∙ e)))
 
 radix-digits-end-requires : tie.Need-radix-digits-end-requires
 radix-digits-end-requires c κs =
-    let start = c .before .before .before .before .before .before in
+    let before = c .before .before .before .before .before .before in
+    let start = before in
     let radix = c .before .radix-of .ensures ∙ ap radixOf (c .before .before .byte-at2 .ensures) in
     omega (arith, radix-stands (start .args .s .now) (start .args .i + 1) (λ e. c .if2 .left (radix ∙ e)))
 
 returns-3 : tie.Need-returns-3
 returns-3 c =
-    let start = c .before .before .before .before .before .before .before in
-    let zero = sym (c .before .before .before .before .before .byte-at .ensures) ∙ c .before .before .before .before .if1 .left in
+    let before = c .before .before .before .before .before .before .before in
+    let byte-at = c .before .before .before .before .before .byte-at in
+    let if1 = c .before .before .before .before .if1 in
+    let start = before in
+    let zero = sym (byte-at .ensures) ∙ if1 .left in
     let radix = c .before .before .radix-of .ensures ∙ ap radixOf (c .before .before .before .byte-at2 .ensures) in
     let i = start .args .i in
     let digits = number-radix (start .args .s .now) i zero radix (c .before .if2 .left) in

@@ -28,7 +28,8 @@ is-reserved-requires c κs = search needs
 returns-2 : tie.Need-returns-2
 unfolding radixDigits
 returns-2 c =
-    let digits = digits-at (c .before .before .before .before .run-end .ensures) in
+    let run-end = c .before .before .before .before .run-end in
+    let digits = digits-at (run-end .ensures) in
     let some = sym (c .before .before .before .any-digit .ensures) ∙ not-false _ (c .before .before .if1 .left) in
     let no = and-last _ _ some ∙ ap not (sym (c .before .is-reserved .ensures) ∙ c .if2 .taken) in
     none (digits ∙ passed-over _ _ _ no)
@@ -36,8 +37,10 @@ returns-2 c =
 returns-3 : tie.Need-returns-3
 unfolding radixDigits
 returns-3 c =
-    let start = c .before .before .before .before .before .before in
-    let run = c .before .before .before .before .run-end .ensures in
+    let before = c .before .before .before .before .before .before in
+    let run-end = c .before .before .before .before .run-end in
+    let start = before in
+    let run = run-end .ensures in
     let some = sym (c .before .before .before .any-digit .ensures) ∙ not-false _ (c .before .before .if1 .left) in
     let fits = and-both _ _ some (ap not (sym (c .before .is-reserved .ensures) ∙ c .if2 .left)) in
     ends (record {

@@ -30,17 +30,23 @@ is-one-of-requires c κs = search needs
 
 returns-2 : tie.Need-returns-2
 returns-2 c =
-    let start = c .before .before .before .before .before .before in
-    let byte = c .before .before .before .before .byte-at .ensures in
+    let before = c .before .before .before .before .before .before in
+    let byte-at = c .before .before .before .before .byte-at in
+    let start = before in
+    let byte = byte-at .ensures in
     let here = stands (start .args .s .now) (start .args .i) (λ e. c .before .before .before .if1 .left (byte ∙ e)) in
-    let sign = chosen {A = ℕ} _ 1 0 (ap (λ (b : ℕ). member b (bytes "+-")) (sym byte) ∙ sym (c .before .is-one-of .ensures) ∙ c .if2 .taken) in
+    let sign = chosen {A = ℕ} _ 1 0 (ap (λ (b : ℕ). member b (bytes "+-")) (sym byte) ∙ sym
+    (c .before .is-one-of .ensures) ∙ c .if2 .taken) in
     record { told = omega (arith, sign); within = omega (arith, here) }
 
 returns-3 : tie.Need-returns-3
 returns-3 c =
-    let start = c .before .before .before .before .before .before in
-    let byte = c .before .before .before .before .byte-at .ensures in
-    let sign = passed-over {A = ℕ} _ 1 0 (ap (λ (b : ℕ). member b (bytes "+-")) (sym byte) ∙ sym (c .before .is-one-of .ensures) ∙ c .if2 .left) in
+    let before = c .before .before .before .before .before .before in
+    let byte-at = c .before .before .before .before .byte-at in
+    let start = before in
+    let byte = byte-at .ensures in
+    let sign = passed-over {A = ℕ} _ 1 0 (ap (λ (b : ℕ). member b (bytes "+-")) (sym byte) ∙ sym
+    (c .before .is-one-of .ensures) ∙ c .if2 .left) in
     record { told = omega (arith, sign); within = start .pre }
 
 pub sign-end-spec : {M : Type 1} → statement M

@@ -25,7 +25,8 @@ is-name-start-requires c κs = search needs
 
 returns : tie.Need-returns
 returns c =
-    let args = c .before .before .before .before .args in
+    let args-2 = c .before .before .before .before .args in
+    let args = args-2 in
     let byte = c .before .before .byte-at .ensures in
     let no = ap nameStart (sym byte) ∙ sym (c .before .is-name-start .ensures) ∙ not-true _ (c .if1 .taken) in
     none (lifetime-none (args .s .now) (args .i) no)
@@ -38,18 +39,22 @@ byte-at-requires-2 c κs = search needs
 
 returns-2 : tie.Need-returns-2
 returns-2 c =
-    let args = c .before .before .before .before .before .before .before .args in
+    let args-2 = c .before .before .before .before .before .before .before .args in
+    let args = args-2 in
     let whole = lifetime-at (args .s .now) (args .i) (c .before .before .run-end .ensures) in
     let quote = ap not (eq-eqb _ QUOTE (sym (c .before .byte-at2 .ensures) ∙ c .if2 .taken)) in
     none (whole ∙ passed-over _ _ _ (and-fails-last (nameStart (getD (args .s .now) (args .i + 1) 0)) quote))
 
 returns-3 : tie.Need-returns-3
 returns-3 c =
-    let start = c .before .before .before .before .before .before .before in
+    let before = c .before .before .before .before .before .before .before in
+    let byte-at = c .before .before .before .before .before .byte-at in
+    let is-name-start = c .before .before .before .before .is-name-start in
+    let start = before in
     let args = start .args in
     let run = c .before .before .run-end .ensures in
-    let byte = c .before .before .before .before .before .byte-at .ensures in
-    let told = c .before .before .before .before .is-name-start .ensures in
+    let byte = byte-at .ensures in
+    let told = is-name-start .ensures in
     let some = ap nameStart (sym byte) ∙ sym told ∙ not-false _ (c .before .before .before .if1 .left) in
     let unquoted = ap not (ne-eqb _ QUOTE (λ e. c .if2 .left (c .before .byte-at2 .ensures ∙ e))) in
     lifetime (record {

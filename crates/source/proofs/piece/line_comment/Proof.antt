@@ -43,9 +43,11 @@ run-end-requires c κs = search needs
 returns-2 : tie.Need-returns-2
 unfolding inLine
 returns-2 c =
-    let start = c .before .before .before .before .before .before in
+    let before = c .before .before .before .before .before .before in
+    let byte-at = c .before .before .before .before .byte-at in
+    let start = before in
     let args = start .args in
-    let other = ne-eqb _ BANG (λ e. c .before .before .before .if1 .left (c .before .before .before .before .byte-at .ensures ∙ e)) in
+    let other = ne-eqb _ BANG (λ e. c .before .before .before .if1 .left (byte-at .ensures ∙ e)) in
     let plain = sym (c .before .before .is-outer-line .ensures) ∙ not-true _ (c .before .if2 .taken) in
     let line = c .run-end .ensures in
     let here = slash-stands (args .s .now) (args .i) (start .pre .0) in
@@ -59,7 +61,8 @@ returns-2 c =
 
 doc-line-end-requires : tie.Need-doc-line-end-requires
 doc-line-end-requires c κs =
-    let start = c .before .before .before .before .before in
+    let before = c .before .before .before .before .before in
+    let start = before in
     let outer = sym (c .before .is-outer-line .ensures) ∙ not-false _ (c .if2 .left) in
     omega (arith, outer-stands (start .args .s .now) (start .args .i) outer)
 
@@ -71,10 +74,14 @@ enum-known-e c = search needs
 
 returns-3 : tie.Need-returns-3
 returns-3 c =
-    let args = c .before .before .before .before .before .before .before .before .args in
-    let byte = c .before .before .before .before .before .before .byte-at .ensures in
-    let other = ne-eqb _ BANG (λ e. c .before .before .before .before .before .if1 .left (byte ∙ e)) in
-    let told = c .before .before .before .before .is-outer-line .ensures in
+    let args-2 = c .before .before .before .before .before .before .before .before .args in
+    let byte-at = c .before .before .before .before .before .before .byte-at in
+    let if1 = c .before .before .before .before .before .if1 in
+    let is-outer-line = c .before .before .before .before .is-outer-line in
+    let args = args-2 in
+    let byte = byte-at .ensures in
+    let other = ne-eqb _ BANG (λ e. if1 .left (byte ∙ e)) in
+    let told = is-outer-line .ensures in
     let outer = sym told ∙ not-false _ (c .before .before .before .if2 .left) in
     let ends : EndsAs (args .s .now) (args .i) (docLine (drop (args .i) (args .s .now))) Fault =
     subst (EndsAs (args .s .now) (args .i) _) (c .enum-told .given .1) (c .before .before .doc-line-end .ensures) in
@@ -83,12 +90,18 @@ returns-3 c =
 
 returns-4 : tie.Need-returns-4
 returns-4 c =
-    let args = c .before .before .before .before .before .before .before .before .before .args in
-    let byte = c .before .before .before .before .before .before .before .byte-at .ensures in
-    let other = ne-eqb _ BANG (λ e. c .before .before .before .before .before .before .if1 .left (byte ∙ e)) in
-    let told = c .before .before .before .before .before .is-outer-line .ensures in
-    let outer = sym told ∙ not-false _ (c .before .before .before .before .if2 .left) in
-    let to = ends-to (subst (EndsAs (args .s .now) (args .i) _) (c .before .e .given .1) (c .before .before .before .doc-line-end .ensures)) in
+    let args-2 = c .before .before .before .before .before .before .before .before .before .args in
+    let byte-at = c .before .before .before .before .before .before .before .byte-at in
+    let if1 = c .before .before .before .before .before .before .if1 in
+    let is-outer-line = c .before .before .before .before .before .is-outer-line in
+    let if2 = c .before .before .before .before .if2 in
+    let args = args-2 in
+    let byte = byte-at .ensures in
+    let other = ne-eqb _ BANG (λ e. if1 .left (byte ∙ e)) in
+    let told = is-outer-line .ensures in
+    let outer = sym told ∙ not-false _ (if2 .left) in
+    let to = ends-to (subst (EndsAs (args .s .now) (args .i) _) (c .before .e .given .1)
+    (c .before .before .before .doc-line-end .ensures)) in
     let whole = line-at (args .s .now) (args .i) ∙ passed-over _ _ _ other ∙ chosen _ _ _ outer in
     let long = doc-long (args .s .now) (args .i) to in
     doc (record { told = whole ∙ ap docOf (to .taken); forth = to .forth; within = to .within }) long

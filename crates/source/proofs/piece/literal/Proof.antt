@@ -26,7 +26,8 @@ returns c =
 
 returns-2 : tie.Need-returns-2
 returns-2 c =
-    λ t h. let args = c .before .before .before .before .before .args in
+    let args-2 = c .before .before .before .before .before .args in
+    λ t h. let args = args-2 in
     let same = c .before .before .ends .given .1 in
     let to = ends-to (subst (λ (r : Ends). EndsAs (args .s .now) (args .i) t r) same h) in
     literal-to to (c .suffix-end .ensures)

@@ -27,12 +27,14 @@ run-end-requires c κs = search needs
 
 returns : tie.Need-returns
 returns c =
-    let args = c .before .before .before .before .before .args in
+    let args-2 = c .before .before .before .before .before .args in
+    let pre = c .before .before .before .before .before .pre in
+    let args = args-2 in
     let s = args .s .now in
     let i = args .i in
     let some = sym (c .before .before .is-blank .ensures) ∙ c .before .if1 .taken in
     let run = c .run-end .ensures in
-    let here = c .before .before .before .before .before .pre in
+    let here = pre in
     let n : taken.run blank (drop i s) ≡ c .run-end .result - i = omega (arith, run .told) in
     gap (record {
       told = piece-at s i ∙ chosen _ _ _ some ∙ ap piece.gap n;
@@ -48,10 +50,12 @@ word-requires c κs = sym (c .before .is-name-start .ensures) ∙ c .if2 .taken
 
 returns-2 : tie.Need-returns-2
 returns-2 c =
-    let args = c .before .before .before .before .before .before .before .args in
+    let args-2 = c .before .before .before .before .before .before .before .args in
+    let is-blank = c .before .before .before .before .is-blank in
+    let args = args-2 in
     let s = args .s .now in
     let i = args .i in
-    let blank = sym (c .before .before .before .before .is-blank .ensures) ∙ c .before .before .before .if1 .left in
+    let blank = sym (is-blank .ensures) ∙ c .before .before .before .if1 .left in
     let name = sym (c .before .before .is-name-start .ensures) ∙ c .before .if2 .taken in
     piece-as (piece-at s i ∙ passed-over _ _ _ blank ∙ chosen _ _ _ name) (c .word .ensures)
 
@@ -66,11 +70,16 @@ literal-requires c κs = search needs
 
 returns-3 : tie.Need-returns-3
 returns-3 c =
-    let args = c .before .before .before .before .before .before .before .before .before .before .args in
+    let args-2 = c .before .before .before .before .before .before .before .before .before .before .args in
+    let is-blank = c .before .before .before .before .before .before .before .is-blank in
+    let if1 = c .before .before .before .before .before .before .if1 in
+    let is-name-start = c .before .before .before .before .before .is-name-start in
+    let if2 = c .before .before .before .before .if2 in
+    let args = args-2 in
     let s = args .s .now in
     let i = args .i in
-    let blank = sym (c .before .before .before .before .before .before .before .is-blank .ensures) ∙ c .before .before .before .before .before .before .if1 .left in
-    let name = sym (c .before .before .before .before .before .is-name-start .ensures) ∙ c .before .before .before .before .if2 .left in
+    let blank = sym (is-blank .ensures) ∙ if1 .left in
+    let name = sym (is-name-start .ensures) ∙ if2 .left in
     let digit = sym (c .before .before .before .is-digit .ensures) ∙ c .before .before .if3 .taken in
     let whole = piece-at s i ∙ passed-over _ _ _ blank ∙ passed-over _ _ _ name ∙ chosen _ _ _ digit in
     piece-as whole (c .literal .ensures _ (c .before .number-end .ensures))
@@ -86,12 +95,18 @@ literal-requires-2 c κs = search needs
 
 returns-4 : tie.Need-returns-4
 returns-4 c =
-    let args = c .before .before .before .before .before .before .before .before .before .before .before .args in
+    let args-2 = c .before .before .before .before .before .before .before .before .before .before .before .args in
+    let is-blank = c .before .before .before .before .before .before .before .before .is-blank in
+    let if1 = c .before .before .before .before .before .before .before .if1 in
+    let is-name-start = c .before .before .before .before .before .before .is-name-start in
+    let if2 = c .before .before .before .before .before .if2 in
+    let is-digit = c .before .before .before .before .is-digit in
+    let args = args-2 in
     let s = args .s .now in
     let i = args .i in
-    let blank = sym (c .before .before .before .before .before .before .before .before .is-blank .ensures) ∙ c .before .before .before .before .before .before .before .if1 .left in
-    let name = sym (c .before .before .before .before .before .before .is-name-start .ensures) ∙ c .before .before .before .before .before .if2 .left in
-    let digit = sym (c .before .before .before .before .is-digit .ensures) ∙ c .before .before .before .if3 .left in
+    let blank = sym (is-blank .ensures) ∙ if1 .left in
+    let name = sym (is-name-start .ensures) ∙ if2 .left in
+    let digit = sym (is-digit .ensures) ∙ c .before .before .before .if3 .left in
     let quoted = eq-eqb _ DOUBLE-QUOTE (c .before .before .if4 .taken) in
     let none = passed-over _ _ _ blank ∙ passed-over _ _ _ name ∙ passed-over _ _ _ digit in
     let ends = ends-behind 1 refl (c .before .string-end .ensures) in
@@ -102,12 +117,18 @@ quote-requires c κs = search needs
 
 returns-5 : tie.Need-returns-5
 returns-5 c =
-    let args = c .before .before .before .before .before .before .before .before .before .before .before .args in
+    let args-2 = c .before .before .before .before .before .before .before .before .before .before .before .args in
+    let is-blank = c .before .before .before .before .before .before .before .before .is-blank in
+    let if1 = c .before .before .before .before .before .before .before .if1 in
+    let is-name-start = c .before .before .before .before .before .before .is-name-start in
+    let if2 = c .before .before .before .before .before .if2 in
+    let is-digit = c .before .before .before .before .is-digit in
+    let args = args-2 in
     let s = args .s .now in
     let i = args .i in
-    let blank = sym (c .before .before .before .before .before .before .before .before .is-blank .ensures) ∙ c .before .before .before .before .before .before .before .if1 .left in
-    let name = sym (c .before .before .before .before .before .before .is-name-start .ensures) ∙ c .before .before .before .before .before .if2 .left in
-    let digit = sym (c .before .before .before .before .is-digit .ensures) ∙ c .before .before .before .if3 .left in
+    let blank = sym (is-blank .ensures) ∙ if1 .left in
+    let name = sym (is-name-start .ensures) ∙ if2 .left in
+    let digit = sym (is-digit .ensures) ∙ c .before .before .before .if3 .left in
     let quoted = ne-eqb _ DOUBLE-QUOTE (c .before .before .if4 .left) in
     let none = passed-over _ _ _ blank ∙ passed-over _ _ _ name ∙ passed-over _ _ _ digit ∙ passed-over _ _ _ quoted in
     piece-as (piece-at s i ∙ none ∙ chosen _ _ _ (eq-eqb _ QUOTE (c .before .if5 .taken))) (c .quote .ensures)
@@ -117,12 +138,20 @@ slash-requires c κs = search needs
 
 returns-6 : tie.Need-returns-6
 returns-6 c =
-    let args = c .before .before .before .before .before .before .before .before .before .before .before .before .args in
+    let args-2 = c .before .before .before .before .before .before .before .before .before .before .before .before
+    .args in
+    let is-blank = c .before .before .before .before .before .before .before .before .before .is-blank in
+    let if1 = c .before .before .before .before .before .before .before .before .if1 in
+    let is-name-start = c .before .before .before .before .before .before .before .is-name-start in
+    let if2 = c .before .before .before .before .before .before .if2 in
+    let is-digit = c .before .before .before .before .before .is-digit in
+    let if3 = c .before .before .before .before .if3 in
+    let args = args-2 in
     let s = args .s .now in
     let i = args .i in
-    let blank = sym (c .before .before .before .before .before .before .before .before .before .is-blank .ensures) ∙ c .before .before .before .before .before .before .before .before .if1 .left in
-    let name = sym (c .before .before .before .before .before .before .before .is-name-start .ensures) ∙ c .before .before .before .before .before .before .if2 .left in
-    let digit = sym (c .before .before .before .before .before .is-digit .ensures) ∙ c .before .before .before .before .if3 .left in
+    let blank = sym (is-blank .ensures) ∙ if1 .left in
+    let name = sym (is-name-start .ensures) ∙ if2 .left in
+    let digit = sym (is-digit .ensures) ∙ if3 .left in
     let quoted = ne-eqb _ DOUBLE-QUOTE (c .before .before .before .if4 .left) in
     let quote = ne-eqb _ QUOTE (c .before .before .if5 .left) in
     let none = passed-over _ _ _ blank ∙ passed-over _ _ _ name ∙ passed-over _ _ _ digit ∙ passed-over _ _ _ quoted in
@@ -134,12 +163,20 @@ single-requires c κs = search needs
 
 returns-7 : tie.Need-returns-7
 returns-7 c =
-    let args = c .before .before .before .before .before .before .before .before .before .before .before .before .args in
+    let args-2 = c .before .before .before .before .before .before .before .before .before .before .before .before
+    .args in
+    let is-blank = c .before .before .before .before .before .before .before .before .before .is-blank in
+    let if1 = c .before .before .before .before .before .before .before .before .if1 in
+    let is-name-start = c .before .before .before .before .before .before .before .is-name-start in
+    let if2 = c .before .before .before .before .before .before .if2 in
+    let is-digit = c .before .before .before .before .before .is-digit in
+    let if3 = c .before .before .before .before .if3 in
+    let args = args-2 in
     let s = args .s .now in
     let i = args .i in
-    let blank = sym (c .before .before .before .before .before .before .before .before .before .is-blank .ensures) ∙ c .before .before .before .before .before .before .before .before .if1 .left in
-    let name = sym (c .before .before .before .before .before .before .before .is-name-start .ensures) ∙ c .before .before .before .before .before .before .if2 .left in
-    let digit = sym (c .before .before .before .before .before .is-digit .ensures) ∙ c .before .before .before .before .if3 .left in
+    let blank = sym (is-blank .ensures) ∙ if1 .left in
+    let name = sym (is-name-start .ensures) ∙ if2 .left in
+    let digit = sym (is-digit .ensures) ∙ if3 .left in
     let quoted = ne-eqb _ DOUBLE-QUOTE (c .before .before .before .if4 .left) in
     let quote = ne-eqb _ QUOTE (c .before .before .if5 .left) in
     let none = passed-over _ _ _ blank ∙ passed-over _ _ _ name ∙ passed-over _ _ _ digit ∙ passed-over _ _ _ quoted in

@@ -43,15 +43,18 @@ literal-requires c κs = search needs
 
 returns-2 : tie.Need-returns-2
 returns-2 c =
-    let start = c .before .before .before .before .before .before .before .before in
+    let before = c .before .before .before .before .before .before .before .before in
+    let if1 = c .before .before .before .before .before .before .if1 in
+    let start = before in
     let s = start .args .s .now in
     let i = start .args .i in
-    let n : start .args .end - i ≡ 1 = omega (arith, c .before .before .before .before .before .before .if1 .left) in
+    let n : start .args .end - i ≡ 1 = omega (arith, if1 .left) in
     let whole = ap (λ (m : ℕ). prefixed m (drop i s)) n ∙ prefix-at s i (omega (arith, start .pre .0, start .pre .1)) in
     let byte = and-both _ true (eq-eqb _ _ (c .before .before .before .if2 .taken)) refl in
     let string = chosen _ _ _ byte ∙ chosen _ _ _ (eq-eqb _ DOUBLE-QUOTE (c .before .before .if3 .taken)) in
     let place : i + 1 + 1 ≡ i + 2 = omega arith in
-    piece-as (whole ∙ string) (c .literal .ensures _ (ends-behind 2 refl (rw place at (c .before .string-end .ensures))))
+    piece-as (whole ∙ string)
+    (c .literal .ensures _ (ends-behind 2 refl (rw place at (c .before .string-end .ensures))))
 
 character-end-requires : tie.Need-character-end-requires
 character-end-requires c κs = search needs
@@ -61,24 +64,30 @@ literal-requires-2 c κs = search needs
 
 returns-3 : tie.Need-returns-3
 returns-3 c =
-    let start = c .before .before .before .before .before .before .before .before .before in
+    let before = c .before .before .before .before .before .before .before .before .before in
+    let if1 = c .before .before .before .before .before .before .before .if1 in
+    let if2 = c .before .before .before .before .if2 in
+    let start = before in
     let s = start .args .s .now in
     let i = start .args .i in
-    let n : start .args .end - i ≡ 1 = omega (arith, c .before .before .before .before .before .before .before .if1 .left) in
+    let n : start .args .end - i ≡ 1 = omega (arith, if1 .left) in
     let whole = ap (λ (m : ℕ). prefixed m (drop i s)) n ∙ prefix-at s i (omega (arith, start .pre .0, start .pre .1)) in
-    let byte = and-both _ true (eq-eqb _ _ (c .before .before .before .before .if2 .taken)) refl in
+    let byte = and-both _ true (eq-eqb _ _ (if2 .taken)) refl in
     let other = ne-eqb _ DOUBLE-QUOTE (c .before .before .before .if3 .left) in
-    let quoted = chosen _ _ _ byte ∙ passed-over _ _ _ other ∙ chosen _ _ _ (eq-eqb _ QUOTE (c .before .before .if4 .taken)) in
+    let quoted = chosen _ _ _ byte ∙ passed-over _ _ _ other ∙ chosen _ _ _ (eq-eqb _ QUOTE
+    (c .before .before .if4 .taken)) in
     let place : i + 1 + 1 ≡ i + 2 = omega arith in
     piece-as (whole ∙ quoted)
     (c .literal2 .ensures _ (ends-behind 2 refl (rw place at (c .before .character-end .ensures))))
 
 returns-4 : tie.Need-returns-4
 returns-4 c =
-    let start = c .before .before .before .before .before .before .before in
+    let before = c .before .before .before .before .before .before .before in
+    let if1 = c .before .before .before .before .before .if1 in
+    let start = before in
     let s = start .args .s .now in
     let i = start .args .i in
-    let n : start .args .end - i ≡ 1 = omega (arith, c .before .before .before .before .before .if1 .left) in
+    let n : start .args .end - i ≡ 1 = omega (arith, if1 .left) in
     let whole = ap (λ (m : ℕ). prefixed m (drop i s)) n ∙ prefix-at s i (omega (arith, start .pre .0, start .pre .1)) in
     let byte = and-both _ true (eq-eqb _ _ (c .before .before .if2 .taken)) refl in
     let other = ne-eqb _ DOUBLE-QUOTE (c .before .if3 .left) in
@@ -86,10 +95,12 @@ returns-4 c =
 
 returns-5 : tie.Need-returns-5
 returns-5 c =
-    let start = c .before .before .before .before .before .before in
+    let before = c .before .before .before .before .before .before in
+    let if1 = c .before .before .before .before .if1 in
+    let start = before in
     let s = start .args .s .now in
     let i = start .args .i in
-    let n : start .args .end - i ≡ 1 = omega (arith, c .before .before .before .before .if1 .left) in
+    let n : start .args .end - i ≡ 1 = omega (arith, if1 .left) in
     let whole = ap (λ (m : ℕ). prefixed m (drop i s)) n ∙ prefix-at s i (omega (arith, start .pre .0, start .pre .1)) in
     let byte = and-fails _ true (ne-eqb _ _ (c .before .if2 .left)) in
     let raw = and-fails _ _ (and-fails _ true (ne-eqb _ _ (c .if5 .taken))) in
@@ -97,10 +108,12 @@ returns-5 c =
 
 returns-6 : tie.Need-returns-6
 returns-6 c =
-    let start = c .before .before .before .before .before .before .before in
+    let before = c .before .before .before .before .before .before .before in
+    let if1 = c .before .before .before .before .before .if1 in
+    let start = before in
     let s = start .args .s .now in
     let i = start .args .i in
-    let n : start .args .end - i ≡ 1 = omega (arith, c .before .before .before .before .before .if1 .left) in
+    let n : start .args .end - i ≡ 1 = omega (arith, if1 .left) in
     let whole = ap (λ (m : ℕ). prefixed m (drop i s)) n ∙ prefix-at s i (omega (arith, start .pre .0, start .pre .1)) in
     let byte = and-fails _ true (ne-eqb _ _ (c .before .before .if2 .left)) in
     let letter = and-both _ true (eq-eqb _ _ (c .before .if5 .left)) refl in
@@ -112,10 +125,12 @@ raw-name-requires c κs = search needs
 
 returns-7 : tie.Need-returns-7
 returns-7 c =
-    let start = c .before .before .before .before .before .before .before .before in
+    let before = c .before .before .before .before .before .before .before .before in
+    let if1 = c .before .before .before .before .before .before .if1 in
+    let start = before in
     let s = start .args .s .now in
     let i = start .args .i in
-    let n : start .args .end - i ≡ 1 = omega (arith, c .before .before .before .before .before .before .if1 .left) in
+    let n : start .args .end - i ≡ 1 = omega (arith, if1 .left) in
     let whole = ap (λ (m : ℕ). prefixed m (drop i s)) n ∙ prefix-at s i (omega (arith, start .pre .0, start .pre .1)) in
     let byte = and-fails _ true (ne-eqb _ _ (c .before .before .before .if2 .left)) in
     let letter = and-both _ true (eq-eqb _ _ (c .before .before .if5 .left)) refl in

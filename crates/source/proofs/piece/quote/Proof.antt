@@ -1,4 +1,4 @@
-use mathlib.Core.Path.{_≡_, refl, sym, ap, _∙_, subst}
+use mathlib.Core.Path.{refl, sym, ap, _∙_, subst}
 use Prim.Native.Nat.{_+_}
 use lib.ListN.{drop}
 use Rattle.source.specs.Taken.{Taken, after}
@@ -30,18 +30,22 @@ literal-requires c κs = search needs
 
 returns : tie.Need-returns
 returns c =
-    let args = c .before .before .before .before .before .args in
+    let args-2 = c .before .before .before .before .before .args in
+    let args = args-2 in
     let s = args .s .now in
     let i = args .i in
-    let no = ends-not (subst (EndsAs s (i + 1) _) (c .before .enum-told .given .1) (c .before .before .before .character-end .ensures)) in
+    let no = ends-not (subst (EndsAs s (i + 1) _) (c .before .enum-told .given .1)
+    (c .before .before .before .character-end .ensures)) in
     piece-as (quote-at s i ∙ ap (λ (t : Taken). quotedOr t (drop i s)) no) (c .lifetime .ensures)
 
 returns-2 : tie.Need-returns-2
 returns-2 c =
-    let args = c .before .before .before .before .before .before .args in
+    let args-2 = c .before .before .before .before .before .before .args in
+    let character-end = c .before .before .before .before .character-end in
+    let args = args-2 in
     let s = args .s .now in
     let i = args .i in
-    let to = ends-to (subst (EndsAs s (i + 1) _) (c .before .before .e .given .1) (c .before .before .before .before .character-end .ensures)) in
+    let to = ends-to (subst (EndsAs s (i + 1) _) (c .before .before .e .given .1) (character-end .ensures)) in
     let whole = quote-at s i ∙ ap (λ (t : Taken). quotedOr t (drop i s)) (to .taken) in
     let ends = ends-behind 1 refl (ends-of to) in
     piece-as whole (c .literal .ensures _ (ends-as (ap (after 1) (sym (to .taken))) ends))

@@ -24,7 +24,8 @@ is-name-start-requires c κs = search needs
 
 returns : tie.Need-returns
 returns c =
-    let args = c .before .before .before .before .args in
+    let args-2 = c .before .before .before .before .args in
+    let args = args-2 in
     let byte = c .before .before .byte-at .ensures in
     let no = ap nameStart (sym byte) ∙ sym (c .before .is-name-start .ensures) ∙ not-true _ (c .if1 .taken) in
     none (raw-none (args .s .now) (args .i) no)
@@ -33,22 +34,28 @@ run-end-requires : tie.Need-run-end-requires
 run-end-requires c κs = search needs
 
 is-never-raw-requires : tie.Need-is-never-raw-requires
-is-never-raw-requires c κs = c .run-end .ensures .within (c .before .before .before .before .before .pre)
+is-never-raw-requires c κs =
+    let pre = c .before .before .before .before .before .pre in
+    c .run-end .ensures .within pre
 
 returns-2 : tie.Need-returns-2
 returns-2 c =
-    let args = c .before .before .before .before .before .before .before .args in
+    let args-2 = c .before .before .before .before .before .before .before .args in
+    let args = args-2 in
     let whole = raw-at (args .s .now) (args .i) (c .before .before .run-end .ensures) in
     let never = ap not (sym (c .before .is-never-raw .ensures) ∙ c .if2 .taken) in
     none (whole ∙ passed-over _ _ _ (and-fails-last (nameStart (getD (args .s .now) (args .i + 2) 0)) never))
 
 returns-3 : tie.Need-returns-3
 returns-3 c =
-    let start = c .before .before .before .before .before .before .before in
+    let before = c .before .before .before .before .before .before .before in
+    let byte-at = c .before .before .before .before .before .byte-at in
+    let is-name-start = c .before .before .before .before .is-name-start in
+    let start = before in
     let args = start .args in
     let run = c .before .before .run-end .ensures in
-    let byte = c .before .before .before .before .before .byte-at .ensures in
-    let told = c .before .before .before .before .is-name-start .ensures in
+    let byte = byte-at .ensures in
+    let told = is-name-start .ensures in
     let some = ap nameStart (sym byte) ∙ sym told ∙ not-false _ (c .before .before .before .if1 .left) in
     let raw = ap not (sym (c .before .is-never-raw .ensures) ∙ c .if2 .left) in
     row (record {

@@ -24,7 +24,8 @@ is-one-of-requires c κs = search needs
 returns : tie.Need-returns
 unfolding single opens closes
 returns c =
-    let args = c .before .before .before .before .before .args in
+    let args-2 = c .before .before .before .before .before .args in
+    let args = args-2 in
     let opened = sym (c .before .is-one-of .ensures) ∙ c .if1 .taken in
     row (record { told = chosen _ _ _ opened ∙ one-byte (args .i); forth = omega arith; within = omega arith })
 
@@ -37,8 +38,10 @@ is-one-of-requires-2 c κs = search needs
 returns-2 : tie.Need-returns-2
 unfolding single opens closes
 returns-2 c =
-    let args = c .before .before .before .before .before .before .before .before .args in
-    let no = sym (c .before .before .before .before .is-one-of .ensures) ∙ c .before .before .before .if1 .left in
+    let args-2 = c .before .before .before .before .before .before .before .before .args in
+    let is-one-of = c .before .before .before .before .is-one-of in
+    let args = args-2 in
+    let no = sym (is-one-of .ensures) ∙ c .before .before .before .if1 .left in
     let closed = sym (c .before .is-one-of2 .ensures) ∙ c .if2 .taken in
     row (record {
       told = passed-over _ _ _ no ∙ chosen _ _ _ closed ∙ one-byte (args .i);
@@ -52,8 +55,11 @@ is-punctuation-requires c κs = search needs
 returns-3 : tie.Need-returns-3
 unfolding single opens closes
 returns-3 c =
-    let args = c .before .before .before .before .before .before .before .before .before .before .args in
-    let no = sym (c .before .before .before .before .before .before .is-one-of .ensures) ∙ c .before .before .before .before .before .if1 .left in
+    let args-2 = c .before .before .before .before .before .before .before .before .before .before .args in
+    let is-one-of = c .before .before .before .before .before .before .is-one-of in
+    let if1 = c .before .before .before .before .before .if1 in
+    let args = args-2 in
+    let no = sym (is-one-of .ensures) ∙ if1 .left in
     let nor = sym (c .before .before .before .is-one-of2 .ensures) ∙ c .before .before .if2 .left in
     let mark = sym (c .before .is-punctuation .ensures) ∙ c .if3 .taken in
     row (record {
@@ -65,7 +71,9 @@ returns-3 c =
 returns-4 : tie.Need-returns-4
 unfolding single opens closes
 returns-4 c =
-    let no = sym (c .before .before .before .before .before .before .is-one-of .ensures) ∙ c .before .before .before .before .before .if1 .left in
+    let is-one-of = c .before .before .before .before .before .before .is-one-of in
+    let if1 = c .before .before .before .before .before .if1 in
+    let no = sym (is-one-of .ensures) ∙ if1 .left in
     let nor = sym (c .before .before .before .is-one-of2 .ensures) ∙ c .before .before .if2 .left in
     let mark = sym (c .before .is-punctuation .ensures) ∙ c .if3 .left in
     none (passed-over _ _ _ no ∙ passed-over _ _ _ nor ∙ passed-over _ _ _ mark)

@@ -23,7 +23,8 @@ line-comment-requires c κs = search needs
 
 returns : tie.Need-returns
 returns c =
-    let args = c .before .before .before .before .args in
+    let args-2 = c .before .before .before .before .args in
+    let args = args-2 in
     let next = eq-eqb _ SLASH (sym (c .before .before .byte-at .ensures) ∙ c .before .if1 .taken) in
     piece-as (slash-at (args .s .now) (args .i) ∙ chosen _ _ _ next) (c .line-comment .ensures)
 
@@ -56,24 +57,33 @@ enum-known-e c = search needs
 
 returns-3 : tie.Need-returns-3
 returns-3 c =
-    let args = c .before .before .before .before .before .before .before .args in
+    let args-2 = c .before .before .before .before .before .before .before .args in
+    let byte-at = c .before .before .before .before .before .byte-at in
+    let if1 = c .before .before .before .before .if1 in
+    let args = args-2 in
     let s = args .s .now in
     let i = args .i in
-    let byte = c .before .before .before .before .before .byte-at .ensures in
-    let no = ne-eqb _ SLASH (λ e. c .before .before .before .before .if1 .left (byte ∙ e)) in
+    let byte = byte-at .ensures in
+    let no = ne-eqb _ SLASH (λ e. if1 .left (byte ∙ e)) in
     let star = eq-eqb _ STAR (sym byte ∙ c .before .before .before .if2 .left) in
-    let ends = ends-not (subst (EndsAs s i _) (c .enum-told .given .1) (c .before .before .block-comment-end .ensures)) in
+    let ends = ends-not (subst (EndsAs s i _) (c .enum-told .given .1)
+    (c .before .before .block-comment-end .ensures)) in
     none (slash-at s i ∙ passed-over _ _ _ no ∙ chosen _ _ _ star ∙ ap gapOf ends)
 
 returns-4 : tie.Need-returns-4
 returns-4 c =
-    let args = c .before .before .before .before .before .before .before .before .args in
+    let args-2 = c .before .before .before .before .before .before .before .before .args in
+    let byte-at = c .before .before .before .before .before .before .byte-at in
+    let if1 = c .before .before .before .before .before .if1 in
+    let if2 = c .before .before .before .before .if2 in
+    let args = args-2 in
     let s = args .s .now in
     let i = args .i in
-    let byte = c .before .before .before .before .before .before .byte-at .ensures in
-    let no = ne-eqb _ SLASH (λ e. c .before .before .before .before .before .if1 .left (byte ∙ e)) in
-    let star = eq-eqb _ STAR (sym byte ∙ c .before .before .before .before .if2 .left) in
-    let to = ends-to (subst (EndsAs s i _) (c .before .e .given .1) (c .before .before .before .block-comment-end .ensures)) in
+    let byte = byte-at .ensures in
+    let no = ne-eqb _ SLASH (λ e. if1 .left (byte ∙ e)) in
+    let star = eq-eqb _ STAR (sym byte ∙ if2 .left) in
+    let to = ends-to (subst (EndsAs s i _) (c .before .e .given .1)
+    (c .before .before .before .block-comment-end .ensures)) in
     let whole = slash-at s i ∙ passed-over _ _ _ no ∙ chosen _ _ _ star in
     gap (record { told = whole ∙ ap gapOf (to .taken); forth = to .forth; within = to .within })
 

@@ -16,9 +16,11 @@ is-name-start-requires c κs = search needs
 
 returns : tie.Need-returns
 returns c =
-    let args = c .before .before .before .before .args in
+    let args-2 = c .before .before .before .before .args in
+    let args = args-2 in
     let byte = c .before .before .byte-at .ensures in
-    suffix-none (args .s .now) (args .i) (ap nameStart (sym byte) ∙ sym (c .before .is-name-start .ensures) ∙ not-true _ (c .if1 .taken))
+    suffix-none (args .s .now) (args .i)
+    (ap nameStart (sym byte) ∙ sym (c .before .is-name-start .ensures) ∙ not-true _ (c .if1 .taken))
 
 run-end-requires : tie.Need-run-end-requires
 run-end-requires c κs = search needs
@@ -28,22 +30,27 @@ sub-if3 c = search needs
 
 returns-2 : tie.Need-returns-2
 returns-2 c =
-    let byte = c .before .before .before .before .before .byte-at .ensures in
-    let told = c .before .before .before .before .is-name-start .ensures in
+    let byte-at = c .before .before .before .before .before .byte-at in
+    let is-name-start = c .before .before .before .before .is-name-start in
+    let byte = byte-at .ensures in
+    let told = is-name-start .ensures in
     let some = ap nameStart (sym byte) ∙ sym told ∙ not-false _ (c .before .before .before .if1 .left) in
     suffix-lone (c .before .before .run-end .ensures) some (sym byte ∙ c .before .if2 .taken) (c .if3 .taken)
 
 returns-3 : tie.Need-returns-3
 returns-3 c =
-    let byte = c .before .before .before .before .before .byte-at .ensures in
-    let told = c .before .before .before .before .is-name-start .ensures in
+    let byte-at = c .before .before .before .before .before .byte-at in
+    let is-name-start = c .before .before .before .before .is-name-start in
+    let byte = byte-at .ensures in
+    let told = is-name-start .ensures in
     let some = ap nameStart (sym byte) ∙ sym told ∙ not-false _ (c .before .before .before .if1 .left) in
     let lone = and-last _ _ (eq-eqb _ UNDERSCORE (sym byte ∙ c .before .if2 .taken)) ∙ ne-eqb _ 1 (c .if3 .left) in
     suffix-some (c .before .before .run-end .ensures) some lone
 
 returns-4 : tie.Need-returns-4
 returns-4 c =
-    let byte = c .before .before .before .before .byte-at .ensures in
+    let byte-at = c .before .before .before .before .byte-at in
+    let byte = byte-at .ensures in
     let told = c .before .before .before .is-name-start .ensures in
     let some = ap nameStart (sym byte) ∙ sym told ∙ not-false _ (c .before .before .if1 .left) in
     let other = ne-eqb _ UNDERSCORE (λ e. c .if2 .left (byte ∙ e)) in

@@ -24,27 +24,34 @@ is-one-of-requires c κs = search needs
 
 prefixed-requires : tie.Need-prefixed-requires
 prefixed-requires c κs =
-    let start = c .before .before .before .before .before .before in
+    let before = c .before .before .before .before .before .before in
+    let run-end = c .before .before .before .before .run-end in
+    let start = before in
     let s = start .args .s .now in
-    let run = c .before .before .before .before .run-end .ensures in
+    let run = run-end .ensures in
     let mark = ap (λ (x : ℕ). member x (bytes "\"'#")) (sym (c .before .before .before .byte-at .ensures))
     ∙ sym (c .before .is-one-of .ensures) ∙ c .if1 .taken in
-    let last = mark-stands s (c .before .before .before .before .run-end .result) mark in
+    let last = mark-stands s (run-end .result) mark in
     (name-forth (start .pre) run, last)
 
 returns : tie.Need-returns
 returns c =
-    let args = c .before .before .before .before .before .before .before .args in
-    let mark = ap (λ (x : ℕ). member x (bytes "\"'#")) (sym (c .before .before .before .before .byte-at .ensures))
+    let args-2 = c .before .before .before .before .before .before .before .args in
+    let run-end = c .before .before .before .before .before .run-end in
+    let byte-at = c .before .before .before .before .byte-at in
+    let args = args-2 in
+    let mark = ap (λ (x : ℕ). member x (bytes "\"'#")) (sym (byte-at .ensures))
     ∙ sym (c .before .before .is-one-of .ensures) ∙ c .before .if1 .taken in
-    let whole = word-at (args .s .now) (args .i) (c .before .before .before .before .before .run-end .ensures) in
+    let whole = word-at (args .s .now) (args .i) (run-end .ensures) in
     piece-as (whole ∙ chosen _ _ _ mark) (c .prefixed .ensures)
 
 returns-2 : tie.Need-returns-2
 returns-2 c =
-    let start = c .before .before .before .before .before .before in
+    let before = c .before .before .before .before .before .before in
+    let run-end = c .before .before .before .before .run-end in
+    let start = before in
     let s = start .args .s .now in
-    let run = c .before .before .before .before .run-end .ensures in
+    let run = run-end .ensures in
     let mark = ap (λ (x : ℕ). member x (bytes "\"'#")) (sym (c .before .before .before .byte-at .ensures))
     ∙ sym (c .before .is-one-of .ensures) ∙ c .if1 .left in
     row (record {

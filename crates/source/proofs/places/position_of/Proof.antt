@@ -32,7 +32,9 @@ loop-less : tie.Need-loop-less Inv-loop μ-loop
 loop-less c = omega arith
 
 loop-again : tie.Need-loop-again Inv-loop μ-loop
-loop-again c = let d = c .before .before .before .before in positioned-line (d .loop .inv) (omega arith) (omega arith) (c .if2 .taken)
+loop-again c =
+    let d = c .before .before .before .before in
+    positioned-line (d .loop .inv) (omega arith) (omega arith) (c .if2 .taken)
 
 add-column : tie.Need-add-column Inv-loop μ-loop
 add-column c = let d = c .before .before .before .before in omega (arith, d .loop .inv .low .1)
@@ -41,7 +43,9 @@ loop-less-2 : tie.Need-loop-less-2 Inv-loop μ-loop
 loop-less-2 c = omega arith
 
 loop-again-2 : tie.Need-loop-again-2 Inv-loop μ-loop
-loop-again-2 c = let d = c .before .before .before .before in positioned-on (d .loop .inv) (omega arith) (omega arith) (c .if2 .left)
+loop-again-2 c =
+    let d = c .before .before .before .before in
+    positioned-on (d .loop .inv) (omega arith) (omega arith) (c .if2 .left)
 
 returns-2 : tie.Need-returns-2 Inv-loop μ-loop
 returns-2 c = let h = c .before .loop .inv in positioned-done h refl refl (none-left h (omega arith))

@@ -28,27 +28,33 @@ row-count-requires c κs = search needs
 
 place-in-requires : tie.Need-place-in-requires Inv-loop μ-loop
 place-in-requires c κs =
-    ((c .before .before .before .before .before .before .args .s .now, _, omega arith, c .before .before .piece-at .ensures))
+    let args = c .before .before .before .before .before .before .args in
+    ((args .s .now, _, omega arith, c .before .before .piece-at .ensures))
 
 returns : tie.Need-returns Inv-loop μ-loop
 returns c =
-    let d = c .before .before .before .before .before in
-    let few : d .loop .left < rowCount (c .before .before .before .piece-at .result) =
+    let before = c .before .before .before .before .before in
+    let piece-at = c .before .before .before .piece-at in
+    let d = before in
+    let few : d .loop .left < rowCount (piece-at .result) =
     omega (arith, c .before .if1 .taken, c .before .before .row-count .ensures) in
-    c .place-in .ensures few ∙ counted-here (d .loop .inv) (omega arith) (c .before .before .before .piece-at .ensures) few
+    c .place-in .ensures few ∙ counted-here (d .loop .inv) (omega arith) (piece-at .ensures) few
 
 piece-end-requires : tie.Need-piece-end-requires Inv-loop μ-loop
 piece-end-requires c κs = search needs
 
 loop-less : tie.Need-loop-less Inv-loop μ-loop
 loop-less c =
-    let forth = piece-forth (omega arith) (c .before .before .before .piece-at .ensures) in
-    omega (arith, forth, piece-within (c .before .before .before .piece-at .ensures), c .piece-end .ensures)
+    let piece-at = c .before .before .before .piece-at in
+    let forth = piece-forth (omega arith) (piece-at .ensures) in
+    omega (arith, forth, piece-within (piece-at .ensures), c .piece-end .ensures)
 
 loop-again : tie.Need-loop-again Inv-loop μ-loop
 loop-again c =
-    let d = c .before .before .before .before .before in
-    let s = c .before .before .before .before .before .before .before .args .s .now in
+    let args = c .before .before .before .before .before .before .before .args in
+    let before = c .before .before .before .before .before in
+    let d = before in
+    let s = args .s .now in
     let stands = c .before .before .before .piece-at .ensures in
     let rows = c .before .before .row-count .ensures in
     let end = c .piece-end .ensures in

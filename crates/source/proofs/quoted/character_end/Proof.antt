@@ -23,7 +23,8 @@ byte-at-requires c κs = search needs
 
 returns : tie.Need-returns
 returns c =
-    let d = c .before .before .before .before .before in
+    let before = c .before .before .before .before .before in
+    let d = before in
     let args = d .before .before .args in
     let u = ends-to (rw (c .before .before .before .e .given .1) at (d .unit-end .ensures)) in
     let e = character-at (args .byte) (args .s .now) (args .i) u (c .before .byte-at .ensures) in
@@ -31,7 +32,8 @@ returns c =
 
 add-end : tie.Need-add-end
 add-end c =
-    let args = c .before .before .before .before .before .before .before .args in
+    let args-2 = c .before .before .before .before .before .before .before .args in
+    let args = args-2 in
     let h = stands (args .s .now) (c .before .before .before .e .given .0 .0) (λ z. omega arith) in
     omega arith
 
@@ -44,11 +46,13 @@ returns-2 c =
 
 returns-3 : tie.Need-returns-3
 returns-3 c =
-    let d = c .before .before .before .before .before in
+    let before = c .before .before .before .before .before in
+    let e-2 = c .before .before .before .e in
+    let d = before in
     let args = d .before .before .args in
-    let u = ends-to (rw (c .before .before .before .e .given .1) at (d .unit-end .ensures)) in
+    let u = ends-to (rw (e-2 .given .1) at (d .unit-end .ensures)) in
     let e = character-at (args .byte) (args .s .now) (args .i) u (c .before .byte-at .ensures) in
-    let h = stands (args .s .now) (c .before .before .before .e .given .0 .0) (λ z. omega arith) in
+    let h = stands (args .s .now) (e-2 .given .0 .0) (λ z. omega arith) in
     ends (record {
       taken = e ∙ chosen _ _ _ (eq-eqb _ _ (c .if1 .left));
       forth = omega (arith, u .forth);

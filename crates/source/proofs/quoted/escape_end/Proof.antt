@@ -47,7 +47,8 @@ hex-escape-end-requires c κs = search needs
 
 returns-3 : tie.Need-returns-3
 returns-3 c =
-    let d = c .before .before .before .before .before .before in
+    let before = c .before .before .before .before .before .before in
+    let d = before in
     let args = d .before .before .args in
     let e = escape-at (args .byte) (args .s .now) (args .i) (d .byte-at .ensures) in
     let q = sym (c .before .before .before .is-one-of .ensures) ∙ c .before .before .if2 .left in

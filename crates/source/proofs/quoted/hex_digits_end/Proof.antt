@@ -43,7 +43,8 @@ is-scalar-requires c κs = search needs
 
 returns-2 : tie.Need-returns-2 Inv-loop μ-loop
 returns-2 c =
-    let d = c .before .before .before .before .before .before in
+    let before = c .before .before .before .before .before .before in
+    let d = before in
     let l = d .loop in
     let s = d .before .before .args .s .now in
     let e = digits-close (l .count) (l .v) s (l .i) (omega arith) (c .before .before .before .if1 .taken) in
@@ -53,7 +54,8 @@ returns-2 c =
 
 returns-3 : tie.Need-returns-3 Inv-loop μ-loop
 returns-3 c =
-    let d = c .before .before .before .before .before .before in
+    let before = c .before .before .before .before .before .before in
+    let d = before in
     let l = d .loop in
     let s = d .before .before .args .s .now in
     let e = digits-close (l .count) (l .v) s (l .i) (omega arith) (c .before .before .before .if1 .taken) in
@@ -63,7 +65,8 @@ returns-3 c =
 
 returns-4 : tie.Need-returns-4 Inv-loop μ-loop
 returns-4 c =
-    let d = c .before .before .before .before .before in
+    let before = c .before .before .before .before .before in
+    let d = before in
     let l = d .loop in
     let s = d .before .before .args .s .now in
     let e = digits-no-gap (l .count) (l .v) s (l .i) (omega arith) (c .before .if4 .taken) (c .if5 .taken) in
@@ -74,7 +77,8 @@ loop-less c = omega arith
 
 loop-again : tie.Need-loop-again Inv-loop μ-loop
 loop-again c =
-    let d = c .before .before .before .before .before in
+    let before = c .before .before .before .before .before in
+    let d = before in
     let l = d .loop in
     let s = d .before .before .args .s .now in
     let e = digits-gap (l .count) (l .v) s (l .i) (omega arith) (c .before .if4 .taken) (omega arith) in
@@ -109,12 +113,14 @@ returns-6 c =
 
 mul-shifted : tie.Need-mul-shifted Inv-loop μ-loop
 mul-shifted c =
-    let l = c .before .before .before .before .before .before .before .loop in
+    let loop = c .before .before .before .before .before .before .before .loop in
+    let l = loop in
     omega (arith, worth-bound (l .count) (l .v) (c .if7 .left) (l .inv .1))
 
 add-v : tie.Need-add-v Inv-loop μ-loop
 add-v c =
-    let l = c .before .before .before .before .before .before .before .loop in
+    let loop = c .before .before .before .before .before .before .before .loop in
+    let l = loop in
     omega (arith, worth-bound (l .count) (l .v) (c .if7 .left) (l .inv .1))
 
 add-count : tie.Need-add-count Inv-loop μ-loop

@@ -51,7 +51,8 @@ digit-worth-requires-2 c κs = search needs
 
 returns-3 : tie.Need-returns-3
 returns-3 c =
-    let d = c .before .before .before .before .before in
+    let before = c .before .before .before .before .before in
+    let d = before in
     let args = d .before .before .before .args in
     let p = d .digit-worth .ensures .0 ∙ ap digitWorth (d .before .byte-at .ensures) in
     let q = c .before .digit-worth2 .ensures .0 ∙ ap digitWorth (c .before .before .byte-at2 .ensures) in
@@ -60,14 +61,16 @@ returns-3 c =
 
 add-end : tie.Need-add-end
 add-end c =
-    let args = c .before .before .before .before .before .before .before .before .args in
+    let args-2 = c .before .before .before .before .before .before .before .before .args in
+    let args = args-2 in
     let q = c .before .digit-worth2 .ensures .0 ∙ ap digitWorth (c .before .before .byte-at2 .ensures) in
     let h = digit-there (args .s .now) (args .i + 1) (omega (arith, q)) in
     omega arith
 
 returns-4 : tie.Need-returns-4
 returns-4 c =
-    let d = c .before .before .before .before .before in
+    let before = c .before .before .before .before .before in
+    let d = before in
     let args = d .before .before .before .args in
     let p = d .digit-worth .ensures .0 ∙ ap digitWorth (d .before .byte-at .ensures) in
     let q = c .before .digit-worth2 .ensures .0 ∙ ap digitWorth (c .before .before .byte-at2 .ensures) in

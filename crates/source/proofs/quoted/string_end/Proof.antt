@@ -42,7 +42,8 @@ enum-told c = search needs
 
 returns-2 : tie.Need-returns-2 Inv-loop μ-loop
 returns-2 c =
-    let d = c .before .before .before .before .before .before in
+    let before = c .before .before .before .before .before .before in
+    let d = before in
     let args = d .before .before .args in
     let u = ends-not (rw (c .enum-told .given .1) at (c .before .before .unit-end .ensures)) in
     let q = c .before .before .before .if1 .left in
@@ -59,10 +60,12 @@ loop-less c =
 
 loop-again : tie.Need-loop-again Inv-loop μ-loop
 loop-again c =
-    let d = c .before .before .before .before .before .before .before in
+    let before = c .before .before .before .before .before .before .before in
+    let if1 = c .before .before .before .before .if1 in
+    let d = before in
     let args = d .before .before .args in
     let u = ends-to (rw (c .before .e .given .1) at (c .before .before .before .unit-end .ensures)) in
-    let q = c .before .before .before .before .if1 .left in
+    let q = if1 .left in
     let e = string-on (args .byte) (args .s .now) (d .loop .i) (omega arith) q u in
     passed-on (c .before .e .given .0 .0 - d .loop .i) (omega (arith, u .forth)) e (d .loop .inv)
 

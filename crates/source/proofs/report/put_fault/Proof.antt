@@ -36,7 +36,8 @@ returns c =
     let n = b .before .before .before .before in
     let t = n .before .before .before .before in
     let start = t .before .before .before .before .before in
-    let few = fault-few (start .args .s .now) (start .args .offset) (omega (arith, start .good)) (omega (arith, start .good)) in
+    let few = fault-few (start .args .s .now) (start .args .offset) (omega (arith, start .good)) (omega
+    (arith, start .good)) in
     let text = joined (t .put-bytes .ensures)
     (joined (n .put-number .ensures)
     (joined (b .put-byte .ensures) (joined (p .put-position .ensures) (e .put-byte2 .ensures)))) in

@@ -25,10 +25,14 @@ same-length c = search needs
 returns : tie.Need-returns
 unfolding positionText
 returns c =
+    let position-of = c .before .before .before .before .before .before .before .before .before .before .before
+    .before .position-of in
+    let before = c .before .before .before .before .before .before .before .before .before .before in
+    let before-2 = c .before .before .before .before .before .before in
     let column = c .before .before in
-    let colon = c .before .before .before .before .before .before in
-    let line = c .before .before .before .before .before .before .before .before .before .before in
-    let position = c .before .before .before .before .before .before .before .before .before .before .before .before .position-of .ensures in
+    let colon = before-2 in
+    let line = before in
+    let position = position-of .ensures in
     let text = joined (line .put-number .ensures) (joined (colon .put-byte .ensures) (column .put-number2 .ensures)) in
     retold (λ j. decimal (position .line j) ++ COLON ∷ decimal (position .column j)) text
 

@@ -29,7 +29,8 @@ same-length c = search needs
 
 returns-2 : tie.Need-returns-2
 returns-2 c =
-    let same = c .before .before .before .before .before .answer2 .given .1 in
+    let answer2 = c .before .before .before .before .before .answer2 in
+    let same = answer2 .given .1 in
     let put = c .before .before .put-fault .ensures in
     (λ before a w. fault-printed _ (rw same at w) (put .0), rw same (put .1))
 
@@ -38,7 +39,8 @@ same-length-2 c = search needs
 
 returns-3 : tie.Need-returns-3
 returns-3 c =
-    let same = c .before .before .before .before .before .answer3 .given .1 in
+    let answer3 = c .before .before .before .before .before .answer3 in
+    let same = answer3 .given .1 in
     let put = c .before .before .put-refusal .ensures in
     (λ before a w. refusal-printed _ (rw same at w) (put .0), rw same (put .1))
 

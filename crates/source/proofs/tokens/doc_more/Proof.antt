@@ -28,7 +28,8 @@ row-more-requires-6 c κs = search needs
 
 returns : tie.Need-returns
 returns c t e =
-    let literal = c .before .before .before .before .before .before .args .literal in
+    let args = c .before .before .before .before .before .before .args in
+    let literal = args .literal in
     let n : literal ≡ suc (length (t ++ DOUBLE-QUOTE ∷ [])) = omega (arith, length-append t (DOUBLE-QUOTE ∷ [])) in
     cc
 

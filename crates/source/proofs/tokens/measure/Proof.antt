@@ -28,21 +28,27 @@ piece-at-requires : tie.Need-piece-at-requires Inv-loop μ-loop
 piece-at-requires c κs = omega arith
 
 piece-more-requires : tie.Need-piece-more-requires Inv-loop μ-loop
-piece-more-requires c κs = (c .before .before .before .before .args .s .now, _, c .piece-at .ensures)
+piece-more-requires c κs =
+    let args = c .before .before .before .before .args in
+    (args .s .now, _, c .piece-at .ensures)
 
 piece-end-requires : tie.Need-piece-end-requires Inv-loop μ-loop
 piece-end-requires c κs = search needs
 
 loop-less : tie.Need-loop-less Inv-loop μ-loop
 loop-less c =
-    let s = c .before .before .before .before .before .before .args .s .now in
-    let here : c .before .before .before .before .loop .i < length s = omega arith in
+    let args = c .before .before .before .before .before .before .args in
+    let loop = c .before .before .before .before .loop in
+    let s = args .s .now in
+    let here : loop .i < length s = omega arith in
     omega (arith, piece-forth here (c .before .before .piece-at .ensures), c .piece-end .ensures)
 
 loop-again : tie.Need-loop-again Inv-loop μ-loop
 loop-again c =
-    let loop = c .before .before .before .before .loop in
-    let s = c .before .before .before .before .before .before .args .s .now in
+    let args = c .before .before .before .before .before .before .args in
+    let loop-2 = c .before .before .before .before .loop in
+    let loop = loop-2 in
+    let s = args .s .now in
     let here : loop .i < length s = omega arith in
     let piece = c .before .before .piece-at .ensures in
     let more = c .before .piece-more .ensures s _ piece in (

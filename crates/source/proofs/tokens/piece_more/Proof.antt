@@ -76,14 +76,16 @@ returns c s t h = rw (c .enum-told .given .1)
 
 returns-2 : tie.Need-returns-2
 returns-2 c s t h =
-    let args = c .before .before .before .before .args in
+    let args-2 = c .before .before .before .before .args in
+    let args = args-2 in
     let piece = c .before .before .p .given in
     let text = row-bytes (rw (piece .1) at h) in
     rw (piece .1) (c .row-more .ensures ∙ ap (rowMore (args .measured) (piece .0 .0)) (sym text))
 
 returns-3 : tie.Need-returns-3
 returns-3 c s t h =
-    let args = c .before .before .before .before .before .args in
+    let args-2 = c .before .before .before .before .before .args in
+    let args = args-2 in
     let piece = c .before .before .before .p2 .given in
     let name = sym (name-bytes (rw (piece .1) at h)) in
     let quote = c .before .row-more2 .ensures in
@@ -91,7 +93,8 @@ returns-3 c s t h =
 
 returns-4 : tie.Need-returns-4
 returns-4 c s t h =
-    let args = c .before .before .before .before .args in
+    let args-2 = c .before .before .before .before .args in
+    let args = args-2 in
     let piece = c .before .before .p3 .given in
     let text = slice (args .i + 3) (piece .0 .0) s in
     rw (piece .1) (c .doc-more .ensures text (doc-bytes (rw (piece .1) at h)))

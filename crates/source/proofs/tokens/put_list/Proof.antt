@@ -29,7 +29,8 @@ put-names-requires c κs = search needs
 
 loop-holds : tie.Need-loop-holds Inv-loop μ-loop
 loop-holds c =
-    let s = c .before .before .before .before .before .before .args .s .now in
+    let args = c .before .before .before .before .before .before .args in
+    let s = args .s .now in
     let names = c .before .before .put-names .ensures in (
       omega arith,
       [],
@@ -48,19 +49,23 @@ piece-end-requires c κs = search needs
 
 loop-less : tie.Need-loop-less Inv-loop μ-loop
 loop-less c =
-    let at-loop = c .before .before .before .before .before .before .before in
+    let before = c .before .before .before .before .before .before .before in
+    let piece-at = c .before .before .before .before .before .piece-at in
+    let at-loop = before in
     let s = at-loop .before .before .before .before .before .before .before .args .s .now in
     let here : at-loop .loop .i < length s = omega arith in
-    let piece = c .before .before .before .before .before .piece-at .ensures in
+    let piece = piece-at .ensures in
     omega (arith, piece-forth here piece, c .piece-end .ensures)
 
 loop-again : tie.Need-loop-again Inv-loop μ-loop
 loop-again c =
-    let at-loop = c .before .before .before .before .before .before .before in
+    let before = c .before .before .before .before .before .before .before in
+    let piece-at = c .before .before .before .before .before .piece-at in
+    let at-loop = before in
     let loop = at-loop .loop in
     let s = at-loop .before .before .before .before .before .before .before .args .s .now in
     let here : loop .i < length s = omega arith in
-    let piece = c .before .before .before .before .before .piece-at .ensures in
+    let piece = piece-at .ensures in
     let done = loop .inv .1 in (
       omega (arith, piece-within piece, c .piece-end .ensures),
       done ++ _,
@@ -69,16 +74,20 @@ loop-again c =
     )
 
 same-length : tie.Need-same-length Inv-loop μ-loop
-same-length c = kept (joined (c .before .before .before .before .put-names .ensures) (c .before .loop .inv .2))
+same-length c =
+    let put-names = c .before .before .before .before .put-names in
+    kept (joined (put-names .ensures) (c .before .loop .inv .2))
 
 returns : tie.Need-returns Inv-loop μ-loop
 returns c =
+    let args = c .before .before .before .before .before .before .before .before .args in
+    let put-names = c .before .before .before .before .put-names in
     let loop = c .before .loop in
-    let s = c .before .before .before .before .before .before .before .before .args .s .now in
+    let s = args .s .now in
     let done = loop .inv .1 in
     let none = ap (λ (t : List Row). done ++ written false t) (rows-none s (loop .i) (omega arith)) in
     let whole = sym (append-nil done) ∙ sym none ∙ loop .inv .3 in
-    joined (c .before .before .before .before .put-names .ensures) (retold whole (loop .inv .2))
+    joined (put-names .ensures) (retold whole (loop .inv .2))
 
 pub put-list-spec : {M : Type 1} → statement M
 put-list-spec =

@@ -22,21 +22,24 @@ enum-known-p c = search needs
 
 sub-put-row : tie.Need-sub-put-row
 sub-put-row c =
-    let start = c .before .before .before .before .before .before in
+    let before = c .before .before .before .before .before .before in
+    let start = before in
     let piece = c .before .before .p .given in
     let here = rw (piece .1) at (start .pre .1) in
     omega (arith, row-to here .forth, row-to here .within)
 
 part-put-row-start : tie.Need-part-put-row-start
 part-put-row-start c =
-    let start = c .before .before .before .before .before .before in
+    let before = c .before .before .before .before .before .before in
+    let start = before in
     let piece = c .before .before .p .given in
     let here = rw (piece .1) at (start .pre .1) in
     omega (arith, row-to here .forth, row-to here .within)
 
 part-put-row-end : tie.Need-part-put-row-end
 part-put-row-end c =
-    let start = c .before .before .before .before .before .before in
+    let before = c .before .before .before .before .before .before in
+    let start = before in
     let piece = c .before .before .p .given in
     let here = rw (piece .1) at (start .pre .1) in
     omega (arith, row-to here .forth, row-to here .within)
@@ -49,7 +52,8 @@ enum-known-p-2 c = search needs
 
 add-start : tie.Need-add-start
 add-start c =
-    let start = c .before .before .before .before .before in
+    let before = c .before .before .before .before .before in
+    let start = before in
     let piece = c .before .p2 .given in
     let here = rw (piece .1) at (start .pre .1) in
     omega (arith, lifetime-to here .forth, lifetime-to here .within)
@@ -62,22 +66,28 @@ put-row-requires-2 c κs = search needs
 
 sub-put-row-2 : tie.Need-sub-put-row-2
 sub-put-row-2 c =
-    let start = c .before .before .before .before .before .before .before .before .before .before .before in
-    let piece = c .before .before .before .before .before .before .before .p2 .given in
+    let before = c .before .before .before .before .before .before .before .before .before .before .before in
+    let p2 = c .before .before .before .before .before .before .before .p2 in
+    let start = before in
+    let piece = p2 .given in
     let here = rw (piece .1) at (start .pre .1) in
     omega (arith, lifetime-to here .forth, lifetime-to here .within)
 
 part-put-row-start-2 : tie.Need-part-put-row-start-2
 part-put-row-start-2 c =
-    let start = c .before .before .before .before .before .before .before .before .before .before .before in
-    let piece = c .before .before .before .before .before .before .before .p2 .given in
+    let before = c .before .before .before .before .before .before .before .before .before .before .before in
+    let p2 = c .before .before .before .before .before .before .before .p2 in
+    let start = before in
+    let piece = p2 .given in
     let here = rw (piece .1) at (start .pre .1) in
     omega (arith, lifetime-to here .forth, lifetime-to here .within)
 
 part-put-row-end-2 : tie.Need-part-put-row-end-2
 part-put-row-end-2 c =
-    let start = c .before .before .before .before .before .before .before .before .before .before .before in
-    let piece = c .before .before .before .before .before .before .before .p2 .given in
+    let before = c .before .before .before .before .before .before .before .before .before .before .before in
+    let p2 = c .before .before .before .before .before .before .before .p2 in
+    let start = before in
+    let piece = p2 .given in
     let here = rw (piece .1) at (start .pre .1) in
     omega (arith, lifetime-to here .forth, lifetime-to here .within)
 
@@ -89,28 +99,32 @@ enum-known-p-3 c = search needs
 
 add-start-2 : tie.Need-add-start-2
 add-start-2 c =
-    let start = c .before .before .before .before .before in
+    let before = c .before .before .before .before .before in
+    let start = before in
     let piece = c .before .p3 .given in
     let here = rw (piece .1) at (start .pre .1) in
     omega (arith, doc-long here, doc-to here .within)
 
 sub-put-doc : tie.Need-sub-put-doc
 sub-put-doc c =
-    let start = c .before .before .before .before .before .before in
+    let before = c .before .before .before .before .before .before in
+    let start = before in
     let piece = c .before .before .p3 .given in
     let here = rw (piece .1) at (start .pre .1) in
     omega (arith, doc-long here, doc-to here .within)
 
 part-put-doc-start : tie.Need-part-put-doc-start
 part-put-doc-start c =
-    let start = c .before .before .before .before .before .before in
+    let before = c .before .before .before .before .before .before in
+    let start = before in
     let piece = c .before .before .p3 .given in
     let here = rw (piece .1) at (start .pre .1) in
     omega (arith, doc-long here, doc-to here .within)
 
 part-put-doc-end : tie.Need-part-put-doc-end
 part-put-doc-end c =
-    let start = c .before .before .before .before .before .before in
+    let before = c .before .before .before .before .before .before in
+    let start = before in
     let piece = c .before .before .p3 .given in
     let here = rw (piece .1) at (start .pre .1) in
     omega (arith, doc-long here, doc-to here .within)
@@ -122,15 +136,19 @@ enum-told-2 : tie.Need-enum-told-2
 enum-told-2 c = search needs
 
 returns : tie.Need-returns
-returns c = rw (c .enum-told .given .1) (nothing _ _ (omega (arith, c .before .before .before .before .good)))
+returns c =
+    let good = c .before .before .before .before .good in
+    rw (c .enum-told .given .1) (nothing _ _ (omega (arith, good)))
 
 same-length : tie.Need-same-length
 same-length c = search needs
 
 returns-2 : tie.Need-returns-2
 returns-2 c =
-    let args = c .before .before .before .before .before .before .before .before .before .before .args in
-    let piece = c .before .before .before .before .before .before .p .given in
+    let args-2 = c .before .before .before .before .before .before .before .before .before .before .args in
+    let p = c .before .before .before .before .before .before .p in
+    let args = args-2 in
+    let piece = p .given in
     let text = drop-of-take (args .i) (piece .0 .1 .0) (args .s .now) in
     rw (piece .1)
     (put-as (ap (λ (t : List ℕ). written false (rowAt (piece .0 .0) 0 t .row ∷ [])) text)
@@ -141,7 +159,8 @@ same-length-2 c = search needs
 
 returns-3 : tie.Need-returns-3
 returns-3 c =
-    let quote = c .before .before .before .before .before .before .before in
+    let before = c .before .before .before .before .before .before .before in
+    let quote = before in
     let piece = quote .before .before .before .before .p2 .given in
     let args = quote .before .before .before .before .before .before .before .before .args in
     let text = drop-of-take (args .i + 1) (piece .0 .0) (args .s .now) in
@@ -154,14 +173,18 @@ same-length-3 c = search needs
 
 returns-4 : tie.Need-returns-4
 returns-4 c =
-    let args = c .before .before .before .before .before .before .before .before .before .before .args in
-    let piece = c .before .before .before .before .before .before .p3 .given in
+    let args-2 = c .before .before .before .before .before .before .before .before .before .before .args in
+    let p3 = c .before .before .before .before .before .before .p3 in
+    let args = args-2 in
+    let piece = p3 .given in
     let text = drop-of-take (args .i + 3) (piece .0 .0) (args .s .now) in
     rw (piece .1)
     (put-as (ap (λ (t : List ℕ). written false (docLineRows t)) text) (c .before .before .put-doc .ensures))
 
 returns-5 : tie.Need-returns-5
-returns-5 c = rw (c .enum-told2 .given .1) (nothing _ _ (omega (arith, c .before .before .before .before .good)))
+returns-5 c =
+    let good = c .before .before .before .before .good in
+    rw (c .enum-told2 .given .1) (nothing _ _ (omega (arith, good)))
 
 pub put-piece-spec : {M : Type 1} → statement M
 put-piece-spec =

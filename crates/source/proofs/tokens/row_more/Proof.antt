@@ -17,20 +17,24 @@ enum-known-measured c = search needs
 
 returns : tie.Need-returns
 returns c =
+    let args-2 = c .before .before .before .before .args in
     let measured = c .before .before .measured .given in
-    let args = c .before .before .before .before .args in
+    let args = args-2 in
     rw (measured .1) (sym (more-long (measured .0 .0) (args .kind) (args .text) (c .if1 .taken)))
 
 returns-2 : tie.Need-returns-2
 returns-2 c =
+    let args-2 = c .before .before .before .before .before .args in
     let measured = c .before .before .before .measured .given in
-    let args = c .before .before .before .before .before .args in
+    let args = args-2 in
     rw (measured .1) (sym (more-rows (measured .0 .0) (args .kind) (args .text) (c .if2 .taken)))
 
 returns-3 : tie.Need-returns-3
 returns-3 c =
-    let measured = c .before .before .before .before .measured .given in
-    let args = c .before .before .before .before .before .before .args in
+    let args-2 = c .before .before .before .before .before .before .args in
+    let measured-2 = c .before .before .before .before .measured in
+    let measured = measured-2 .given in
+    let args = args-2 in
     rw (measured .1) (sym (more-bytes (measured .0 .0) (args .kind) (args .text) (omega arith)))
 
 add-bytes : tie.Need-add-bytes
@@ -41,14 +45,18 @@ add-bytes-2 c = search needs
 
 returns-4 : tie.Need-returns-4
 returns-4 c =
-    let measured = c .before .before .before .before .before .measured .given in
-    let args = c .before .before .before .before .before .before .before .args in
+    let args-2 = c .before .before .before .before .before .before .before .args in
+    let measured-2 = c .before .before .before .before .before .measured in
+    let measured = measured-2 .given in
+    let args = args-2 in
     rw (measured .1) (sym (more-bytes (measured .0 .0) (args .kind) (args .text) (c .if4 .taken)))
 
 returns-5 : tie.Need-returns-5
 returns-5 c =
-    let measured = c .before .before .before .before .before .before .before .measured .given in
-    let args = c .before .before .before .before .before .before .before .before .before .args in
+    let args-2 = c .before .before .before .before .before .before .before .before .before .args in
+    let measured-2 = c .before .before .before .before .before .before .before .measured in
+    let measured = measured-2 .given in
+    let args = args-2 in
     let opens = c .before .if5 .taken in
     rw (measured .1) (sym (more-deep (measured .0 .0) (args .kind) (args .text) opens (c .if6 .taken)))
 

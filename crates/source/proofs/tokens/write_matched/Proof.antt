@@ -17,9 +17,11 @@ enum-known-size c = search needs
 
 returns : tie.Need-returns
 returns c =
-    let args = c .before .before .before .before .before .before .before .args in
+    let args-2 = c .before .before .before .before .before .before .before .args in
+    let measure = c .before .before .before .before .measure in
+    let args = args-2 in
     let size = c .before .before .size .given in
-    let measured = sym (size .1) ∙ c .before .before .before .before .measure .ensures in
+    let measured = sym (size .1) ∙ measure .ensures in
     tokens-long (args .out .now) (rowsOf (lex (args .s .now))) (size .0 .0) measured (c .if1 .taken)
 
 put-list-requires : tie.Need-put-list-requires
@@ -27,7 +29,8 @@ put-list-requires c κs = search needs
 
 returns-2 : tie.Need-returns-2
 returns-2 c =
-    let args = c .before .before .before .before .before .args in
+    let args-2 = c .before .before .before .before .before .args in
+    let args = args-2 in
     let measured = sym (c .enum-told .given .1) ∙ c .before .before .measure .ensures in
     tokens-over (args .out .now) (rowsOf (lex (args .s .now))) measured
 

@@ -23,8 +23,10 @@ write-matched-requires c κs = search needs
 
 returns : tie.Need-returns
 returns c =
-    let args = c .before .before .before .before .before .before .before .before .before .args in
-    let match = c .before .before .before .before .match-brackets .ensures in
+    let args-2 = c .before .before .before .before .before .before .before .before .before .args in
+    let match-brackets = c .before .before .before .before .match-brackets in
+    let args = args-2 in
+    let match = match-brackets .ensures in
     tokens-fault (args .out .now) (args .s .now) (c .before .i .given .1) match
 
 same-length : tie.Need-same-length
