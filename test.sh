@@ -24,6 +24,9 @@ for program in rows roles listing explain; do
     cmp examples/valve.tokens crates/$program/stdin
 done
 sed -n '/^    part name number$/,/^$/s/^    //p' README.md | cmp - examples/controller.listing
+sed -n '/^    \/\/ The valves/,/^    }$/s/^    //p' README.md | cmp - examples/controller.rs
+cmp examples/controller.rs crates/tokens/stdin
+cmp examples/controller.tokens crates/tokens/stdout
 cmp examples/tagged.tokens crates/tagged/stdin
 for program in impl_generics type_generics; do
     cmp examples/generics.tokens crates/$program/stdin
@@ -131,6 +134,27 @@ for text in 31 031 3_1_ 0x1F 0x_1f_u8 0o37 0b1_1111i8 31usize; do
     printf '%s\n' 'kind text' 'i enum' 'i E' 'o {' 'i A' 'p =' "l $text" 'p ,' 'i B' 'c }' >target/bindings/list
     target/bin/listing <target/bindings/list | tail -n 2 | cmp - <(printf 'variant A 31\nvariant B 32\n')
 done
+
+# Source texts: from a file to its listing; 40 with offset, line and column; a text that is too long is told, and not cut.
+rt check tokens >/dev/null
+target/bin/tokens <examples/controller.rs | target/bin/listing | cmp - examples/controller.listing
+target/bin/tokens <examples/refused.rs | cmp - <(sed -n '/^    40 28 2:12$/s/^    //p' README.md | sed '1i refused place')
+unlexed() { # PLACE TEXT: the text, with escapes as printf has them, is refused so
+    printf "$2" | target/bin/tokens | cmp - <(printf 'refused place\n%s\n' "$1")
+}
+unlexed '40 0 1:1' "'ab'"
+unlexed '40 0 1:1' 'r"a"'
+unlexed '40 0 1:1' '\xef\xbb\xbfstruct A;'
+unlexed '40 5 3:3' '/\n\n  k#x'
+unlexed '40 2 1:3' '([)'
+unlexed '40 2 1:3' 'a (b'
+unlexed '40 5 2:2' '"a"\n `'
+unlexed '41 -' "$(printf '(%.0s' $(seq 33))$(printf ')%.0s' $(seq 33))"
+unlexed '40 66 1:67' "$(printf '(%.0s' $(seq 33))$(printf ')%.0s' $(seq 33))]"
+printf "1..2 'a /// b" | target/bin/tokens | cmp - <(printf '%s\n' 'kind text' 'l 1' 'p .' 'p .' 'l 2' "p '" 'i a' 'p #' 'o [' 'i doc' 'p =' 'l " b"' 'c ]')
+head -c 1048576 /dev/zero | tr '\0' ' ' | target/bin/tokens | cmp - <(echo 'kind text')
+head -c 1048577 /dev/zero | tr '\0' ' ' | target/bin/tokens 2>target/bindings/tokens.err | cmp - /dev/null
+grep -q 'more than 1048576 bytes' target/bindings/tokens.err
 
 # Joint marks: rows are shown with them, README's list is read, wrong ones are refused with 3, third lines of names with 2.
 target/bin/explain <examples/marked.tokens | cmp - examples/marked.explain
