@@ -57,7 +57,7 @@ done | cmp - <(sed -n 's/^| \([0-9]*\) |.*/\1/p' README.md)
 rt check explain >/dev/null
 sed -n '/^MEANINGS =/,/^$/s/^ *bytes "\(.*\)".*/\1/p' crates/explanation/specs/Words.antt | tr -d '\n' | sed 's/\\n/\n/g' |
     awk 'length { print NR - 1, $0 }' >target/bindings/meanings
-sed -n 's/^| \([0-9]*\) | \(`-`\|row\|4096\|place\) | \(.*\) |$/\1 \3/p' README.md | tr -d '`' | cmp - target/bindings/meanings
+sed -n 's/^| \([0-9]*\) | \(`-`\|row\|4096\|place\|offset\) | \(.*\) |$/\1 \3/p' README.md | tr -d '`' | cmp - target/bindings/meanings
 sed -n '/^    5 17$/,/^$/s/^    //p' README.md | tail -n 4 >target/bindings/shown
 target/bin/explain <examples/refused.tokens | tail -n +3 | cmp - target/bindings/shown
 refusal() { # NUMBER PLACE ROW..: the list of these rows is refused so, with its meaning, and its row is marked
@@ -194,6 +194,13 @@ if have rustc "newly made enums, against rustc"; then
     answers+=(target/oracle/enums.txt)
 fi
 
+# Newly made source texts, against the compiler's own lexer.
+if have rustc "newly made source texts, against rustc"; then
+    rm -f target/oracle/source.txt
+    oracle/source.sh 20000 | tee target/source.out
+    answers+=(target/oracle/source.txt)
+fi
+
 # The static library, called from C and from Rust.
 rt staticlib exports >/dev/null
 example() { # COMMAND FILE: the command prints FILE of the first example, and refuses the second
@@ -202,6 +209,14 @@ example() { # COMMAND FILE: the command prints FILE of the first example, and re
         return 1
     fi
     cmp target/bindings/refused.out bindings/refused.roles
+}
+tokens_example() { # COMMAND: it prints the list of one source text and the place of a row in it, and refuses another text
+    "$1" examples/controller.rs | cmp - examples/controller.tokens
+    "$1" examples/controller.rs 2 | cmp - <(echo '45 5')
+    if "$1" examples/refused.rs >target/bindings/refused.out; then
+        return 1
+    fi
+    cmp target/bindings/refused.out <(printf 'refused place\n40 28\n')
 }
 # Added names as a program's arguments: what is no name is refused, and never two names.
 rt check impl_generics type_generics >/dev/null
@@ -220,7 +235,7 @@ target/bin/impl_generics "'b" Drain <examples/marked.tokens | cmp - examples/mar
 target/bin/type_generics <examples/marked.tokens | cmp - examples/marked.type
 
 if have gcc "the C examples and the stack that a call needs"; then
-    for program in roles listing generics names stack; do
+    for program in roles listing generics names tokens stack; do
         gcc -std=c11 -Wall -Wextra -Werror -Iinclude -o target/bindings/$program bindings/c/$program.c target/staticlib/libexports.a
     done
     example target/bindings/roles bindings/valve.roles
@@ -231,6 +246,7 @@ if have gcc "the C examples and the stack that a call needs"; then
     target/bindings/listing examples/valve.tokens 2 | grep -qx 'value -2'
     target/bindings/generics examples/generics.tokens "'b" Drain | cmp - <(cat crates/{impl,type}_generics/stdout)
     target/bindings/generics examples/marked.tokens "'b" Drain | cmp - <(cat examples/marked.{impl,type})
+    tokens_example target/bindings/tokens
     compared() { target/bindings/names "$1" "$2" | grep -qx "$3, pairs looked at: $4"; } # NAME NAME ANSWER PAIRS
     compared valve_north_1 valve_north_1 equal 13
     compared valve_north_1 valve_north_2 'not equal' 1
@@ -254,6 +270,7 @@ if have cargo "the Rust wrapper"; then
     example target/cargo/release/examples/roles bindings/valve.roles
     target/cargo/release/examples/generics examples/generics.tokens "'b" Drain | cmp - <(cat crates/{impl,type}_generics/stdout)
     target/cargo/release/examples/generics examples/marked.tokens "'b" Drain | cmp - <(cat examples/marked.{impl,type})
+    tokens_example target/cargo/release/examples/tokens
     for file in "${answers[@]}"; do
         target/cargo/release/examples/compare "$file" 100000
     done

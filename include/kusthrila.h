@@ -12,15 +12,16 @@
  * An answer is one number. Below KUSTHRILA_REFUSED it is an acceptance. Else it is a refusal: its number is
  * kusthrila_number(answer), one of enum kusthrila_refusal, and its place kusthrila_place(answer), a row counted from 0 or
  * KUSTHRILA_END. Row n is line n + 2 of the list. README.md says where each refusal's place is, and which comes first. Only
- * kusthrila_same_name refuses nothing, and its number is told with it.
+ * kusthrila_same_name and kusthrila_row_place refuse nothing, and their numbers are told with them.
  *
  * Nothing is allocated and nothing global is kept: the library has no data but constants, and calls only memset and its like. So
  * calls from several threads are independent, as long as none writes a buffer that another uses.
  *
  * A call needs no more than KUSTHRILA_STACK bytes of stack, but kusthrila_listing up to KUSTHRILA_LISTING_STACK: it keeps
- * tables of all variants, to tell whether one is there twice. Measured on x86-64 were some 4,300 in kusthrila_check, 4,400
- * in kusthrila_tagged, 4,600 in kusthrila_read, 4,800 in the writers of generics, 8,900 in kusthrila_value and 74,500 in
- * kusthrila_listing; the rest is margin. bindings/c/stack.c measures it, and test.sh does so each time. */
+ * tables of all variants, to tell whether one is there twice; and kusthrila_tokens up to KUSTHRILA_TOKENS_STACK: it keeps the kinds
+ * of open brackets. Measured on x86-64 were some 4,300 in kusthrila_check, 4,400 in kusthrila_tagged, 4,600 in kusthrila_read, 4,800
+ * in the writers of generics, 8,900 in kusthrila_value, 16,800 in kusthrila_tokens and 74,500 in kusthrila_listing; the rest is
+ * margin. bindings/c/stack.c measures it, and test.sh does so each time. */
 #ifndef KUSTHRILA_H
 #define KUSTHRILA_H
 
@@ -51,11 +52,17 @@ extern "C" {
 #define KUSTHRILA_MOST_ADDED(lifetimes_len, types_len) \
     (KUSTHRILA_MOST_GENERICS + 18u * (size_t)(lifetimes_len) + 12u * (size_t)(types_len))
 
+/* No list that kusthrila_tokens writes is longer: the law `answer-few` in crates/source/proofs/Reports.antt. */
+#define KUSTHRILA_MOST_TOKENS 65536u
+
 /* A scratch must have as many bytes. */
 #define KUSTHRILA_SCRATCH 20u
 
-/* No call but kusthrila_listing needs more bytes of stack. */
+/* No call but kusthrila_listing and kusthrila_tokens needs more bytes of stack. */
 #define KUSTHRILA_STACK 16384u
+
+/* Nor does kusthrila_tokens need more than these. */
+#define KUSTHRILA_TOKENS_STACK 32768u
 
 /* Nor does kusthrila_listing need more than these. */
 #define KUSTHRILA_LISTING_STACK 98304u
@@ -94,7 +101,8 @@ enum kusthrila_tagged_role {
     KUSTHRILA_TAGGED_OTHER = 23  /* any other row */
 };
 
-/* The refusals. 9, 10, 32 to 41 and 44 to 49 are none. 42, 43, 50 and 51 are of kusthrila_listing alone. */
+/* The refusals. 9, 10, 32 to 39 and 44 to 49 are none. 40 and 41 are of kusthrila_tokens alone, 42, 43, 50 and 51 of
+ * kusthrila_listing. */
 enum kusthrila_refusal {
     KUSTHRILA_REFUSAL_TOO_LONG = 1,             /* more than 65,536 bytes */
     KUSTHRILA_REFUSAL_LINE_OF_NAMES = 2,        /* the first line is neither `kind text` nor `kind joint text` */
@@ -125,6 +133,8 @@ enum kusthrila_refusal {
     KUSTHRILA_REFUSAL_NO_ENTRY = 29,            /* tagged: neither a key nor a key and a value */
     KUSTHRILA_REFUSAL_ADDED_NAME = 30,          /* an added name is no name of at most 255 bytes, or has `r#` */
     KUSTHRILA_REFUSAL_NOT_ONE_GROUP = 31,       /* tagged: the list is not one group */
+    KUSTHRILA_REFUSAL_NO_TOKEN = 40,            /* source: no token begins at the offset, or a bracket does not match */
+    KUSTHRILA_REFUSAL_OVER_LIMIT = 41,          /* source: the list passes a limit of lists */
     KUSTHRILA_REFUSAL_NO_INTEGER = 42,          /* listing: a variant's value is no integer, or above the range of int64_t */
     KUSTHRILA_REFUSAL_NO_STEP = 43,             /* listing: a variant without value after the largest int64_t */
     KUSTHRILA_REFUSAL_NAME_TWICE = 50,          /* listing: the name of an earlier variant, `r#` aside */
@@ -181,6 +191,18 @@ uint64_t kusthrila_tagged(const uint8_t *list, size_t list_len, const uint8_t *p
 uint64_t kusthrila_same_name(const uint8_t *a, size_t a_len, const uint8_t *b, size_t b_len);
 static inline int kusthrila_names_equal(uint64_t answer) { return (int)(answer % 2u); }
 static inline uint64_t kusthrila_pairs(uint64_t answer) { return answer / 2u; }
+
+/* Reads Rust source text and writes its token list, with the names `kind text`, at the start of out: the list's length, with the
+ * bytes after it as they were; or a refusal, with all bytes as they were. 40, where the text is no tokens or a bracket does not
+ * match: the offset, counted in bytes from 0, is written to place, which no other answer changes. 41, where the list passes a limit:
+ * 65,536 bytes, 4,096 rows, 255 bytes of a row's text or 32 open groups. out must be long enough for the list, else refusal 8, which
+ * comes last; KUSTHRILA_MOST_TOKENS bytes always are. The place in the answer of a refusal is KUSTHRILA_END. */
+uint64_t kusthrila_tokens(const uint8_t *text, size_t text_len, uint8_t *out, size_t out_len, uint64_t *place);
+
+/* Where the text of a row of that list stands in the source text: the answer is its offset, and its length is written. A doc line's
+ * six rows have the whole line. Of a row that the list does not have, the answer is text_len, and the length 0. Nothing is
+ * refused. */
+uint64_t kusthrila_row_place(const uint8_t *text, size_t text_len, size_t row, uint64_t *length);
 
 /* A refusal's number and place. */
 static inline uint64_t kusthrila_number(uint64_t answer) { return answer / KUSTHRILA_REFUSED; }

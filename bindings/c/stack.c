@@ -1,5 +1,5 @@
 /* How many bytes of stack each function takes, at most, on the lists of recorded files (recorded/README.md has their
- * format), on lists with 32 and 33 open groups, and on enums of many variants. It fails where one takes more than the
+ * format), on lists with 32 and 33 open groups, on enums of many variants, and on a few source texts. It fails where one takes more than the
  * header says. The calls run on a stack of their own, painted beforehand; what they took is what lost its paint, with the
  * frame of the function that calls. */
 #define _XOPEN_SOURCE 700
@@ -69,6 +69,28 @@ static void same_name_all(void) {
         kusthrila_same_name(lists[n].bytes, lists[n].length, lists[n].bytes, lists[n].length);
         kusthrila_same_name(lists[n].bytes, lists[n].length, lists[n - 1].bytes, lists[n - 1].length);
     }
+}
+
+/* Lists are texts too, if seldom sound ones. */
+static void tokens_all(void) {
+    static const char *texts[] = {
+        "#[a = \"b\\u{41}\"] pub struct A<'a, const N: u8>(&'a [u8; 0x1F_u8], 1.5e+3f64); /* a /* b */ */ // c\n",
+        "/// a \"doc\" line\nfn f() { r#\"a\"#; b'a'; br##\"b\"##; '\\n'; r#type; }", "{[(", "/*", "\"", "0b2", "r##\"a\"#",
+    };
+    uint64_t place = 0;
+    top = (uint8_t *)__builtin_frame_address(0);
+    for (size_t n = 0; n < count; n++)
+        kusthrila_tokens(lists[n].bytes, lists[n].length, out, sizeof out, &place);
+    for (size_t n = 0; n < sizeof texts / sizeof *texts; n++)
+        kusthrila_tokens((const uint8_t *)texts[n], strlen(texts[n]), out, sizeof out, &place);
+}
+
+static void row_place_all(void) {
+    uint64_t length = 0;
+    top = (uint8_t *)__builtin_frame_address(0);
+    for (size_t n = 0; n < count; n++)
+        for (size_t row = 0; row < 4; row++)
+            kusthrila_row_place(lists[n].bytes, lists[n].length, row, &length);
 }
 
 static int measure(const char *name, void (*calls)(void), size_t promised) {
@@ -173,5 +195,7 @@ int main(int argc, char **argv) {
     over |= measure("kusthrila_tagged", tagged_all, KUSTHRILA_STACK);
     over |= measure("kusthrila_impl_generics and its like", generics_all, KUSTHRILA_STACK);
     over |= measure("kusthrila_same_name", same_name_all, KUSTHRILA_STACK);
+    over |= measure("kusthrila_tokens", tokens_all, KUSTHRILA_TOKENS_STACK);
+    over |= measure("kusthrila_row_place", row_place_all, KUSTHRILA_STACK);
     return over;
 }

@@ -1,6 +1,6 @@
 //! Safe functions over the proved reader of token lists. Nothing is allocated, but for the vector that `tagged` returns, and
-//! nothing global is kept; a call needs at most 16,384 bytes of stack, that of `listing` 98,304 (`include/kusthrila.h` says how
-//! that was measured).
+//! nothing global is kept; a call needs at most 16,384 bytes of stack, that of `tokens` 32,768 and that of `listing` 98,304
+//! (`include/kusthrila.h` says how that was measured).
 //!
 //! A list is a text: a line of names, `kind text` or `kind joint text`, then a line for each row, as `p :` or, with the second
 //! names, `p 1 :`. The column between kind and text is the row's mark: 1 for a punctuation that is joint, that is, the next one
@@ -38,6 +38,8 @@ extern "C" {
         out_len: usize,
     ) -> u64;
     fn kusthrila_same_name(a: *const u8, a_len: usize, b: *const u8, b_len: usize) -> u64;
+    fn kusthrila_tokens(text: *const u8, text_len: usize, out: *mut u8, out_len: usize, place: *mut u64) -> u64;
+    fn kusthrila_row_place(text: *const u8, text_len: usize, row: usize, length: *mut u64) -> u64;
 }
 
 /// No list has more rows.
@@ -54,6 +56,9 @@ pub const MOST_GENERICS: usize = 114_688;
 pub const fn most_added(lifetimes: usize, types: usize) -> usize {
     MOST_GENERICS.saturating_add(lifetimes.saturating_mul(18)).saturating_add(types.saturating_mul(12))
 }
+
+/// No list that `tokens` writes is longer: the law `answer-few` in `crates/source/proofs/Reports.antt`.
+pub const MOST_TOKENS: usize = 65_536;
 
 /// A scratch must have as many bytes.
 pub const SCRATCH: usize = 20;
@@ -93,6 +98,17 @@ pub enum Entry<'a> {
 pub struct Compared {
     pub same: bool,
     pub pairs: usize,
+}
+
+/// A refusal of a source text.
+#[derive(Clone, Copy, Debug, PartialEq, Eq)]
+pub enum SourceRefusal {
+    /// `refusal::NO_TOKEN`, at this offset: the text is no tokens, or a bracket does not match.
+    At(usize),
+    /// `refusal::OVER_LIMIT`: the list passes a limit of lists.
+    OverLimit,
+    /// `refusal::SHORT_BUFFER`: the output is too short for the list.
+    ShortOutput,
 }
 
 // An answer below 2^32 refuses nothing; else it is 2^32 times the refusal's number, plus its place.
@@ -209,6 +225,29 @@ pub fn same_name(a: &[u8], b: &[u8]) -> Compared {
     // SAFETY: both are slices, which the call only reads.
     let code = unsafe { kusthrila_same_name(a.as_ptr(), a.len(), b.as_ptr(), b.len()) };
     Compared { same: code % 2 == 1, pairs: (code / 2) as usize }
+}
+
+/// Writes the token list of Rust source text, with the names `kind text`, at the start of `out` and returns that part. After a
+/// refusal `out` is as it was; `MOST_TOKENS` bytes are always long enough.
+pub fn tokens<'a>(text: &[u8], out: &'a mut [u8]) -> Result<&'a [u8], SourceRefusal> {
+    let mut place = 0;
+    // SAFETY: both are slices, `out` and `place` are borrowed alone, and the call writes nothing past them.
+    let code = unsafe { kusthrila_tokens(text.as_ptr(), text.len(), out.as_mut_ptr(), out.len(), &mut place) };
+    match answer(code) {
+        Ok(len) => Ok(&out[..len as usize]),
+        Err(Refusal { number: refusal::NO_TOKEN, .. }) => Err(SourceRefusal::At(place as usize)),
+        Err(Refusal { number: refusal::OVER_LIMIT, .. }) => Err(SourceRefusal::OverLimit),
+        Err(_) => Err(SourceRefusal::ShortOutput),
+    }
+}
+
+/// Where the text of a row of that list stands in the source text. A doc line's six rows have the whole line; a row that the list
+/// does not have, the text's end.
+pub fn row_place(text: &[u8], row: usize) -> std::ops::Range<usize> {
+    let mut length = 0;
+    // SAFETY: the text is a slice, which the call only reads, and `length` is borrowed alone.
+    let offset = unsafe { kusthrila_row_place(text.as_ptr(), text.len(), row, &mut length) } as usize;
+    offset..offset + length as usize
 }
 
 #[cfg(test)]
@@ -461,6 +500,43 @@ mod tests {
         assert_eq!(impl_generics_with_additional(angled, b"x", b"Y", &mut out), Ok(&added[..]));
         let plain = b"kind joint text\ni 0 struct\ni 0 A\np 0 ;\n";
         assert_eq!(impl_generics(plain, &mut out), Ok(&b"kind joint text\n"[..]));
+    }
+
+    #[test]
+    fn reads_source_texts() {
+        let text = b"/// a\nfn f<'a>(x: &'a str) { 0x1F + b'a' /* b */ }";
+        let mut out = [7u8; 256];
+        let list = b"kind text\np #\no [\ni doc\np =\nl \" a\"\nc ]\ni fn\ni f\np <\np '\ni a\np >\no (\ni x\np :\np &\np '\ni a\n\
+            i str\nc )\no {\nl 0x1F\np +\nl b'a'\nc }\n";
+        assert_eq!(tokens(text, &mut out), Ok(&list[..]));
+        assert_eq!(out[list.len()..], [7; 256][list.len()..]);
+        // Where each row's text stands.
+        let rows = list.split(|byte| *byte == b'\n').skip(1).filter(|row| !row.is_empty());
+        for (row, line) in rows.enumerate() {
+            let place = row_place(text, row);
+            assert_eq!(&text[place], if row < 6 { &b"/// a"[..] } else { &line[2..] }, "row {row}");
+        }
+        assert_eq!(row_place(text, 25), text.len()..text.len());
+        assert_eq!(row_place(text, usize::MAX), text.len()..text.len());
+        assert_eq!(tokens(b"", &mut out), Ok(&b"kind text\n"[..]));
+        assert_eq!(row_place(b"", 0), 0..0);
+    }
+
+    #[test]
+    fn refuses_source_texts() {
+        let mut out = [7u8; 65];
+        assert_eq!(tokens(b"enum E { A = 0b12 }", &mut out), Err(SourceRefusal::At(13)));
+        assert_eq!(tokens(b"a \\", &mut out), Err(SourceRefusal::At(2)));
+        assert_eq!(tokens(b"f(]", &mut out), Err(SourceRefusal::At(2)));
+        assert_eq!(tokens(b"{ ( )", &mut out), Err(SourceRefusal::At(0)));
+        assert_eq!(tokens(&[b'a'; 256], &mut out), Err(SourceRefusal::OverLimit));
+        assert_eq!(tokens(&[b','; 4097], &mut out), Err(SourceRefusal::OverLimit));
+        let nested = |groups| [vec![b'('; groups], vec![b')'; groups]].concat();
+        assert_eq!(tokens(&nested(33), &mut out), Err(SourceRefusal::OverLimit));
+        assert_eq!(tokens(&nested(32), &mut out), Err(SourceRefusal::ShortOutput));
+        assert_eq!(tokens(&nested(7), &mut out), Err(SourceRefusal::ShortOutput));
+        assert_eq!(out, [7; 65]);
+        assert_eq!(tokens(b"pub(crate) struct A(u8);", &mut out).map(<[u8]>::len), Ok(10 + 6 + 4 + 8 + 4 + 9 + 4 + 4 + 5 + 4 + 4));
     }
 
     // What `same_name` is to answer, said with the standard library.

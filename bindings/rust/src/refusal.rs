@@ -1,4 +1,5 @@
-//! The refusals' numbers. 9, 10, 32 to 41 and 44 to 49 are none; 42, 43, 50 and 51 are of the listing alone.
+//! The refusals' numbers. 9, 10, 32 to 39 and 44 to 49 are none; 40 and 41 are of source texts alone, 42, 43, 50 and 51 of the
+//! listing.
 //! README.md says where each one's place is, and which comes first.
 
 /// More than 65,536 bytes.
@@ -59,6 +60,10 @@ pub const NO_ENTRY: u8 = 29;
 pub const ADDED_NAME: u8 = 30;
 /// Tagged: the list is not one group.
 pub const NOT_ONE_GROUP: u8 = 31;
+/// Source: no token begins at the offset, or a bracket does not match.
+pub const NO_TOKEN: u8 = 40;
+/// Source: the list passes a limit of lists.
+pub const OVER_LIMIT: u8 = 41;
 /// Listing: a variant's value is no integer, or above the range of i64.
 pub const NO_INTEGER: u8 = 42;
 /// Listing: a variant without value after the largest i64.

@@ -73,7 +73,9 @@ MEANINGS =
     bytes "tagged: neither a key nor a key and a value\n" ++
     bytes "an added name is no name of at most 255 bytes, or has r#\n" ++
     bytes "tagged: the list is not one group; the first row outside it, or -\n" ++
-    bytes "\n\n\n\n\n\n\n\n\n\n" ++
+    bytes "\n\n\n\n\n\n\n\n" ++
+    bytes "source: no token begins there, or a bracket does not match\n" ++
+    bytes "source: the list would pass a limit\n" ++
     bytes "listing: a variant's value is no integer, or above 9,223,372,036,854,775,807\n" ++
     bytes "listing: a variant without value after the number 9,223,372,036,854,775,807\n" ++
     bytes "\n\n\n\n\n\n" ++

@@ -107,7 +107,9 @@ pub fn put_meaning(out: &mut [u8], at: usize, number: u8) -> usize
           tagged: neither a key nor a key and a value\n\
           an added name is no name of at most 255 bytes, or has r#\n\
           tagged: the list is not one group; the first row outside it, or -\n\
-          \n\n\n\n\n\n\n\n\n\n\
+          \n\n\n\n\n\n\n\n\
+          source: no token begins there, or a bracket does not match\n\
+          source: the list would pass a limit\n\
           listing: a variant's value is no integer, or above 9,223,372,036,854,775,807\n\
           listing: a variant without value after the number 9,223,372,036,854,775,807\n\
           \n\n\n\n\n\n\

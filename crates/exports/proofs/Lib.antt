@@ -2,3 +2,4 @@
 pub mod Codes
 pub mod TaggedCodes
 pub mod GeneratedCodes
+pub mod SourceCodes

@@ -6,10 +6,14 @@ use generate::generics;
 use output::written::Written;
 use parse::item;
 use parse::item::Parse;
+use source::places;
+use source::tokens;
+use source::tokens::Tokens;
 use tagged_attribute::utils;
 use tagged_attribute::utils::Tagged;
 use token_list::check;
 use token_list::check::Checked;
+use token_list::check::END;
 use token_list::check::Refusal;
 use token_list::text;
 ghost use mathlib.Core.Path.{_≡_};
@@ -22,6 +26,7 @@ ghost use Rattle.writing.specs.Answer.{implGenerics, typeGenerics, withAddition
 ghost use Rattle.exports.specs.Code.{refusal, code, Coded, checkCase, ReadInto, writtenCode, LowPlace};
 ghost use Rattle.exports.specs.Code.{WrittenInto, MAX-OUTPUT, GeneratedInto, ValueInto, TaggedInto};
 ghost use Rattle.exports.specs.Code.{NamesCompared};
+ghost use Rattle.exports.specs.SourceCode.{TokensInto, RowPlace};
 
 // A number from here on tells a refusal.
 const REFUSED: u64 = 4294967296;
@@ -179,4 +184,34 @@ pub extern "C" fn kusthrila_same_name(a: &[u8], b: &[u8]) -> u64
         return twice + 1;
     }
     twice
+}
+
+// Writes the token list of a source text at the start of the output: its length, or a refusal; with 40, `place` is the
+// offset of the byte where no token begins.
+#[no_mangle]
+pub extern "C" fn kusthrila_tokens(text: &[u8], out: &mut [u8], place: &mut u64) -> u64
+    ensures { λ r. ⌜ TokensInto (now (text .entry)) (now (out .entry)) (now (out .exit)) (now (place .entry))
+        (now (place .exit)) r ⌝ }
+{
+    match tokens::write_tokens(text, out) {
+        Tokens::List(n) => n as u64,
+        Tokens::FaultAt(offset) => {
+            *place = offset as u64;
+            coded(Refusal {
+                number: 40,
+                place: END,
+            })
+        }
+        Tokens::Refused(r) => coded(r),
+    }
+}
+
+// Where the text of a row stands in the source: answers its offset, and writes its length.
+#[no_mangle]
+pub extern "C" fn kusthrila_row_place(text: &[u8], row: usize, length: &mut u64) -> u64
+    ensures { λ r. ⌜ RowPlace (now (text .entry)) row r (now (length .exit)) ⌝ }
+{
+    let place = places::row_place(text, row);
+    *length = place.length as u64;
+    place.offset as u64
 }

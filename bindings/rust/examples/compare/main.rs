@@ -4,7 +4,7 @@
 mod random;
 mod reader;
 
-use kusthrila::{check, Place, Refusal, MOST_LISTING, MOST_ROWS, SCRATCH};
+use kusthrila::{check, refusal, Place, Refusal, SourceRefusal, MOST_LISTING, MOST_ROWS, SCRATCH};
 use random::{Random, KINDS, MARKED, NAMES};
 use reader::{Reader, Writer};
 use std::collections::BTreeMap;
@@ -30,6 +30,15 @@ fn refused(refusal: &Refusal) -> Vec<u8> {
     match refusal.place {
         Place::Row(row) => format!("refused place\n{number} {row}\n").into(),
         Place::End => format!("refused place\n{number} -\n").into(),
+    }
+}
+
+// The number of a refusal of a source text, and how it is printed.
+fn source_refused(refusal: &SourceRefusal) -> (u8, Vec<u8>) {
+    match refusal {
+        SourceRefusal::At(offset) => (refusal::NO_TOKEN, format!("refused place\n40 {offset}\n").into()),
+        SourceRefusal::OverLimit => (refusal::OVER_LIMIT, b"refused place\n41 -\n".to_vec()),
+        SourceRefusal::ShortOutput => (refusal::SHORT_BUFFER, b"refused place\n8 -\n".to_vec()),
     }
 }
 
@@ -111,7 +120,7 @@ fn main() {
     let mut input = BufReader::new(std::fs::File::open(&path).expect("the file"));
     let (mut reader, mut counts) = (Reader::new(), Counts::default());
     let (mut list, mut every, mut lists) = (Vec::new(), Vec::new(), Vec::new());
-    let (mut lifetimes, mut types) = (Vec::new(), Vec::new());
+    let (mut lifetimes, mut types, mut text) = (Vec::new(), Vec::new(), Vec::new());
     while let Some((name, body)) = section(&mut input) {
         let fill = counts.cases as u8;
         match name.as_str() {
@@ -172,6 +181,19 @@ fn main() {
                     }
                 };
                 counts.compare(&name, &ours, &body);
+            }
+            // A source text, and its token list.
+            "text" => {
+                counts.cases += 1;
+                text = body;
+            }
+            "tokens" => {
+                let ours = reader.source(&text).unwrap_or_else(|refusal| {
+                    let (number, printed) = source_refused(&refusal);
+                    *counts.refusals.entry(number).or_default() += 1;
+                    printed
+                });
+                counts.compare("tokens", &ours, &body);
             }
             // The texts of the names that `added` was asked with.
             "lifetimes" => lifetimes = body,

@@ -1,8 +1,8 @@
 //! The functions of the reader, called with buffers between guard bytes, and what holds of every answer.
 use crate::random::{Random, MARKED, NAMES};
 use kusthrila::{check, impl_generics, impl_generics_with_additional, listing, most_added, read, refusal, role, tagged};
-use kusthrila::{tagged_role, type_generics, value};
-use kusthrila::{Entry, Place, Refusal, MOST_GENERICS, MOST_LISTING, MOST_ROWS, NO_ROLE, SCRATCH};
+use kusthrila::{row_place, tagged_role, tokens, type_generics, value};
+use kusthrila::{Entry, Place, Refusal, SourceRefusal, MOST_GENERICS, MOST_LISTING, MOST_ROWS, MOST_TOKENS, NO_ROLE, SCRATCH};
 
 const GUARD: u8 = 0xA5;
 const MARGIN: usize = 8;
@@ -131,6 +131,46 @@ impl Reader {
         };
         let answer = answer.map(<[u8]>::to_vec);
         self.out.restore(answer.as_ref().map_or(0, Vec::len));
+        answer
+    }
+
+    /// The token list of a source text. After a refusal the whole output is as it was, else the bytes after the list are.
+    pub fn tokens(&mut self, text: &[u8], lent: usize) -> Result<Vec<u8>, SourceRefusal> {
+        let answer = tokens(text, self.out.lend(lent)).map(<[u8]>::to_vec);
+        self.out.restore(answer.as_ref().map_or(0, Vec::len));
+        answer
+    }
+
+    /// The same, of whose answer more is known: a list passes the check, its rows' texts stand in the source text one behind the
+    /// other, and a shorter output is refused.
+    pub fn source(&mut self, text: &[u8]) -> Result<Vec<u8>, SourceRefusal> {
+        let answer = self.tokens(text, MOST_TOKENS);
+        let Ok(list) = &answer else {
+            assert_eq!(self.tokens(text, 0), answer, "with no output");
+            return answer;
+        };
+        assert_eq!(self.tokens(text, list.len()).as_ref(), Ok(list), "with an output as long as the list");
+        assert_eq!(self.tokens(text, list.len() - 1), Err(SourceRefusal::ShortOutput), "with one byte less");
+        let rows = check(list).expect("a list");
+        // Each place is searched from the text's start, so that of a long list only the first rows are looked up.
+        let (mut last, mut doc) = (0..0, 0);
+        for (row, part) in texts(list).take(rows.min(64)).enumerate() {
+            let place = row_place(text, row);
+            if doc > 0 {
+                // A doc line's rows have the whole line.
+                doc -= 1;
+                assert_eq!(place, last, "the place of row {row}");
+            } else {
+                assert!(last.end <= place.start, "the place of row {row}");
+                if text[place.clone()].starts_with(b"///") {
+                    doc = 5;
+                } else {
+                    assert!(&text[place.clone()] == part, "the place of row {row}");
+                }
+            }
+            last = place;
+        }
+        assert_eq!(row_place(text, rows), text.len()..text.len(), "the place of no row");
         answer
     }
 
