@@ -25,6 +25,8 @@ for program in rows roles listing explain; do
 done
 sed -n '/^    part name number$/,/^$/s/^    //p' README.md | cmp - examples/controller.listing
 cmp examples/tagged.tokens crates/tagged/stdin
+cmp examples/controller.rs crates/source_listing/stdin
+cmp examples/controller.listing crates/source_listing/stdout
 for program in impl_generics type_generics; do
     cmp examples/generics.tokens crates/$program/stdin
 done
