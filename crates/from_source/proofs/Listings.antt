@@ -2,19 +2,22 @@
 use mathlib.Core.Path.{_≡_, refl, ap, _∙_, sym, subst, subst⁻¹}
 use mathlib.Core.List.{List}
 use Prim.Native.Nat.{ℕ, _≤_}
+use native.Mathlib.Omega.{arith}
 use lib.ListN.{length, take}
 use Rattle.token_list.specs.Layout.{MAX-BYTES}
 use Rattle.token_list.specs.declared.check.Refusal.{Refusal}
+use Rattle.token_list.specs.Place.{OneRefusal}
 use Rattle.output.specs.Answer as outputs
 use Rattle.output.specs.Written.{WrittenAs}
 use Rattle.output.specs.declared.written.Written.{Written}
 use Rattle.output.specs.declared.written.Written.the-variants as writtens
-use Rattle.source.specs.Answer.{Answer, answer, output}
+use Rattle.source.specs.Answer.{Answer, faultAt, refused, answer, output}
 use Rattle.source.specs.Tokens.{answerOf, within, TokensAs}
 use Rattle.source.specs.declared.tokens.Tokens.{Tokens}
 use Rattle.source.specs.declared.tokens.Tokens.the-variants as tokens
 use Rattle.describe.specs.Listing as listing
-use Rattle.from_source.specs.Answer.{writtenAnswer, listedAnswer, listingAnswer}
+use Rattle.from_source.specs.Answer.{writtenAnswer, listedAnswer, listingAnswer, TextRefusal, long, inList}
+use Rattle.from_source.proofs.Lists.{roomy}
 use Rattle.from_source.specs.Contract.{writtenOf, SourceWrittenAs}
 use Rattle.from_source.specs.declared.listing.SourceWritten.{SourceWritten}
 use Rattle.from_source.specs.declared.listing.SourceWritten.the-variants as listings
@@ -36,8 +39,34 @@ outputs-same : (x : List ℕ) (a : outputs.Answer) → outputs.output x a ≡ ou
 outputs-same x (outputs.wrote t) = refl
 outputs-same x (outputs.refused n p) = refl
 
+written-back : (a : outputs.Answer) {n p : ℕ} → writtenAnswer a ≡ refused n p → a ≡ outputs.refused n p
+written-back (outputs.wrote t) e = let z : _≡_ {A = ℕ} 0 1 = cc in absurd (omega arith)
+written-back (outputs.refused m q) e = cc
+
 module _ (s x : List ℕ) {l m : List ℕ} {t : Tokens} (room : MAX-BYTES ≡ length l)
     (told : TokensAs l m (answer (length l) s) t) where
+  pub fault-refusal : {offset : ℕ} → t ≡ tokens.FaultAt offset
+      → (n p : ℕ) → listingAnswer (length x) s ≡ refused n p → TextRefusal listing.listingNumber s n p
+  fault-refusal e n p f =
+      let q : faultAt _ ≡ refused n p = sym (listing-as (length x) s (list-told s room told e)) ∙ f in
+      let z : _≡_ {A = ℕ} 0 1 = cc in absurd (omega arith)
+
+  pub text-refusal : {r : Refusal} → t ≡ tokens.Refused r
+      → (n p : ℕ) → listingAnswer (length x) s ≡ refused n p → TextRefusal listing.listingNumber s n p
+  text-refusal e n p f =
+      let q = list-told s room told e in
+      let same = q ∙ sym (listing-as (length x) s q) ∙ f in
+      let limit = roomy s .limits n p same in
+      long same (limit .0) (limit .1)
+
+  pub list-refusal : {k : ℕ} → t ≡ tokens.List k
+      → ((n p : ℕ) → listing.answer (take k m) (length x) ≡ outputs.refused n p
+      → OneRefusal listing.listingNumber (take k m) n p)
+      → (n p : ℕ) → listingAnswer (length x) s ≡ refused n p → TextRefusal listing.listingNumber s n p
+  list-refusal {k} e h n p f =
+      let q = list-told s room told e in
+      inList q (h n p (written-back _ (sym (listing-as (length x) s q) ∙ f)))
+
   pub listing-fault : {offset : ℕ} → t ≡ tokens.FaultAt offset
       → SourceWrittenAs x x (listingAnswer (length x) s) (listings.FaultAt offset)
   listing-fault e =

@@ -20,11 +20,12 @@ use Rattle.source.specs.Answer.{Answer, wrote, faultAt, refused, output}
 use Rattle.source.specs.Report.{positionText, faultText}
 use Rattle.source.proofs.Reports.{fault-few}
 use Rattle.describe.specs.Listing as listing
-use Rattle.describe.specs.Listing.{MOST}
+use Rattle.describe.specs.Listing.{MOST, listingNumber}
 use Rattle.describe.proofs.Length.{fits}
-use Rattle.from_source.specs.Answer.{writtenAnswer, listedAnswer, listingAnswer}
+use Rattle.from_source.specs.Answer.{writtenAnswer, listedAnswer, listingAnswer, listedFully, fullAnswer}
+use Rattle.from_source.specs.Answer.{TextRefusal}
 use Rattle.from_source.specs.Report.{placeOffset, placedText, listingText}
-use Rattle.from_source.specs.Contract.{SourceWrittenAs, atMost}
+use Rattle.from_source.specs.Contract.{SourceWrittenAs, atMost, ReportedListing}
 use Rattle.from_source.specs.declared.listing.SourceWritten.{SourceWritten}
 use Rattle.from_source.specs.declared.listing.SourceWritten.the-variants as listings
 
@@ -94,6 +95,27 @@ listing-few n s t e = go (source.answer MAX-BYTES s) e
     go (wrote list) q = write list (listing.answer list n) refl q
     go (faultAt offset) q = let z : _≡_ {A = ℕ} 0 1 = cc in absurd (omega arith)
     go (refused m p) q = let z : _≡_ {A = ℕ} 0 1 = cc in absurd (omega arith)
+
+-- an output of MOST bytes changes nothing
+room-same : (n : ℕ) (s : List ℕ) → MOST ≤ n → listingAnswer n s ≡ fullAnswer s
+unfolding listingAnswer fullAnswer
+room-same n s h = go (source.answer MAX-BYTES s)
+  where
+    go : (a : Answer) → listedAnswer n a ≡ listedFully a
+    go (wrote list) = ap writtenAnswer (fits list n .room h)
+    go (faultAt offset) = refl
+    go (refused m p) = refl
+
+pub reported : (s : List ℕ) {x y : List ℕ} {r : ℕ} → Printed x y r (listingText s (listingAnswer (length x) s))
+    → r ≤ MOST
+    → ((n p : ℕ) → listingAnswer (length x) s ≡ refused n p → TextRefusal listingNumber s n p) → ReportedListing s x y r
+reported s {x} p short refusal =
+    record {
+      printed = p;
+      roomy = λ h. rw (room-same (length x) s h) at p;
+      short = short;
+      refusal = refusal;
+    }
 
 pub report-short : (s : List ℕ) {x y : List ℕ} (r : SourceWritten)
     → SourceWrittenAs x y (listingAnswer (length x) s) r → atMost r ≤ MOST

@@ -7,12 +7,13 @@ use Rattle.output.specs.Contract.{Printed}
 use Rattle.output.specs.declared.written.Written.{Written}
 use Rattle.output.specs.declared.written.Written.the-variants as writtens
 use Rattle.reading.specs.Declaration.{Kind, struct, enum}
+use Rattle.reading.specs.Answer.{readNumber}
 use Rattle.parse.specs.declared.item.Parse.{Parse}
 use Rattle.parse.specs.declared.item.Parse.the-variants as parses
 use Rattle.source.specs.Answer.{Answer, wrote, faultAt, refused, output}
-use Rattle.describe.specs.Listing.{MOST}
+use Rattle.describe.specs.Listing.{MOST, listingNumber}
 use Rattle.from_source.specs.Answer as answers
-use Rattle.from_source.specs.Answer.{listingAnswer, readAnswer, buffer}
+use Rattle.from_source.specs.Answer.{listingAnswer, fullAnswer, TextRefusal, readAnswer, buffer}
 use Rattle.from_source.specs.Report.{listingText}
 use Rattle.from_source.specs.declared.listing.SourceWritten.{SourceWritten}
 use Rattle.from_source.specs.declared.listing.SourceWritten.the-variants as listings
@@ -63,6 +64,8 @@ readBy (answers.refused n p) = reads.Refused (record { number = n; place = p })
 pub record ReadAs (s before after : List ℕ) (r : SourceRead) : Type 0 where
   pub answer : r ≡ readBy (readAnswer (length before) s)
   pub buffer : after ≡ buffer (length before) (readAnswer (length before) s)
+  -- what holds of a refusal
+  pub refusal : (n p : ℕ) → readAnswer (length before) s ≡ answers.refused n p → TextRefusal readNumber s n p
 
 -- ## The report
 
@@ -75,4 +78,8 @@ atMost (listings.Refused r) = 192
 -- the output was `before` and is `after`, and r bytes of it are printed
 pub record ReportedListing (s before after : List ℕ) (r : ℕ) : Type 0 where
   pub printed : Printed before after r (listingText s (listingAnswer (length before) s))
+  -- an output of MOST bytes has room for every listing, so the text is never that of refusal 8
+  pub roomy : MOST ≤ length before → Printed before after r (listingText s (fullAnswer s))
   pub short : r ≤ MOST
+  -- what holds of a refusal that is printed
+  pub refusal : (n p : ℕ) → listingAnswer (length before) s ≡ refused n p → TextRefusal listingNumber s n p

@@ -6,8 +6,11 @@ use source::tokens::Tokens;
 use source::tokens::write_tokens;
 use token_list::check::Refusal;
 ghost use mathlib.Core.Path.{_≡_};
+ghost use Prim.Native.Nat.{ℕ};
 ghost use lib.ListN.{length};
-ghost use Rattle.from_source.specs.Answer.{listingAnswer};
+ghost use Rattle.source.specs.Answer.{refused};
+ghost use Rattle.describe.specs.Listing.{listingNumber};
+ghost use Rattle.from_source.specs.Answer.{listingAnswer, TextRefusal};
 ghost use Rattle.from_source.specs.Contract.{writtenOf, SourceWrittenAs};
 
 // The length of the text, which stands at the start of the output; 40 at an offset of the source; or another refusal.
@@ -31,6 +34,8 @@ fn of_list(answer: Written) -> SourceWritten
 pub fn write_listing(text: &[u8], out: &mut [u8]) -> SourceWritten
     ensures { λ r. ⌜ SourceWrittenAs (now (out .entry)) (now (out .exit))
         (listingAnswer (length (now (out .entry))) (now (text .entry))) r ⌝ }
+    ensures { λ _. ⌜ ((n p : ℕ) → listingAnswer (length (now (out .entry))) (now (text .entry)) ≡ refused n p →
+        TextRefusal listingNumber (now (text .entry)) n p) ⌝ }
 {
     let mut list = list_buffer();
     match write_tokens(text, &mut list) {

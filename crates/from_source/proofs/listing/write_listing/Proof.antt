@@ -2,6 +2,7 @@
 use mathlib.Core.Path.{sym}
 use lib.Seq.{length-take-le}
 use Rattle.from_source.proofs.Listings.{list-within, listing-fault, listing-refused, listing-list}
+use Rattle.from_source.proofs.Listings.{fault-refusal, text-refusal, list-refusal}
 use borrow.Author.Needs.{needs}
 use Rattle.from_source.proofs.listing.write_listing.Statement.{statement}
 use Rattle.from_source.proofs.listing.write_listing.Tie as tie
@@ -45,16 +46,22 @@ returns c =
     let write = c .before .before .before .before in
     let buffer = write .before .before in
     let args = buffer .before .before .before .args in
-    listing-fault (args .text .now) (args .out .now) (buffer .list-buffer .ensures) (write .write-tokens .ensures)
-    (c .before .offset .given .1)
+    let s = args .text .now in
+    let room = buffer .list-buffer .ensures in
+    let told = write .write-tokens .ensures in
+    let fault = c .before .offset .given .1 in
+    (listing-fault s (args .out .now) room told fault, fault-refusal s (args .out .now) room told fault)
 
 returns-2 : tie.Need-returns-2
 returns-2 c =
     let write = c .before .before .before .before in
     let buffer = write .before .before in
     let args = buffer .before .before .before .args in
-    listing-refused (args .text .now) (args .out .now) (buffer .list-buffer .ensures) (write .write-tokens .ensures)
-    (c .before .r .given .1)
+    let s = args .text .now in
+    let room = buffer .list-buffer .ensures in
+    let told = write .write-tokens .ensures in
+    let refused = c .before .r .given .1 in
+    (listing-refused s (args .out .now) room told refused, text-refusal s (args .out .now) room told refused)
 
 same-length : tie.Need-same-length
 same-length c = search needs
@@ -66,8 +73,13 @@ returns-3 c =
     let write = n .before .before .before in
     let buffer = write .before .before in
     let args = buffer .before .before .before .args in
-    listing-list (args .text .now) (args .out .now) (buffer .list-buffer .ensures) (write .write-tokens .ensures)
-    (n .n .given .1) (listed .write-listing .ensures .0) (c .of-list .ensures)
+    let s = args .text .now in
+    let room = buffer .list-buffer .ensures in
+    let told = write .write-tokens .ensures in
+    let answer = listed .write-listing .ensures in (
+      listing-list s (args .out .now) room told (n .n .given .1) (answer .0) (c .of-list .ensures),
+      list-refusal s (args .out .now) room told (n .n .given .1) (answer .1),
+    )
 
 pub write-listing-spec : {M : Type 1} → statement M
 write-listing-spec =
