@@ -28,6 +28,8 @@ sed -n '/^    \/\/ The valves/,/^    }$/s/^    //p' README.md | cmp - examples/c
 cmp examples/controller.rs crates/tokens/stdin
 cmp examples/controller.tokens crates/tokens/stdout
 cmp examples/tagged.tokens crates/tagged/stdin
+cmp examples/controller.rs crates/source_listing/stdin
+cmp examples/controller.listing crates/source_listing/stdout
 for program in impl_generics type_generics; do
     cmp examples/generics.tokens crates/$program/stdin
 done

@@ -139,7 +139,7 @@ fn parsed(i: ItemAt) -> Parse
 }
 
 // A refusal: every role byte is 255, no role.
-fn refuse(roles: &mut [u8], r: Refusal) -> Parse
+pub fn refuse(roles: &mut [u8], r: Refusal) -> Parse
     ensures { λ p. ⌜ p ≡ Parse.Refused r ⌝ }
     ensures { λ _. ⌜ now (roles .exit) ≡ replicate (length (now (roles .entry))) role.none ⌝ }
 {

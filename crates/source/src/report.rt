@@ -14,7 +14,7 @@ ghost use Rattle.source.specs.Tokens.{TokensAs};
 ghost use Rattle.source.specs.Report.{positionText, faultText, tokensText, atMost, ReportedTokens};
 
 // The line and the column of an offset.
-fn put_position(out: &mut [u8], at: usize, s: &[u8], offset: usize) -> usize
+pub fn put_position(out: &mut [u8], at: usize, s: &[u8], offset: usize) -> usize
     ensures { λ r. ⌜ Put (now (out .entry)) (now (out .exit)) at r (positionText (now (s .entry)) offset) ⌝ }
 {
     let p = position_of(s, offset);
