@@ -2,6 +2,8 @@
 # speed.sh: how long the reader takes, beside virtue's parser on the same lists. speed.sh ours [NAME [TIMES]]: our reader alone.
 # speed.sh listing [BEFORE]: how long the listing takes on enums of as many variants as a list holds, and on small
 # declarations; and the same with the library of BEFORE, another checkout in which `rt staticlib exports` was run.
+# speed.sh source: how long it takes from a source text to roles, beside proc_macro2's lexer with virtue's parser, and beside syn 1
+# (Debian's librust-syn-dev).
 # Inputs whose name ends in -joint have the names `kind joint text`; they are left out where the reader refuses these.
 # speed.sh placed TIMES [BEFORE]: our reader with its functions in so many orders in memory, on which its time depends; beside the
 # reader of BEFORE, another checkout in which `rt staticlib exports` was run, in as many orders and by turns. It needs lld.
@@ -30,6 +32,22 @@ link() {
         --extern "proc_macro2=$built/libproc_macro2.rlib" -o "$program" "$@" "$root/oracle/src/speed.rs"
 }
 
+if [ "${1:-}" = source ]; then
+    quotes=$(echo "$registry"/quote-1.*)
+    syn=$(echo "$registry"/syn-1.*)
+    [ -f "$quotes/src/lib.rs" ] || skip "no quote in CARGO_REGISTRY ($registry)"
+    [ -f "$syn/src/lib.rs" ] || skip "no syn 1 in CARGO_REGISTRY ($registry)"
+    rustc --edition 2018 -O --cap-lints allow --crate-type rlib --crate-name quote -L "$built" \
+        --extern "proc_macro2=$built/libproc_macro2.rlib" -o "$built/libquote.rlib" "$quotes/src/lib.rs"
+    rustc --edition 2018 -O --cap-lints allow --crate-type rlib --crate-name syn -L "$built" \
+        --cfg 'feature="derive"' --cfg 'feature="parsing"' --cfg 'feature="printing"' --cfg 'feature="clone-impls"' \
+        --cfg 'feature="quote"' --extern "proc_macro2=$built/libproc_macro2.rlib" --extern "quote=$built/libquote.rlib" \
+        --extern "unicode_ident=$built/libunicode_ident.rlib" -o "$built/libsyn.rlib" "$syn/src/lib.rs"
+    rustc --edition 2021 -O --cfg 'feature="proc-macro2"' -L "$built" -L "native=$root/target/staticlib" -l static=exports \
+        --extern "proc_macro2=$built/libproc_macro2.rlib" --extern "syn=$built/libsyn.rlib" \
+        -o "$built/source-speed" "$root/oracle/src/source_speed.rs"
+    exec "$built/source-speed"
+fi
 if [ "${1:-}" = listing ]; then
     link "$root" "$built/speed"
     "$built/speed" listing
