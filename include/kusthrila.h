@@ -18,10 +18,10 @@
  * calls from several threads are independent, as long as none writes a buffer that another uses.
  *
  * A call needs no more than KUSTHRILA_STACK bytes of stack, but kusthrila_listing up to KUSTHRILA_LISTING_STACK: it keeps
- * tables of all variants, to tell whether one is there twice; and kusthrila_tokens up to KUSTHRILA_TOKENS_STACK: it keeps the kinds
- * of open brackets. Measured on x86-64 were some 4,300 in kusthrila_check, 4,400 in kusthrila_tagged, 4,600 in kusthrila_read, 4,800
- * in the writers of generics, 8,900 in kusthrila_value, 16,800 in kusthrila_tokens and 74,500 in kusthrila_listing; the rest is
- * margin. bindings/c/stack.c measures it, and test.sh does so each time. */
+ * tables of all variants, to tell whether one is there twice; and kusthrila_tokens up to KUSTHRILA_TOKENS_STACK: it keeps
+ * the kinds of the open brackets. Measured on x86-64 were some 4,300 in kusthrila_check, 4,400 in kusthrila_tagged, 4,600
+ * in kusthrila_read, 4,800 in the writers of generics, 8,900 in kusthrila_value, 16,800 in kusthrila_tokens and 74,500 in
+ * kusthrila_listing; the rest is margin. bindings/c/stack.c measures it, and test.sh does so each time. */
 #ifndef KUSTHRILA_H
 #define KUSTHRILA_H
 
@@ -192,16 +192,17 @@ uint64_t kusthrila_same_name(const uint8_t *a, size_t a_len, const uint8_t *b, s
 static inline int kusthrila_names_equal(uint64_t answer) { return (int)(answer % 2u); }
 static inline uint64_t kusthrila_pairs(uint64_t answer) { return answer / 2u; }
 
-/* Reads Rust source text and writes its token list, with the names `kind text`, at the start of out: the list's length, with the
- * bytes after it as they were; or a refusal, with all bytes as they were. 40, where the text is no tokens or a bracket does not
- * match: the offset, counted in bytes from 0, is written to place, which no other answer changes. 41, where the list passes a limit:
- * 65,536 bytes, 4,096 rows, 255 bytes of a row's text or 32 open groups. out must be long enough for the list, else refusal 8, which
- * comes last; KUSTHRILA_MOST_TOKENS bytes always are. The place in the answer of a refusal is KUSTHRILA_END. */
+/* Reads Rust source text and writes its token list, with the names `kind text`, at the start of out: the list's length,
+ * with the bytes after it as they were; or a refusal, with all bytes as they were. 40, where the text is no tokens or a
+ * bracket does not match: the offset, in bytes from 0, is written to place, which no other answer changes. 41, where the
+ * list would pass a limit: 65,536 bytes, 4,096 rows, 255 bytes of a row's text, 32 open groups. Last, out must be long
+ * enough for the list, else refusal 8; KUSTHRILA_MOST_TOKENS bytes always are. In the answer itself the place of each
+ * refusal is KUSTHRILA_END. place may not be NULL, nor overlap text or out. */
 uint64_t kusthrila_tokens(const uint8_t *text, size_t text_len, uint8_t *out, size_t out_len, uint64_t *place);
 
-/* Where the text of a row of that list stands in the source text: the answer is its offset, and its length is written. A doc line's
- * six rows have the whole line. Of a row that the list does not have, the answer is text_len, and the length 0. Nothing is
- * refused. */
+/* Where the text of a row of that list stands in the source text: the answer is its offset, and its length is written to
+ * length. A doc line's six rows have the whole line. Of a row that the list does not have the answer is text_len, and the
+ * length 0. Nothing is refused: in a text that kusthrila_tokens refuses with 40, rows count up to where no token begins. */
 uint64_t kusthrila_row_place(const uint8_t *text, size_t text_len, size_t row, uint64_t *length);
 
 /* A refusal's number and place. */

@@ -1,7 +1,7 @@
 /* How many bytes of stack each function takes, at most, on the lists of recorded files (recorded/README.md has their
- * format), on lists with 32 and 33 open groups, on enums of many variants, and on a few source texts. It fails where one takes more than the
- * header says. The calls run on a stack of their own, painted beforehand; what they took is what lost its paint, with the
- * frame of the function that calls. */
+ * format), on lists with 32 and 33 open groups, on enums of many variants, and on a few source texts. It fails where one
+ * takes more than the header says. The calls run on a stack of their own, painted beforehand; what they took is what lost
+ * its paint, with the frame of the function that calls. */
 #define _XOPEN_SOURCE 700
 #include "kusthrila.h"
 

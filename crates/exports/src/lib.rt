@@ -186,8 +186,8 @@ pub extern "C" fn kusthrila_same_name(a: &[u8], b: &[u8]) -> u64
     twice
 }
 
-// Writes the token list of a source text at the start of the output: its length, or a refusal; with 40, `place` is the
-// offset of the byte where no token begins.
+// Writes the token list of a source text at the start of the output: its length, or a refusal, of which 40 alone writes
+// its offset to `place`.
 #[no_mangle]
 pub extern "C" fn kusthrila_tokens(text: &[u8], out: &mut [u8], place: &mut u64) -> u64
     ensures { λ r. ⌜ TokensInto (now (text .entry)) (now (out .entry)) (now (out .exit)) (now (place .entry))

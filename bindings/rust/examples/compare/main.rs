@@ -1,6 +1,6 @@
 //! Compares the reader with recorded answers, in process, and then reads damaged and random lists.
 //! usage: compare FILE [COUNT]: a file in the format of recorded/README.md, and how many damaged copies of its lists are read
-//! (default 100,000); of each kind of random lists it is a tenth.
+//! (default 100,000), and of its source texts; of each kind of random lists it is a tenth.
 mod random;
 mod reader;
 
@@ -120,7 +120,8 @@ fn main() {
     let mut input = BufReader::new(std::fs::File::open(&path).expect("the file"));
     let (mut reader, mut counts) = (Reader::new(), Counts::default());
     let (mut list, mut every, mut lists) = (Vec::new(), Vec::new(), Vec::new());
-    let (mut lifetimes, mut types, mut text) = (Vec::new(), Vec::new(), Vec::new());
+    let (mut lifetimes, mut types) = (Vec::new(), Vec::new());
+    let (mut text, mut texts) = (Vec::new(), Vec::new());
     while let Some((name, body)) = section(&mut input) {
         let fill = counts.cases as u8;
         match name.as_str() {
@@ -185,6 +186,9 @@ fn main() {
             // A source text, and its token list.
             "text" => {
                 counts.cases += 1;
+                if counts.cases % 97 == 0 && !body.is_empty() && body.len() < 4096 {
+                    texts.push(body.clone());
+                }
                 text = body;
             }
             "tokens" => {
@@ -232,6 +236,14 @@ fn main() {
         accepted += usize::from(reader.answer(&list, random));
     }
     println!("damaged lists answered {damaged}, accepted {accepted}");
+    if !texts.is_empty() {
+        let mut accepted = 0;
+        for _ in 0..count {
+            let from = random.below(texts.len());
+            accepted += usize::from(reader.source(&random.damaged(&texts[from])).is_ok());
+        }
+        println!("damaged source texts answered {count}, accepted {accepted}");
+    }
     for kind in KINDS {
         let mut accepted = 0;
         for n in 0..count / 10 {
