@@ -1,24 +1,19 @@
 -- What is printed of a source text.
 use mathlib.Core.Path.{_≡_, refl, ap, _∙_, sym}
-use mathlib.Core.Bool.{Bool, true, false, cond}
-use mathlib.Core.List.{List, [], _∷_, _++_}
+use mathlib.Core.List.{List}
 use Prim.Native.Nat.{ℕ, _^_, _≤_, _<_}
 use native.Mathlib.Omega.{arith}
-use lib.Dec.{eqb}
 use lib.ListN.{length, take, length-append}
 use lib.Seq.{length-take-le}
-use Rattle.token_list.specs.Byte.{bytes, SPACE, LF}
 use Rattle.token_list.specs.Layout.{MAX-BYTES}
-use Rattle.token_list.specs.Check.{END}
 use Rattle.token_list.specs.declared.check.Refusal.{Refusal}
-use Rattle.output.specs.Text.{decimal, placeText}
 use Rattle.output.specs.Contract.{Printed}
 use Rattle.output.specs.Answer as outputs
-use Rattle.output.proofs.Texts.{decimal-few}
+use Rattle.output.proofs.Texts.{decimal-few, place-few}
 use Rattle.source.specs.Answer as source
 use Rattle.source.specs.Answer.{Answer, wrote, faultAt, refused, output}
-use Rattle.source.specs.Report.{positionText, faultText}
-use Rattle.source.proofs.Reports.{fault-few}
+use Rattle.source.specs.Report.{faultText}
+use Rattle.source.proofs.Reports.{position-few}
 use Rattle.describe.specs.Listing as listing
 use Rattle.describe.specs.Listing.{MOST, listingNumber}
 use Rattle.describe.proofs.Length.{fits}
@@ -53,32 +48,12 @@ module _ (s : List ℕ) {x y : List ℕ} {a : Answer} where
 
 -- ## Lengths
 
-place-few : (p : ℕ) → p < 2 ^ 64 → length (placeText p) ≤ 20
-unfolding placeText
-place-few p h = go (eqb p END)
-  where
-    go : (b : Bool) → length (cond b (bytes "-") (decimal p)) ≤ 20
-    go true = omega arith
-    go false = decimal-few p h
-
-position-few : (s : List ℕ) (offset : ℕ) → length s < 2 ^ 64 → offset < 2 ^ 64 → length (positionText s offset) ≤ 109
-unfolding faultText
-position-few s offset h k =
-    let position = positionText s offset in
-    omega (
-      arith,
-      fault-few s offset h k,
-      length-append (bytes "refused place\n40 ") (decimal offset ++ SPACE ∷ (position ++ LF ∷ [])),
-      length-append (decimal offset) (SPACE ∷ (position ++ LF ∷ [])),
-      length-append position (LF ∷ []),
-    )
-
-pub placed-few : (s : List ℕ) (n p : ℕ) → length s < 2 ^ 64 → n < 2 ^ 64 → p < 2 ^ 64 → placeOffset s p < 2 ^ 64
-    → length (placedText s n p) ≤ 192
+pub placed-few : (s : List ℕ) (n p : ℕ) → length s < 2 ^ 64 → n < 2 ^ 64 → p < 2 ^ 64
+    → length (placedText s n p) ≤ 128
 unfolding placedText
-placed-few s n p h k l o =
+placed-few s n p h k l =
     simp length-append
-    (omega (arith, decimal-few n k, place-few p l, position-few s (placeOffset s p) h o))
+    (omega (arith, decimal-few n k, place-few p l, position-few s (placeOffset s p) h))
 
 -- no listing that is written is longer than MOST
 listing-few : (n : ℕ) (s : List ℕ) (t : List ℕ) → listingAnswer n s ≡ wrote t → length t ≤ MOST

@@ -73,7 +73,7 @@ pub record ReadAs (s before after : List ℕ) (r : SourceRead) : Type 0 where
 abbrev pub atMost : SourceWritten → ℕ
 atMost (listings.Text n) = n
 atMost (listings.FaultAt offset) = 128
-atMost (listings.Refused r) = 192
+atMost (listings.Refused r) = 128
 
 -- the output was `before` and is `after`, and r bytes of it are printed
 pub record ReportedListing (s before after : List ℕ) (r : ℕ) : Type 0 where

@@ -4,6 +4,7 @@ use crate::listing::write_listing;
 use output::put::put_byte;
 use output::put::put_bytes;
 use output::put::put_number;
+use output::put::put_place;
 use source::places::row_place;
 use source::report::put_fault;
 use source::report::put_position;
@@ -12,8 +13,7 @@ use token_list::check::Refusal;
 ghost use mathlib.Core.Path.{_≡_};
 ghost use mathlib.Core.List.{List};
 ghost use Prim.Native.Nat.{ℕ, _≤_};
-ghost use Rattle.output.specs.Contract.{Put, Printed};
-ghost use Rattle.output.specs.Text.{placeText};
+ghost use Rattle.output.specs.Contract.{Printed};
 ghost use Rattle.source.specs.Answer.{Answer};
 ghost use Rattle.from_source.specs.Report.{placeOffset, placedText, listingText};
 ghost use Rattle.from_source.specs.Contract.{SourceWrittenAs, atMost, ReportedListing};
@@ -29,22 +29,12 @@ fn place_offset(s: &[u8], place: usize) -> usize
     p.offset
 }
 
-// A row, or `-` for the end mark.
-fn put_place(out: &mut [u8], at: usize, place: usize) -> usize
-    ensures { λ r. ⌜ Put (now (out .entry)) (now (out .exit)) at r (placeText place) ⌝ }
-{
-    if place == END {
-        return put_byte(out, at, b'-');
-    }
-    put_number(out, at, place)
-}
-
 // A refusal, at the start of the output: the line `refused place`, and a line with number, place and position. Answers
-// its length, at most 192.
+// its length, at most 128.
 fn put_placed(out: &mut [u8], s: &[u8], refusal: Refusal) -> usize
     ensures { λ r. ⌜ Printed (now (out .entry)) (now (out .exit)) r
         (placedText (now (s .entry)) (refusal .number) (refusal .place)) ⌝ }
-    ensures { λ r. ⌜ r ≤ 192 ⌝ }
+    ensures { λ r. ⌜ r ≤ 128 ⌝ }
 {
     let names = put_bytes(out, 0, b"refused place\n");
     let number = put_number(out, names, refusal.number as usize);

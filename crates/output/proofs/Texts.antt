@@ -120,7 +120,7 @@ decimal-few n h = decimal-within 19 n (omega arith)
 
 -- ## Refusals
 
-place-few : (p : ℕ) → p < 2 ^ 64 → length (placeText p) ≤ 20
+pub place-few : (p : ℕ) → p < 2 ^ 64 → length (placeText p) ≤ 20
 unfolding placeText
 place-few p h = either (eqb p END) (bytes "-") (decimal p) 20 (omega arith) (decimal-few p h)
 

@@ -61,7 +61,7 @@ pub fn put_number(out: &mut [u8], at: usize, n: usize) -> usize
 }
 
 // A place: its row, or `-` for the end mark.
-fn put_place(out: &mut [u8], at: usize, place: usize) -> usize
+pub fn put_place(out: &mut [u8], at: usize, place: usize) -> usize
     ensures { λ r. ⌜ Put (now (out .entry)) (now (out .exit)) at r (placeText place) ⌝ }
 {
     if place == END {

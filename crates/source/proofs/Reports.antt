@@ -74,16 +74,21 @@ column-most column k (b ∷ t) o h =
     go true p q = omega arith
     go false p q = omega arith
 
-pub fault-few : (s : List ℕ) (offset : ℕ) → length s < 2 ^ 64 → offset < 2 ^ 64 → length (faultText s offset) ≤ 128
-unfolding faultText positionText lineOf columnOf
-fault-few s offset h k =
+pub position-few : (s : List ℕ) (offset : ℕ) → length s < 2 ^ 64 → length (positionText s offset) ≤ 41
+unfolding positionText lineOf columnOf
+position-few s offset h =
     let few = length-take offset s in
     let line = line-most 1 (take offset s) in
     let column = column-most 1 1 (take offset s) (omega arith) (omega arith) in
     let lines = decimal-within 19 (lineAfter 1 (take offset s)) (omega (arith, line, few, h)) in
     let columns = decimal-within 19 (columnAfter 1 (take offset s)) (omega (arith, column, few, h)) in
+    simp length-append (omega (arith, lines, columns))
+
+pub fault-few : (s : List ℕ) (offset : ℕ) → length s < 2 ^ 64 → offset < 2 ^ 64 → length (faultText s offset) ≤ 128
+unfolding faultText
+fault-few s offset h k =
     let offsets = decimal-within 19 offset (omega (arith, k)) in
-    simp length-append (omega (arith, lines, columns, offsets))
+    simp length-append (omega (arith, position-few s offset h, offsets))
 
 -- no list that is written is longer than a list may be
 pub answer-few : (n : ℕ) (s : List ℕ) (t : List ℕ) → answer n s ≡ wrote t → length t ≤ MAX-BYTES

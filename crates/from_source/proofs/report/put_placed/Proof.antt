@@ -56,9 +56,8 @@ returns c =
     let start = names .before .before .before .before .before in
     let s = start .args .s .now in
     let refusal = start .args .refusal in
-    let few = placed-few s (refusal .number) (refusal .place) (omega (arith, start .good))
-    (omega (arith, start .good)) (omega (arith, start .good))
-    (omega (arith, offset .place-offset .ensures)) in
+    let few = placed-few s (refusal .number) (refusal .place) (omega (arith, start .good)) (omega (arith, start .good))
+    (omega (arith, start .good)) in
     let stands = retold (ap (positionText s) (offset .place-offset .ensures)) (position .put-position .ensures) in
     let text = joined (names .put-bytes .ensures)
     (joined (number .put-number .ensures)
