@@ -34,9 +34,9 @@ fn inputs() -> Vec<(&'static str, String)> {
     let small = "pub enum Valve {\n    Main = 14, // at the pump\n    Block { minutes: u16, lines: u8 },\n    Drain = -2\n}\n";
     vec![
         ("small", small.to_string()),
-        ("enum", filled(20_000, "pub enum Valve<'a, const N: usize> {\n", variant, "}\n")),
-        ("struct", filled(20_000, "#[repr(C)]\npub struct Record {\n", field, "}\n")),
-        ("values", filled(20_000, "enum Code {\n", value, "}\n")),
+        ("enum", filled(10_000, "pub enum Valve<'a, const N: usize> {\n", variant, "}\n")),
+        ("struct", filled(10_000, "#[repr(C)]\npub struct Record {\n", field, "}\n")),
+        ("values", filled(10_000, "enum Code {\n", value, "}\n")),
         ("comment", format!("/*{}*/ struct A;", "a word and another ".repeat(1000))),
     ]
 }
