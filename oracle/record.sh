@@ -11,12 +11,8 @@ build_oracle
 answer "$built/record.in" "$built/answers.txt" "$built/record.counts"
 cat "$built/record.counts"
 enums 200 $seed "$built/enums.txt"
-build_source
-"$built/lists" sample $count $seed "$root/oracle/source_examples.txt" >"$built/texts.in"
-judge_source "$built/texts.in" texts
-cat "$built/texts.counts"
 status=0
-for name in answers checks enums texts; do
+for name in answers checks enums; do
     if cmp -s "$built/$name.txt" "$root/recorded/$name.txt"; then
         echo "recorded/$name.txt is the same"
     elif [ "${1:-}" = --update ]; then

@@ -66,7 +66,7 @@ pub fn judge(source: &[u8]) -> Judged {
                 let before = spaces.iter().filter(|s| **s < refused.at).count();
                 return Judged {
                     what: refused.what,
-                    answer: fault(source, refused.at - before).into_bytes(),
+                    answer: refusal(40, refused.at - before).into_bytes(),
                     rows: None,
                     rewritten: spaces.len(),
                     asks: refused.asks,
@@ -81,14 +81,6 @@ pub fn judge(source: &[u8]) -> Judged {
             }
         }
     }
-}
-
-/// What the program `tokens` prints for a fault: 40, its offset, and its line and column, which count from 1.
-fn fault(source: &[u8], at: usize) -> String {
-    let front = &source[..at];
-    let line = 1 + front.iter().filter(|b| **b == b'\n').count();
-    let column = 1 + front.iter().rev().take_while(|b| **b != b'\n').count();
-    format!("refused place\n40 {at} {line}:{column}\n")
 }
 
 /// Text outside plain comments is ASCII. Every other byte becomes one that is ASCII, no token, and postponed in literals

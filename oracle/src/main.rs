@@ -7,7 +7,6 @@
 //!   lists faulty COUNT SEED FAULT     enums that rustc refuses for their numbers or names, a line each
 //!   lists judged SOURCE FAULT         such enums, with rustc's messages in standard input, as sections
 //!   lists sources COUNT SEED PART EXAMPLES   source texts; the first part, 0, has the examples and more
-//!   lists sample COUNT SEED EXAMPLES   source texts to record: the examples, the limits but the longest, COUNT by chance
 //!   lists confirm ASKS                whether rustc's messages in standard input say of each text what they are to say
 
 mod bad_input;
@@ -75,12 +74,6 @@ fn main() -> io::Result<()> {
             let table = std::fs::read_to_string(&args[4])?;
             source::cases(out, number(1) as usize, number(2), number(3), &table)?;
         }
-        Some("sample") if args.len() == 4 => {
-            let count = args[1].parse().expect("COUNT is a number");
-            let seed = args[2].parse().expect("SEED is a number");
-            let table = std::fs::read_to_string(&args[3])?;
-            source::sample(out, count, seed, &table)?;
-        }
         Some("confirm") if args.len() == 2 => {
             let asks = std::fs::File::open(&args[1])?;
             let messages = io::stdin().lock();
@@ -89,7 +82,7 @@ fn main() -> io::Result<()> {
         _ => {
             eprintln!("usage: lists cases COUNT SEED EXAMPLES | checks | tokens LINE.. | counts | enums COUNT SEED");
             eprintln!("       lists faulty COUNT SEED FAULT | judged SOURCE FAULT");
-            eprintln!("       lists sources COUNT SEED PART EXAMPLES | sample COUNT SEED EXAMPLES | confirm ASKS");
+            eprintln!("       lists sources COUNT SEED PART EXAMPLES | confirm ASKS");
             std::process::exit(2);
         }
     }
@@ -174,14 +167,13 @@ fn cases(out: &mut impl Write, count: usize, seed: u64, example_text: &str) -> i
 
 /// How many sections of each sort there are, and no differences.
 fn counts(out: &mut impl Write) -> io::Result<()> {
-    const SORTS: [(&str, &[&str]); 7] = [
+    const SORTS: [(&str, &[&str]); 6] = [
         ("check", &["check"]),
         ("roles", &["roles"]),
         ("every", &["every"]),
         ("listing", &["listing"]),
         ("generics", &["impl", "type", "additional"]),
         ("tagged", &["tagged"]),
-        ("tokens", &["tokens"]),
     ];
     let mut counts = [0; SORTS.len()];
     let input = &mut io::stdin().lock();

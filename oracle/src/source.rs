@@ -47,7 +47,10 @@ pub fn cases(
 ) -> io::Result<()> {
     let rng = &mut Rng(seed ^ part << 32);
     if part == 0 {
-        put_examples(out, table)?;
+        for (text, expected) in examples(table) {
+            write_section(out, "expect", &expected)?;
+            write_section(out, "text", &text)?;
+        }
         for text in source_limits::texts(rng) {
             write_section(out, "text", &text)?;
         }
@@ -67,30 +70,6 @@ pub fn cases(
     }
     for _ in 0..count {
         write_section(out, "text", &text(rng))?;
-    }
-    Ok(())
-}
-
-/// Few enough to be recorded: the table of examples, the texts on the limits that are not long, COUNT texts by chance.
-pub fn sample(out: &mut impl Write, count: usize, seed: u64, table: &str) -> io::Result<()> {
-    let rng = &mut Rng(seed);
-    put_examples(out, table)?;
-    // This leaves out the limit of 65,536 bytes alone.
-    let mut texts = source_limits::texts(rng);
-    texts.retain(|text| text.len() < 10_000);
-    for text in texts {
-        write_section(out, "text", &text)?;
-    }
-    for _ in 0..count {
-        write_section(out, "text", &text(rng))?;
-    }
-    Ok(())
-}
-
-fn put_examples(out: &mut impl Write, table: &str) -> io::Result<()> {
-    for (text, expected) in examples(table) {
-        write_section(out, "expect", &expected)?;
-        write_section(out, "text", &text)?;
     }
     Ok(())
 }

@@ -103,12 +103,12 @@ fn word(said: Said) -> &'static str {
     }
 }
 
-/// An answer as the table of examples may have it: the rows or their number, or the refusal, without line and column.
+/// An answer as the table of examples may have it: the rows or their number, or the refusal.
 fn words(answer: &[u8], rows: Option<&[Row]>) -> Vec<String> {
     let Some(rows) = rows else {
         let text = String::from_utf8_lossy(answer);
-        let refusal: Vec<&str> = text.lines().nth(1).expect("a refusal").split(' ').collect();
-        return vec![refusal[..2].join(" ")];
+        let refusal = text.lines().nth(1).expect("a refusal").to_string();
+        return vec![refusal];
     };
     let row = |row: &Row| format!("{} {}", row.kind as char, row.text);
     let all: Vec<String> = rows.iter().map(row).collect();

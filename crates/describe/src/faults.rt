@@ -23,14 +23,14 @@ use token_list::check::{Cursor, Refusal};
 use token_list::stream::{Peeked, peek};
 
 // The place of the first variant whose name, or whose number, is an earlier one's.
-#[derive(Drop)]
+#[derive(Clone, Copy)]
 pub enum Found {
     None,
     At(usize),
 }
 
 // The refusal of the first variant at fault.
-#[derive(Drop)]
+#[derive(Clone, Copy)]
 pub enum Faults {
     None,
     Refused(Refusal),

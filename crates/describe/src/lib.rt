@@ -1,4 +1,6 @@
 // What a declaration says, as texts: a variant's value, and the listing with the variants' numbers.
+#![tactic(auto)]
+
 mod faults;
 mod lines;
 pub mod listing;

@@ -19,21 +19,21 @@ use token_list::text::{digit_worth, text_is};
 const MAX_I64: usize = 9223372036854775807;
 
 // A literal's worth, where it is an integer of i64's range.
-#[derive(Drop)]
+#[derive(Clone, Copy)]
 pub enum Worth {
     None,
     Counts(usize),
 }
 
 // An integer: its size, and whether it is below 0.
-#[derive(Drop)]
+#[derive(Clone, Copy)]
 pub struct Number {
     pub below: bool,
     pub size: usize,
 }
 
 // A variant's number, or the refusal of a variant that has none.
-#[derive(Drop)]
+#[derive(Clone, Copy)]
 pub enum NumberStep {
     At(Number),
     Refused(Refusal),

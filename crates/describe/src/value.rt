@@ -31,7 +31,7 @@ pub const SCRATCH_BYTES: usize = 20;
 
 // Where a value's text stands: nowhere, from one place of the list to another, or in so many bytes
 // at the start of the scratch.
-#[derive(Drop)]
+#[derive(Clone, Copy)]
 pub enum ValuePlace {
     None,
     InList(usize, usize),

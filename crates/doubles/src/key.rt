@@ -11,7 +11,7 @@ const FACTOR: usize = 65599;
 const BOUND: usize = 140737488355328;
 
 // Where a key's text begins and ends, and its number.
-#[derive(Drop)]
+#[derive(Clone, Copy)]
 pub struct KeyAt {
     pub start: usize,
     pub end: usize,

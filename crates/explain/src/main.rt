@@ -1,5 +1,7 @@
 // The list on standard input explained: prints a line for each row with its role in words, or what the refusal means
 // and the rows near its place.
+#![tactic(auto)]
+
 ghost use Rattle.std.specs.Prelude.{◌≡◌, length};
 
 use libc::{STDIN_FILENO, STDOUT_FILENO};

@@ -1,44 +1,27 @@
--- The numbers of the answers about a source text.
+-- The number of the answer about a source text.
 use mathlib.Core.Path.{◌≡◌, refl, ap, ◌∙◌, sym}
-use mathlib.Core.Logic.{◌⊎◌, inl, inr}
 use mathlib.Core.Bool.{Bool, true, false, cond}
 use mathlib.Core.List.{List, []}
 use Prim.Native.Nat.{ℕ, ◌≤◌}
 use native.Mathlib.Omega.{arith}
 use lib.Dec.{ltb}
-use lib.ListN.{length}
+use lib.ListN.{length, take}
 use lib.Seq.{length-take-le}
 use Rattle.token_list.specs.Row.{Row}
 use Rattle.token_list.specs.Rows.{list_of}
 use Rattle.token_list.specs.Check.{END}
 use Rattle.token_list.specs.declared.check.Refusal.{Refusal}
-use Rattle.reading.specs.Declaration.{Kind, struct, enum}
-use Rattle.reading.specs.Answer.{read_number}
 use Rattle.source.specs.Brackets.{Matched, sound, faulty, brackets}
 use Rattle.source.specs.Lex.{lex}
 use Rattle.source.specs.Answer.{Answer, wrote, fault_at, refused, rows_of, within_limits, fitted, matched_answer, answer}
+use Rattle.source.specs.Answer.{output}
 use Rattle.source.specs.Tokens.{TokensAs}
 use Rattle.source.specs.declared.tokens.Tokens.{Tokens}
 use Rattle.source.specs.declared.tokens.Tokens.TheVariants as answers
 use Rattle.source.proofs.Reports.{answer_few}
-use Rattle.from_source.specs.Answer as reads
-use Rattle.from_source.specs.Answer.{TextRefusal, long, in_list, read_answer}
-use Rattle.from_source.specs.Contract.{kind_read, read_by, ReadAs}
-use Rattle.from_source.specs.declared.roles.SourceRead.{SourceRead}
-use Rattle.from_source.specs.declared.roles.SourceRead.TheVariants as sources
-use Rattle.exports.specs.Code.{accepted, refusal, code, decoded, kind_code}
-use Rattle.exports.specs.SourceCode.{TextCase, told, at, case_of, place_after, TextCoded, tokens_case, TokensInto}
-use Rattle.exports.specs.SourceCode.{read_case, ReadSourceInto}
-use Rattle.exports.proofs.Codes.{Small, gives_back, kind_small, read_small}
-
--- a case that is small, and the place that goes with it
-text_coded : {c d : TextCase} {p q r : ℕ} → c ≡ d → Small (case_of d) → r ≡ code (case_of c) → q ≡ place_after p c
-    → TextCoded d p q r
-text_coded {d = d} {p = p} same small e f =
-    let number = e ∙ ap (λ (x : TextCase). code (case_of x)) same in
-    record { code = number; back = ap decoded number ∙ gives_back (case_of d) small; place = f ∙ ap (place_after p) same }
-
--- ## A list
+use Rattle.exports.specs.Code.{refusal, code, decoded}
+use Rattle.exports.specs.SourceCode.{tokens_case, place_after, TokensInto}
+use Rattle.exports.proofs.Codes.{Small, gives_back}
 
 -- 41 and 8 have the end mark
 answer_refused : (n : ℕ) (s : List ℕ) (m p : ℕ) → answer n s ≡ refused m p → (8 ≤ m) × (p ≡ END)
@@ -66,19 +49,13 @@ answer_refused n s m p e = go (brackets [] (lex s)) e
     go sound q = limit (within_limits rs) q
     go (faulty offset) q = let z : ◌≡◌ {A = ℕ} 0 1 = cc in absurd (omega arith)
 
-tokens_small : (n : ℕ) (s : List ℕ) → Small (case_of (tokens_case (answer n s)))
+tokens_small : (n : ℕ) (s : List ℕ) → Small (tokens_case (answer n s))
 tokens_small n s = go (answer n s) refl
   where
-    go : (a : Answer) → answer n s ≡ a → Small (case_of (tokens_case a))
+    go : (a : Answer) → answer n s ≡ a → Small (tokens_case a)
     go (wrote t) e = omega (arith, answer_few n s t e)
     go (fault_at offset) e = (omega arith, omega arith)
     go (refused m p) e = let h = answer_refused n s m p e in (omega (arith, h.0), omega (arith, h.1))
-
--- by the case of the code's enum
-abbrev pub tokens_told : Tokens → TextCase
-tokens_told (answers.List n) = told (accepted n)
-tokens_told (answers.FaultAt offset) = at offset
-tokens_told (answers.Refused f) = told (refusal f.number f.place)
 
 module _ (s : List ℕ) {x y : List ℕ} {t : Tokens} (h : TokensAs x y (answer (length x) s) t) where
   pub tokens_low : (f : Refusal) → t ≡ answers.Refused f → f.place ≤ END
@@ -86,76 +63,31 @@ module _ (s : List ℕ) {x y : List ℕ} {t : Tokens} (h : TokensAs x y (answer 
       let k : TokensAs x y (answer (length x) s) (answers.Refused f) = rw e at h in
       omega (arith, (answer_refused (length x) s f.number f.place (sym k.answer)).1)
 
-  pub tokens_into : (w : Tokens) {p q r : ℕ} → t ≡ w → r ≡ code (case_of (tokens_told w))
-      → q ≡ place_after p (tokens_told w) → TokensInto s x y p q r
-  tokens_into w e c q =
-      let k : TokensAs x y (answer (length x) s) w = rw e at h in
-      record { coded = text_coded (same w k) (tokens_small (length x) s) c q; output = h.output }
-    where
-      same : (w : Tokens) → TokensAs x y (answer (length x) s) w → tokens_told w ≡ tokens_case (answer (length x) s)
-      same (answers.List n) k =
-          sym (ap (λ (m : ℕ). told (accepted m)) (length-take-le n y k.room)) ∙ ap tokens_case k.answer
-      same (answers.FaultAt offset) k = ap tokens_case k.answer
-      same (answers.Refused f) k = ap tokens_case k.answer
-
--- ## A declaration
-
-text_small : {s : List ℕ} {n p : ℕ} → TextRefusal read_number s n p → (1 ≤ n) × (p ≤ END)
-text_small (long e n p) = (omega (arith, n), omega (arith, p))
-text_small (in_list e o) = read_small o
-
-abbrev pub read_told_lem : SourceRead → TextCase
-read_told_lem sources.Struct = told (accepted 0)
-read_told_lem sources.Enum = told (accepted 1)
-read_told_lem (sources.FaultAt offset) = at offset
-read_told_lem (sources.Refused f) = told (refusal f.number f.place)
-
-read_told : (a : reads.Answer) → read_told_lem (read_by a) ≡ read_case a
-read_told (reads.declared d rs) = kinds d.kind
-  where
-    kinds : (k : Kind) → read_told_lem (kind_read k) ≡ told (accepted (kind_code k))
-    kinds struct = refl
-    kinds enum = refl
-read_told (reads.fault_at offset) = refl
-read_told (reads.refused n p) = refl
-
-read_refused : (a : reads.Answer) {f : Refusal} → read_by a ≡ sources.Refused f
-    → a ≡ reads.refused f.number f.place
-read_refused (reads.declared d rs) {f} e = absurd (kinds d.kind e)
-  where
-    kinds : (k : Kind) → kind_read k ≡ sources.Refused f → ⊥
-    kinds struct e = let z : ◌≡◌ {A = ℕ} 0 1 = cc in omega arith
-    kinds enum e = let z : ◌≡◌ {A = ℕ} 0 1 = cc in omega arith
-read_refused (reads.fault_at offset) e = let z : ◌≡◌ {A = ℕ} 0 1 = cc in absurd (omega arith)
-read_refused (reads.refused n p) {f} e =
-    let same : record { number = n; place = p } ≡ f = cc in
-    ap (λ (x : Refusal). reads.refused x.number x.place) same
-
-module _ (s : List ℕ) {x y : List ℕ} {t : SourceRead} (h : ReadAs s x y t) where
-  pub read_low : (f : Refusal) → t ≡ sources.Refused f → f.place ≤ END
-  read_low f e = (text_small (h.refusal _ _ (read_refused _ (sym h.answer ∙ e)))).1
-
-  pub read_into : (w : SourceRead) {p q r : ℕ} → t ≡ w → r ≡ code (case_of (read_told_lem w))
-      → q ≡ place_after p (read_told_lem w) → ReadSourceInto s x y p q r
-  read_into w {p} {q} e c f =
-      let same = ap read_told_lem (sym e ∙ h.answer) ∙ read_told (read_answer (length x) s) in
-      let coded = text_coded same (small (read_answer (length x) s) refl) c f in
+  into : {p q r : ℕ} → r ≡ code (tokens_case (answer (length x) s)) → q ≡ place_after p (answer (length x) s)
+      → TokensInto s x y p q r
+  into c q =
       record {
-        coded = coded;
-        buffer = h.buffer;
-        refusal = λ n m k. given (read_answer (length x) s) refl coded.place (sym coded.back ∙ k);
+        code = c;
+        back = ap decoded c ∙ gives_back (tokens_case (answer (length x) s)) (tokens_small (length x) s);
+        output = h.output;
+        place = q;
       }
-    where
-      small : (a : reads.Answer) → read_answer (length x) s ≡ a → Small (case_of (read_case a))
-      small (reads.declared d rs) e = kind_small d.kind
-      small (reads.fault_at offset) e = (omega arith, omega arith)
-      small (reads.refused n m) e = let k = text_small (h.refusal n m e) in (k.0, omega (arith, k.1))
 
-      given : {n m : ℕ} (a : reads.Answer) → read_answer (length x) s ≡ a → q ≡ place_after p (read_case a)
-          → case_of (read_case a) ≡ refusal n m
-          → (read_answer (length x) s ≡ reads.fault_at q) ⊎ TextRefusal read_number s n m
-      given (reads.declared d rs) e f k = let z : ◌≡◌ {A = ℕ} 0 1 = cc in absurd (omega arith)
-      given (reads.fault_at offset) e f k = inl (e ∙ ap reads.fault_at (sym f))
-      given {n} {m} (reads.refused i j) e f k =
-          let back : reads.refused i j ≡ reads.refused n m = cc in
-          inr (h.refusal n m (e ∙ back))
+  pub list_into : (n : ℕ) {p : ℕ} → t ≡ answers.List n → TokensInto s x y p p n
+  list_into n {p} e =
+      let k : TokensAs x y (answer (length x) s) (answers.List n) = rw e at h in
+      into
+      (sym (length-take-le n y k.room) ∙ ap (λ (a : Answer). code (tokens_case a)) k.answer)
+      (ap (place_after p) k.answer)
+
+  pub fault_into : (offset : ℕ) {p r : ℕ} → t ≡ answers.FaultAt offset → r ≡ code (refusal 40 END)
+      → TokensInto s x y p offset r
+  fault_into offset {p} e c =
+      let k : TokensAs x y (answer (length x) s) (answers.FaultAt offset) = rw e at h in
+      into (c ∙ ap (λ (a : Answer). code (tokens_case a)) k.answer) (ap (place_after p) k.answer)
+
+  pub refusal_into : (f : Refusal) {p r : ℕ} → t ≡ answers.Refused f → r ≡ code (refusal f.number f.place)
+      → TokensInto s x y p p r
+  refusal_into f {p} e c =
+      let k : TokensAs x y (answer (length x) s) (answers.Refused f) = rw e at h in
+      into (c ∙ ap (λ (a : Answer). code (tokens_case a)) k.answer) (ap (place_after p) k.answer)

@@ -1,4 +1,6 @@
 // The functions that C and Rust call. Each answers one number (see include/kusthrila.h).
+#![tactic(auto)]
+
 ghost use Rattle.std.specs.Prelude.{◌≡◌, ◌≤◌, min, length};
 ghost use Rattle.token_list.specs.Check.{END, check};
 ghost use Rattle.token_list.specs.Place.{check_number};
@@ -7,12 +9,10 @@ ghost use Rattle.writing.specs.Answer.{impl_generics_lem, type_generics_lem, wit
 ghost use Rattle.exports.specs.Code.{refusal, code, Coded, check_case, ReadInto, written_code, LowPlace};
 ghost use Rattle.exports.specs.Code.{WrittenInto, MAX_OUTPUT, GeneratedInto, ValueInto, TaggedInto};
 ghost use Rattle.exports.specs.Code.{NamesCompared};
-ghost use Rattle.exports.specs.SourceCode.{TokensInto, ReadSourceInto, RowPlace};
+ghost use Rattle.exports.specs.SourceCode.{TokensInto, RowPlace};
 
 use describe::value::ValuePlace;
 use describe::{listing, value};
-use from_source::roles;
-use from_source::roles::SourceRead;
 use generate::generics;
 use output::written::Written;
 use parse::item;
@@ -182,17 +182,6 @@ pub extern "C" fn kusthrila_same_name(a: &[u8], b: &[u8]) -> u64
     twice
 }
 
-// 40, whose offset is written to `place`.
-fn fault_at(offset: usize, place: &mut u64) -> u64
-    ensures { (result ≡ code (refusal 40 END)) × (place.new ≡ offset) }
-{
-    *place = offset as u64;
-    coded(Refusal {
-        number: 40,
-        place: END,
-    })
-}
-
 // Writes the token list of a source text at the start of the output: its length, or a refusal, of which 40 alone writes
 // its offset to `place`.
 #[unsafe(no_mangle)]
@@ -202,23 +191,14 @@ pub extern "C" fn kusthrila_tokens(text: &[u8], out: &mut [u8], place: &mut u64)
 {
     match tokens::write_tokens(text, out) {
         Tokens::List(n) => n as u64,
-        Tokens::FaultAt(offset) => fault_at(offset, place),
+        Tokens::FaultAt(offset) => {
+            *place = offset as u64;
+            coded(Refusal {
+                number: 40,
+                place: END,
+            })
+        }
         Tokens::Refused(r) => coded(r),
-    }
-}
-
-// Reads the declaration of a source text into role bytes: 0 for a struct, 1 for an enum, or a refusal, of which 40 alone
-// writes its offset to `place`.
-#[unsafe(no_mangle)]
-pub extern "C" fn kusthrila_read_source(text: &[u8], roles: &mut [u8], place: &mut u64) -> u64
-    ensures { ReadSourceInto text.now roles.old roles.new place.old
-        place.new result }
-{
-    match roles::read(text, roles) {
-        SourceRead::Struct => 0,
-        SourceRead::Enum => 1,
-        SourceRead::FaultAt(offset) => fault_at(offset, place),
-        SourceRead::Refused(r) => coded(r),
     }
 }
 

@@ -16,7 +16,7 @@ use Rattle.source.specs.Tokens.{answer_of, within, TokensAs}
 use Rattle.source.specs.declared.tokens.Tokens.{Tokens}
 use Rattle.source.specs.declared.tokens.Tokens.TheVariants as tokens
 use Rattle.describe.specs.Listing as listing
-use Rattle.from_source.specs.Answer.{written_answer, listed_answer_lem, listing_answer, TextRefusal, long, in_list}
+use Rattle.from_source.specs.Answer.{written_answer, listed_answer, listing_answer, TextRefusal, long, in_list}
 use Rattle.from_source.proofs.Lists.{roomy}
 use Rattle.from_source.specs.Contract.{written_of, SourceWrittenAs}
 use Rattle.from_source.specs.declared.listing.SourceWritten.{SourceWritten}
@@ -31,9 +31,9 @@ list_told s {y = y} room h e =
 pub list_within : {x y : List ℕ} {a : Answer} {t : Tokens} {n : ℕ} → TokensAs x y a t → t ≡ tokens.List n → n ≤ length y
 list_within {y = y} h e = subst (within y) e h.room
 
-listing_as : (n : ℕ) (s : List ℕ) {a : Answer} → answer MAX_BYTES s ≡ a → listing_answer n s ≡ listed_answer_lem n a
+listing_as : (n : ℕ) (s : List ℕ) {a : Answer} → answer MAX_BYTES s ≡ a → listing_answer n s ≡ listed_answer n a
 unfolding listing_answer
-listing_as n s e = ap (listed_answer_lem n) e
+listing_as n s e = ap (listed_answer n) e
 
 outputs_same : (x : List ℕ) (a : outputs.Answer) → outputs.output x a ≡ output x (written_answer a)
 outputs_same x (outputs.wrote t) = refl

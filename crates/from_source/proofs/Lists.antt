@@ -1,20 +1,20 @@
 -- The list of a source text always has room in a buffer of as many bytes as a list may have.
 use mathlib.Core.Path.{◌≡◌, refl, ap, sym}
-use mathlib.Core.Bool.{Bool, true, false, cond}
+use mathlib.Core.Bool.{Bool, true, false, cond, ◌&&◌}
 use mathlib.Core.List.{List, []}
 use Prim.Native.Nat.{ℕ, ◌≤◌}
 use native.Mathlib.Omega.{arith}
-use borrow.Author.Tests.{ltb-true}
-use lib.Dec.{ltb}
+use borrow.Author.Tests.{leb-true, ltb-true}
+use lib.Dec.{leb, ltb}
 use lib.ListN.{length}
-use Rattle.token_list.specs.Layout.{MAX_BYTES}
+use Rattle.token_list.specs.Layout.{MAX_BYTES, MAX_ROWS}
 use Rattle.token_list.specs.Row.{Row}
 use Rattle.token_list.specs.Rows.{list_of}
 use Rattle.token_list.specs.Check.{END}
+use Rattle.token_list.proofs.Texts.{and_parts}
 use Rattle.source.specs.Brackets.{Matched, sound, faulty, brackets}
 use Rattle.source.specs.Lex.{lex}
 use Rattle.source.specs.Answer.{Answer, wrote, refused, rows_of, within_limits, fitted, matched_answer, answer}
-use Rattle.source.proofs.Measures.{limits}
 use Rattle.from_source.specs.Answer.{Roomy}
 
 abbrev number_of : Answer → ℕ
@@ -29,7 +29,7 @@ place_of (refused n p) = p
 
 -- what is refused of a text is 40, or 41 at the end mark
 pub roomy : (s : List ℕ) → Roomy s
-unfolding answer
+unfolding answer within_limits
 roomy s = record { limits = λ n p e. go n p (brackets [] (lex s)) e }
   where
     rs : List Row
@@ -43,7 +43,9 @@ roomy s = record { limits = λ n p e. go n p (brackets [] (lex s)) e }
     limit : (n p : ℕ) (b : Bool) → within_limits rs ≡ b
         → cond b (fitted MAX_BYTES (list_of false rs)) (refused 41 END) ≡ refused n p → (n ≡ 41) × (p ≡ END)
     limit n p true h q =
-        fit n p (ltb MAX_BYTES (length (list_of false rs))) refl (limits rs h).bytes q
+        let both = (and_parts (leb (length (list_of false rs)) MAX_BYTES && leb (length rs) MAX_ROWS) _ h).0 in
+        let few = leb-true _ _ (and_parts (leb (length (list_of false rs)) MAX_BYTES) _ both).0 in
+        fit n p (ltb MAX_BYTES (length (list_of false rs))) refl few q
     limit n p false h q = (sym (ap number_of q), sym (ap place_of q))
 
     go : (n p : ℕ) (m : Matched) → matched_answer MAX_BYTES rs m ≡ refused n p → (n ≡ 41) × (p ≡ END)

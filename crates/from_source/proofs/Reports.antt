@@ -17,7 +17,7 @@ use Rattle.source.proofs.Reports.{position_few}
 use Rattle.describe.specs.Listing as listing
 use Rattle.describe.specs.Listing.{MOST, listing_number}
 use Rattle.describe.proofs.Length.{fits}
-use Rattle.from_source.specs.Answer.{written_answer, listed_answer_lem, listing_answer, listed_fully, full_answer}
+use Rattle.from_source.specs.Answer.{written_answer, listed_answer, listing_answer, listed_fully, full_answer}
 use Rattle.from_source.specs.Answer.{TextRefusal}
 use Rattle.from_source.specs.Report.{place_offset, placed_text, listing_text}
 use Rattle.from_source.specs.Contract.{SourceWrittenAs, at_most, ReportedListing}
@@ -66,7 +66,7 @@ listing_few n s t e = go (source.answer MAX_BYTES s) e
         let same : u ≡ t = cc in omega (arith, ap length same, (fits list n).longest u f)
     write list (outputs.refused m p) f q = let z : ◌≡◌ {A = ℕ} 0 1 = cc in absurd (omega arith)
 
-    go : (a : Answer) → listed_answer_lem n a ≡ wrote t → length t ≤ MOST
+    go : (a : Answer) → listed_answer n a ≡ wrote t → length t ≤ MOST
     go (wrote list) q = write list (listing.answer list n) refl q
     go (fault_at offset) q = let z : ◌≡◌ {A = ℕ} 0 1 = cc in absurd (omega arith)
     go (refused m p) q = let z : ◌≡◌ {A = ℕ} 0 1 = cc in absurd (omega arith)
@@ -76,7 +76,7 @@ room_same : (n : ℕ) (s : List ℕ) → MOST ≤ n → listing_answer n s ≡ f
 unfolding listing_answer full_answer
 room_same n s h = go (source.answer MAX_BYTES s)
   where
-    go : (a : Answer) → listed_answer_lem n a ≡ listed_fully a
+    go : (a : Answer) → listed_answer n a ≡ listed_fully a
     go (wrote list) = ap written_answer ((fits list n).room h)
     go (fault_at offset) = refl
     go (refused m p) = refl

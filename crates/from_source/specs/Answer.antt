@@ -28,14 +28,14 @@ written_answer (outputs.wrote t) = source.wrote t
 written_answer (outputs.refused n p) = source.refused n p
 
 -- from the answer that gives the list, in an output of n bytes
-abbrev pub listed_answer_lem : ℕ → source.Answer → source.Answer
-listed_answer_lem n (source.wrote list) = written_answer (listing.answer list n)
-listed_answer_lem n (source.fault_at offset) = source.fault_at offset
-listed_answer_lem n (source.refused m p) = source.refused m p
+abbrev pub listed_answer : ℕ → source.Answer → source.Answer
+listed_answer n (source.wrote list) = written_answer (listing.answer list n)
+listed_answer n (source.fault_at offset) = source.fault_at offset
+listed_answer n (source.refused m p) = source.refused m p
 
 -- of a text, whose list has room for as many bytes as a list may have
 unfoldable pub listing_answer : ℕ → List ℕ → source.Answer
-listing_answer n s = listed_answer_lem n (source.answer MAX_BYTES s)
+listing_answer n s = listed_answer n (source.answer MAX_BYTES s)
 
 -- the same where there is room
 abbrev pub listed_fully : source.Answer → source.Answer

@@ -5,13 +5,14 @@ ghost use Rattle.describe.specs.Listing.{listing_number};
 ghost use Rattle.from_source.specs.Answer.{listing_answer, TextRefusal};
 ghost use Rattle.from_source.specs.Contract.{written_of, SourceWrittenAs};
 
+use crate::list::list_buffer;
 use describe::listing;
 use output::written::Written;
-use source::tokens::{Tokens, list_buffer, write_tokens};
+use source::tokens::{Tokens, write_tokens};
 use token_list::check::Refusal;
 
 // The length of the text, which stands at the start of the output; 40 at an offset of the source; or another refusal.
-#[derive(Drop)]
+#[derive(Clone, Copy)]
 pub enum SourceWritten {
     Text(usize),
     FaultAt(usize),

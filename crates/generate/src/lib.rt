@@ -1,4 +1,6 @@
 // virtue's src/generate, as far as the writers of generics need it.
+#![tactic(auto)]
+
 pub mod generics;
 pub mod lent;
 pub mod names;

@@ -97,7 +97,7 @@ pub fn add_names(
 }
 
 // How long two texts of added names are, lifetimes and types.
-#[derive(Drop)]
+#[derive(Clone, Copy)]
 pub struct Gathered {
     pub lifetimes: usize,
     pub types: usize,

@@ -12,7 +12,7 @@ use token_list::check::Cursor;
 use token_list::stream::Token;
 
 // Where constraints stand in the list that was read.
-#[derive(Drop)]
+#[derive(Clone, Copy)]
 pub struct ConstraintsAt {
     pub from: Cursor,
     pub to: Cursor,

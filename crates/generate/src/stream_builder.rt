@@ -14,7 +14,7 @@ use token_list::stream::{Token, token_at};
 
 // How many rows and bytes the list has, where both stop at a number past every output; and whether
 // its rows have marks.
-#[derive(Drop)]
+#[derive(Clone, Copy)]
 pub struct StreamBuilder {
     pub rows: usize,
     pub bytes: usize,

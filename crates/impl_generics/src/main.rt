@@ -1,5 +1,7 @@
 // The generics of the declaration on standard input, as they stand behind `impl`: prints a token list, or the
 // refusal. The arguments are added names: one that begins with `'` is a lifetime, any other a type.
+#![tactic(auto)]
+
 ghost use Rattle.std.specs.Prelude.{◌≡◌, ◌≤◌, length};
 
 use generate::names::{Gathered, add_argument};

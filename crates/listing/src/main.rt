@@ -1,4 +1,6 @@
 // The listing of the declaration on standard input: prints its fields, variants and numbers, or the refusal.
+#![tactic(auto)]
+
 ghost use Rattle.std.specs.Prelude.{◌≡◌, length};
 
 use libc::{STDIN_FILENO, STDOUT_FILENO};

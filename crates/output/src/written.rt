@@ -8,7 +8,7 @@ use crate::put::put_refusal;
 use token_list::check::Refusal;
 
 // The length of the text, which stands at the start of the output, or a refusal.
-#[derive(Drop)]
+#[derive(Clone, Copy)]
 pub enum Written {
     Text(usize),
     Refused(Refusal),

@@ -13,7 +13,7 @@ use token_list::stream::{Peeked, Token, peek, punct_at};
 
 // A `#`: whether it is an idle mark, the token after it, which is its group's opening row or the next
 // `#`, and the cursor from which to go on.
-#[derive(Drop)]
+#[derive(Clone, Copy)]
 pub struct AttributeAt {
     pub idle: bool,
     pub token: Token,
@@ -21,7 +21,7 @@ pub struct AttributeAt {
 }
 
 // One `#`: an attribute or an idle mark was taken, none stands here, or a refusal.
-#[derive(Drop)]
+#[derive(Clone, Copy)]
 pub enum AttributeStep {
     One(AttributeAt),
     Done,

@@ -8,27 +8,27 @@ use crate::utils::{MaybeWord, PlacedName, consume_ident, wrong_token};
 use token_list::check::{Cursor, Refusal};
 use token_list::text::text_is;
 
-#[derive(Drop)]
+#[derive(Clone, Copy)]
 pub enum DataType {
     Struct,
     Enum,
 }
 
 // What kind of item it is, and its name.
-#[derive(Drop)]
+#[derive(Clone, Copy)]
 pub struct Head {
     pub kind: DataType,
     pub name: PlacedName,
 }
 
-#[derive(Drop)]
+#[derive(Clone, Copy)]
 pub enum HeadStep {
     At(Head),
     Refused(Refusal),
 }
 
 // The item's word, and the cursor after it.
-#[derive(Drop)]
+#[derive(Clone, Copy)]
 pub enum KindStep {
     At(DataType, Cursor),
     Refused(Refusal),

@@ -17,13 +17,13 @@ use token_list::check::{Cursor, Refusal};
 use token_list::stream::{Peeked, Token, look, peek, skip};
 
 // A type: its run, and the cursor after the `,` that may follow.
-#[derive(Drop)]
+#[derive(Clone, Copy)]
 pub struct TypeAt {
     pub run: Run,
     pub next: Cursor,
 }
 
-#[derive(Drop)]
+#[derive(Clone, Copy)]
 pub enum TypeStep {
     At(TypeAt),
     Refused(Refusal),
@@ -31,13 +31,13 @@ pub enum TypeStep {
 
 // Where a field's visibility and type stand, and the cursor after the field. Its attributes are read
 // where it begins itself.
-#[derive(Drop)]
+#[derive(Clone, Copy)]
 pub struct UnnamedFieldAt {
     pub visibility: Cursor,
     pub typed: TypeAt,
 }
 
-#[derive(Drop)]
+#[derive(Clone, Copy)]
 pub struct FieldAt {
     pub name: Token,
     pub visibility: Cursor,
@@ -46,7 +46,7 @@ pub struct FieldAt {
 
 // A named field; the end, after attributes and, from the first cursor on, a visibility that belong to
 // none; or a refusal.
-#[derive(Drop)]
+#[derive(Clone, Copy)]
 pub enum FieldStep {
     One(FieldAt),
     Done(Cursor, Cursor),
@@ -54,7 +54,7 @@ pub enum FieldStep {
 }
 
 // A named field's name and the cursor after it, without the places of its other parts.
-#[derive(Drop)]
+#[derive(Clone, Copy)]
 pub enum NamedStep {
     One(Token, Cursor),
     Done(Cursor),
@@ -62,14 +62,14 @@ pub enum NamedStep {
 }
 
 // The cursor after a thing, without the places of its parts.
-#[derive(Drop)]
+#[derive(Clone, Copy)]
 pub enum NextStep {
     One(Cursor),
     Done(Cursor),
     Refused(Refusal),
 }
 
-#[derive(Drop)]
+#[derive(Clone, Copy)]
 pub enum UnnamedFieldStep {
     One(UnnamedFieldAt),
     Done(Cursor),

@@ -20,7 +20,7 @@ use crate::utils::{NameStep, consume_punct_if, ident_eq, is_punct, stands_punct,
 use token_list::check::{Cursor, END, Refusal};
 use token_list::stream::{Peeked, Token, peek, punct_at};
 
-#[derive(Drop)]
+#[derive(Clone, Copy)]
 pub enum ParameterKind {
     Lifetime,
     Const,
@@ -39,7 +39,7 @@ pub fn is_lifetime(kind: ParameterKind) -> bool
 }
 
 // What a parameter's run is: absent, a bound or a const's type after `:`, or a default after `=`.
-#[derive(Drop)]
+#[derive(Clone, Copy)]
 pub enum RunPart {
     Absent,
     Bound,
@@ -49,7 +49,7 @@ pub enum RunPart {
 // Where a parameter's name and run stand, and the cursor after the parameter. A run that is absent has no
 // tokens. The part stands beside the run: an enum that holds the run is copied from step to step with its
 // padding (docs/PERFORMANCE.md), and its proofs take longer.
-#[derive(Drop)]
+#[derive(Clone, Copy)]
 pub struct ParameterAt {
     pub kind: ParameterKind,
     pub name: Token,
@@ -59,7 +59,7 @@ pub struct ParameterAt {
 }
 
 // A parameter with the `,` that may follow it, the closing `>`, or a refusal.
-#[derive(Drop)]
+#[derive(Clone, Copy)]
 pub enum ParameterStep {
     One(ParameterAt),
     Done(Cursor),
@@ -67,27 +67,27 @@ pub enum ParameterStep {
 }
 
 // A parameter's run, and what it is.
-#[derive(Drop)]
+#[derive(Clone, Copy)]
 pub enum ParameterRunStep {
     At(RunPart, Run),
     Refused(Refusal),
 }
 
 // Where a list of things ended, and how many there were.
-#[derive(Drop)]
+#[derive(Clone, Copy)]
 pub enum CountStep {
     At(Cursor, usize),
     Refused(Refusal),
 }
 
 // No where clause, or its run.
-#[derive(Drop)]
+#[derive(Clone, Copy)]
 pub enum ClauseAt {
     Absent,
     Where(Run),
 }
 
-#[derive(Drop)]
+#[derive(Clone, Copy)]
 pub enum ClauseStep {
     At(ClauseAt, Cursor),
     Refused(Refusal),

@@ -18,7 +18,7 @@ use token_list::check::{Checked, Cursor, END, Refusal, check, start};
 // What was read: where the visibility is read (the attributes are where the item begins), the kind, the
 // name, past which the generics are read, how many parameters and fields or variants there are, its where
 // clause, the cursor at which its body is read, and where it ended.
-#[derive(Drop)]
+#[derive(Clone, Copy)]
 pub struct ItemAt {
     pub visibility: Cursor,
     pub kind: DataType,
@@ -30,14 +30,14 @@ pub struct ItemAt {
     pub next: Cursor,
 }
 
-#[derive(Drop)]
+#[derive(Clone, Copy)]
 pub enum ItemStep {
     At(ItemAt),
     Refused(Refusal),
 }
 
 // The answer: a struct or an enum, or a refusal.
-#[derive(Drop)]
+#[derive(Clone, Copy)]
 pub enum Parse {
     Struct(ItemAt),
     Enum(ItemAt),

@@ -12,7 +12,7 @@ use token_list::check::{Cursor, Refusal};
 use token_list::stream::{Peeked, Token, peek};
 
 // What a run stops at, at depth 0.
-#[derive(Drop)]
+#[derive(Clone, Copy)]
 pub struct Stops {
     pub comma: bool,
     pub angle: bool,
@@ -20,7 +20,7 @@ pub struct Stops {
 }
 
 // What ended a run.
-#[derive(Drop)]
+#[derive(Clone, Copy)]
 pub enum Ending {
     Comma,
     Angle,
@@ -29,7 +29,7 @@ pub enum Ending {
 }
 
 // A run: where it begins and where it stopped, what ended it, and whether an angle was open there.
-#[derive(Drop)]
+#[derive(Clone, Copy)]
 pub struct Run {
     pub from: Cursor,
     pub to: Cursor,
@@ -38,7 +38,7 @@ pub struct Run {
 }
 
 // Where a run stopped, what ended it, and whether an angle was open there.
-#[derive(Drop)]
+#[derive(Clone, Copy)]
 pub enum RunStep {
     At(Cursor, Ending, bool),
     Refused(Refusal),
@@ -46,7 +46,7 @@ pub enum RunStep {
 
 // What a token is to a run: it belongs, with the depth and whether a `-` was last from then on; it
 // ends the run; or it is a `>` with nothing open.
-#[derive(Drop)]
+#[derive(Clone, Copy)]
 pub enum Verdict {
     Belongs(usize, bool),
     Ends(Ending),
@@ -55,7 +55,7 @@ pub enum Verdict {
 
 // A token of a run: the cursor, the depth and whether a `-` was last, after one that belongs; or the
 // run ended before it.
-#[derive(Drop)]
+#[derive(Clone, Copy)]
 pub enum RunToken {
     On(Cursor, usize, bool),
     Ended(Ending),

@@ -17,7 +17,7 @@ use token_list::stream::{Peeked, Token, has_punct, look, peek, punct_at, skip};
 use token_list::text::text_is;
 
 // The answer of a reader: where it stopped, or a refusal.
-#[derive(Drop)]
+#[derive(Clone, Copy)]
 pub enum Step {
     At(Cursor),
     Refused(Refusal),
@@ -25,42 +25,42 @@ pub enum Step {
 
 // A word: the ident's token and row, which is not the row where the word begins where it is wrapped,
 // and the cursor past it and what wraps it.
-#[derive(Drop)]
+#[derive(Clone, Copy)]
 pub struct Word {
     pub token: Token,
     pub row: usize,
     pub next: Cursor,
 }
 
-#[derive(Drop)]
+#[derive(Clone, Copy)]
 pub enum MaybeWord {
     Missing,
     Found(Word),
 }
 
 // Whether a punctuation was taken, and the cursor then.
-#[derive(Drop)]
+#[derive(Clone, Copy)]
 pub struct MaybePunct {
     pub taken: bool,
     pub next: Cursor,
 }
 
 // A word that is a name: its token, the row where it begins, and the cursor past it.
-#[derive(Drop)]
+#[derive(Clone, Copy)]
 pub struct PlacedName {
     pub token: Token,
     pub place: usize,
     pub next: Cursor,
 }
 
-#[derive(Drop)]
+#[derive(Clone, Copy)]
 pub enum PlacedNameStep {
     At(PlacedName),
     Refused(Refusal),
 }
 
 // An ident that must stand there, with the cursor past it, or a refusal.
-#[derive(Drop)]
+#[derive(Clone, Copy)]
 pub enum NameStep {
     At(Token, Cursor),
     Refused(Refusal),

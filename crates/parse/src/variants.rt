@@ -26,28 +26,28 @@ const MAX_I64: u64 = 9223372036854775807;
 const MAX_TENTH: u64 = MAX_I64 / 10;
 
 // A variant's group: none, or the cursor inside it.
-#[derive(Drop)]
+#[derive(Clone, Copy)]
 pub enum FieldsAt {
     Unit,
     Named(Cursor),
     Tuple(Cursor),
 }
 
-#[derive(Drop)]
+#[derive(Clone, Copy)]
 pub enum FieldsStep {
     At(FieldsAt, Cursor),
     Refused(Refusal),
 }
 
 // A variant's value: none, a literal with its row, or the literal after a `-`.
-#[derive(Drop)]
+#[derive(Clone, Copy)]
 pub enum ValueAt {
     Absent,
     Literal(Token, usize),
     Negative(Token),
 }
 
-#[derive(Drop)]
+#[derive(Clone, Copy)]
 pub enum ValueStep {
     At(ValueAt, Cursor),
     Refused(Refusal),
@@ -55,7 +55,7 @@ pub enum ValueStep {
 
 // Where a variant's parts stand, and the cursor after it: its name's token, and the row where its name
 // begins, which is another one where it is wrapped. Its attributes are read where it begins itself.
-#[derive(Drop)]
+#[derive(Clone, Copy)]
 pub struct VariantAt {
     pub name: Token,
     pub place: usize,
@@ -64,7 +64,7 @@ pub struct VariantAt {
     pub next: Cursor,
 }
 
-#[derive(Drop)]
+#[derive(Clone, Copy)]
 pub enum VariantStep {
     One(VariantAt),
     Done(Cursor),

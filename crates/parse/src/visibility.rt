@@ -10,7 +10,7 @@ use token_list::check::Cursor;
 use token_list::stream::{Peeked, Token, look, peek};
 
 // How `pub` stands: not at all, plain, or wrapped in a group.
-#[derive(Drop)]
+#[derive(Clone, Copy)]
 pub enum PubWord {
     Absent,
     Plain,
@@ -18,7 +18,7 @@ pub enum PubWord {
 }
 
 // A visibility: how its `pub` stands, the cursor at which its scope is read, and the one after it.
-#[derive(Drop)]
+#[derive(Clone, Copy)]
 pub struct VisibilityAt {
     pub word: PubWord,
     pub scope: Cursor,
@@ -26,7 +26,7 @@ pub struct VisibilityAt {
 }
 
 // No `pub`, or the cursor past it.
-#[derive(Drop)]
+#[derive(Clone, Copy)]
 pub enum PubStep {
     Absent,
     Plain(Cursor),

@@ -13,8 +13,7 @@ use Rattle.token_list.proofs.Texts.{slice-none, slice_next, and_both, and_parts}
 use Rattle.reading.specs.Token.{worth, worth_from, negatable}
 use Rattle.replay.specs.Header.{topic_name, run, lower, section_named, ended, sized, named, header}
 use Rattle.replay.specs.declared.header.Topic.{Topic}
-use Rattle.replay.specs.declared.header.Topic.TheVariants.{Check, Roles, Every, Listing, Tagged}
-use Rattle.replay.specs.declared.header.Topic.TheVariants.{Tokens, Generics}
+use Rattle.replay.specs.declared.header.Topic.TheVariants.{Check, Roles, Every, Listing, Tagged, Generics}
 use Rattle.replay.specs.declared.header.Writer.TheVariants as writers
 use Rattle.replay.specs.declared.header.Section.{Section}
 use Rattle.replay.specs.declared.header.Header.{Header}
@@ -148,7 +147,6 @@ topic_few Roles = omega arith
 topic_few Every = omega arith
 topic_few Listing = omega arith
 topic_few Tagged = omega arith
-topic_few Tokens = omega arith
 topic_few (Generics writers.Impl) = omega arith
 topic_few (Generics writers.Type) = omega arith
 topic_few (Generics writers.Additional) = omega arith

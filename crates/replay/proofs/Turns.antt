@@ -15,7 +15,7 @@ use Rattle.replay.specs.Turn.{taken, compared, begun, sought, HEADER, follows, S
 use Rattle.replay.specs.declared.window.Window.{Window}
 use Rattle.replay.specs.declared.state.State.{State}
 use Rattle.replay.specs.declared.header.Topic.{Topic}
-use Rattle.replay.specs.declared.header.Section.TheVariants.{Case, Answer, Other}
+use Rattle.replay.specs.declared.header.Section.TheVariants.{List as Listed, Answer, Other}
 use Rattle.replay.specs.declared.header.Header.{Header}
 use Rattle.replay.specs.declared.header.Header.TheVariants.{Found, Malformed}
 use Rattle.replay.specs.declared.Turn.{Turn}
@@ -53,7 +53,7 @@ placed_ready b c n s w p r = record { unread = ready_within b c n s.at w p.unrea
 module _ {k m : ℕ} (s : State) (p : Placed k m s) where
   begun_ahead : (h : Header) → headed s.at.to h → ahead k m (begun s h)
   begun_ahead Malformed h = tt
-  begun_ahead (Found Case n start) h = record
+  begun_ahead (Found Listed n start) h = record
       { unread = record { order = h; room = p.unread.room }; list = p.list }
   begun_ahead (Found (Answer t) n start) h = record
       { unread = record { order = h; room = p.unread.room }; list = p.list }

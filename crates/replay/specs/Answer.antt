@@ -10,14 +10,11 @@ use Rattle.report.specs.Text.{answer_text}
 use Rattle.reading.specs.Role as role
 use Rattle.reading.specs.Answer.{Answer, declared, refused, answer}
 use Rattle.describe.specs.Listing as listing
-use Rattle.source.specs.Answer as source
-use Rattle.source.specs.Report.{tokens_text}
 use Rattle.writing.specs.Answer as writing
 use Rattle.tagged_reading.specs.Reading as tagged
 use Rattle.tagged_reading.specs.Answer.{answer as tagged_answer}
 use Rattle.replay.specs.declared.header.Topic.{Topic}
-use Rattle.replay.specs.declared.header.Topic.TheVariants.{Check, Roles, Every, Listing, Tagged}
-use Rattle.replay.specs.declared.header.Topic.TheVariants.{Tokens, Generics}
+use Rattle.replay.specs.declared.header.Topic.TheVariants.{Check, Roles, Every, Listing, Tagged, Generics}
 use Rattle.replay.specs.declared.header.Writer.{Writer}
 use Rattle.replay.specs.declared.header.Writer.TheVariants as writers
 
@@ -80,12 +77,11 @@ tagged_fits t tagged.none = same t (bytes "none\n")
 tagged_fits t (tagged.read es rs) = accepted_fits true t rs
 tagged_fits t (tagged.refused n p) = same t (refusal_text n p)
 
--- whether a section's bytes are the answer to a list, or to a source text
+-- whether a section's bytes are the answer to a list
 abbrev pub right : Topic → List ℕ → List ℕ → Bool
 right Check l t = same t (answer_text (check l))
 right Roles l t = roles_fit t (answer l MAX_ROWS)
 right Every l t = every_fits t (answer l MAX_ROWS)
 right Listing l t = written_fits t (listing.answer l OUTPUT)
 right Tagged l t = tagged_fits t (tagged_answer PREFIX l MAX_ROWS)
-right Tokens l t = same t (tokens_text l (source.answer OUTPUT l))
 right (Generics w) l t = written_fits t (writing.answer (writer_of w) l OUTPUT)

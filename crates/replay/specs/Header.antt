@@ -4,20 +4,16 @@ use Rattle.token_list.specs.Byte.{code, bytes, SPACE, LF}
 use Rattle.token_list.specs.Text.{same, between, digit}
 use Rattle.reading.specs.Token.{worth}
 use Rattle.replay.specs.declared.header.Topic.{Topic}
-use Rattle.replay.specs.declared.header.Topic.TheVariants.{Check, Roles, Every, Listing, Tagged}
-use Rattle.replay.specs.declared.header.Topic.TheVariants.{Tokens, Generics}
+use Rattle.replay.specs.declared.header.Topic.TheVariants.{Check, Roles, Every, Listing, Tagged, Generics}
 use Rattle.replay.specs.declared.header.Writer.{Writer}
 use Rattle.replay.specs.declared.header.Writer.TheVariants as writers
 use Rattle.replay.specs.declared.header.Section.{Section}
-use Rattle.replay.specs.declared.header.Section.TheVariants.{Case, Answer, Other}
+use Rattle.replay.specs.declared.header.Section.TheVariants.{List as Listed, Answer, Other}
 use Rattle.replay.specs.declared.header.Header.{Header}
 use Rattle.replay.specs.declared.header.Header.TheVariants.{Found, Malformed}
 
 abbrev pub LIST : List ℕ
 LIST = bytes "list"
-
-abbrev pub TEXT : List ℕ
-TEXT = bytes "text"
 
 abbrev pub writer_name : Writer → List ℕ
 writer_name writers.Impl = bytes "impl"
@@ -30,21 +26,17 @@ topic_name Roles = bytes "roles"
 topic_name Every = bytes "every"
 topic_name Listing = bytes "listing"
 topic_name Tagged = bytes "tagged"
-topic_name Tokens = bytes "tokens"
 topic_name (Generics w) = writer_name w
-
-abbrev pub source_named : List ℕ → Section
-source_named t = cond (same t TEXT) Case (cond (same t (topic_name Tokens)) (Answer Tokens) Other)
 
 abbrev pub generics_named : List ℕ → Section
 generics_named t =
     cond (same t (writer_name writers.Impl)) (Answer (Generics writers.Impl))
     (cond (same t (writer_name writers.Type)) (Answer (Generics writers.Type))
-    (cond (same t (writer_name writers.Additional)) (Answer (Generics writers.Additional)) (source_named t)))
+    (cond (same t (writer_name writers.Additional)) (Answer (Generics writers.Additional)) Other))
 
 abbrev pub section_named : List ℕ → Section
 section_named t =
-    cond (same t LIST) Case
+    cond (same t LIST) Listed
     (cond (same t (topic_name Check)) (Answer Check)
     (cond (same t (topic_name Roles)) (Answer Roles)
     (cond (same t (topic_name Every)) (Answer Every)

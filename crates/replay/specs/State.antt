@@ -5,10 +5,9 @@ use Rattle.replay.specs.declared.window.Window.{Window}
 use Rattle.replay.specs.declared.state.State.{State}
 use Rattle.replay.specs.declared.state.Counts.{Counts}
 use Rattle.replay.specs.declared.header.Topic.{Topic}
-use Rattle.replay.specs.declared.header.Topic.TheVariants.{Check, Roles, Every, Listing, Tagged}
-use Rattle.replay.specs.declared.header.Topic.TheVariants.{Tokens, Generics}
+use Rattle.replay.specs.declared.header.Topic.TheVariants.{Check, Roles, Every, Listing, Tagged, Generics}
 
--- the unread bytes stand in a buffer of n, the list or text in one of m
+-- the unread bytes stand in a buffer of n, the list in one of m
 pub record Placed (n m : ℕ) (s : State) : Type 0 where
   pub unread : Within n s.at
   pub list : s.list ≤ m
@@ -25,16 +24,15 @@ more n = cond (ltb n MAX_USIZE) (n + 1) n
 abbrev pub differing : Bool → ℕ → ℕ
 differing ok n = cond ok n (more n)
 
--- the eight counts
-abbrev pub tally : ℕ → ℕ → ℕ → ℕ → ℕ → ℕ → ℕ → ℕ → Counts
-tally checks roles everys listings taggeds tokens generics differences =
+-- the seven counts
+abbrev pub tally : ℕ → ℕ → ℕ → ℕ → ℕ → ℕ → ℕ → Counts
+tally checks roles everys listings taggeds generics differences =
     record {
       checks = checks;
       roles = roles;
       everys = everys;
       listings = listings;
       taggeds = taggeds;
-      tokens = tokens;
       generics = generics;
       differences = differences;
     }
@@ -42,30 +40,27 @@ tally checks roles everys listings taggeds tokens generics differences =
 -- an answer about a topic is one more of its own, and a difference exactly where it is not right
 abbrev pub counted : Counts → Topic → Bool → Counts
 counted n Check ok =
-    tally (more n.checks) n.roles n.everys n.listings n.taggeds n.tokens n.generics
+    tally (more n.checks) n.roles n.everys n.listings n.taggeds n.generics
     (differing ok n.differences)
 counted n Roles ok =
-    tally n.checks (more n.roles) n.everys n.listings n.taggeds n.tokens n.generics
+    tally n.checks (more n.roles) n.everys n.listings n.taggeds n.generics
     (differing ok n.differences)
 counted n Every ok =
-    tally n.checks n.roles (more n.everys) n.listings n.taggeds n.tokens n.generics
+    tally n.checks n.roles (more n.everys) n.listings n.taggeds n.generics
     (differing ok n.differences)
 counted n Listing ok =
-    tally n.checks n.roles n.everys (more n.listings) n.taggeds n.tokens n.generics
+    tally n.checks n.roles n.everys (more n.listings) n.taggeds n.generics
     (differing ok n.differences)
 counted n Tagged ok =
-    tally n.checks n.roles n.everys n.listings (more n.taggeds) n.tokens n.generics
-    (differing ok n.differences)
-counted n Tokens ok =
-    tally n.checks n.roles n.everys n.listings n.taggeds (more n.tokens) n.generics
+    tally n.checks n.roles n.everys n.listings (more n.taggeds) n.generics
     (differing ok n.differences)
 counted n (Generics w) ok =
-    tally n.checks n.roles n.everys n.listings n.taggeds n.tokens (more n.generics)
+    tally n.checks n.roles n.everys n.listings n.taggeds (more n.generics)
     (differing ok n.differences)
 
 -- nothing is read, and nothing counted
 abbrev pub START : State
-START = record { at = record { from = 0; to = 0 }; skip = 0; list = 0; cases = 0; counts = tally 0 0 0 0 0 0 0 0 }
+START = record { at = record { from = 0; to = 0 }; skip = 0; list = 0; cases = 0; counts = tally 0 0 0 0 0 0 0 }
 
 -- the same with other unread bytes
 abbrev pub moved : Window → State → State

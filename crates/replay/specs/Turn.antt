@@ -8,7 +8,7 @@ use Rattle.replay.specs.State.{more, counted, moved, skipping, passed}
 use Rattle.replay.specs.declared.window.Window.{Window}
 use Rattle.replay.specs.declared.state.State.{State}
 use Rattle.replay.specs.declared.header.Topic.{Topic}
-use Rattle.replay.specs.declared.header.Section.TheVariants.{Case, Answer, Other}
+use Rattle.replay.specs.declared.header.Section.TheVariants.{List as Listed, Answer, Other}
 use Rattle.replay.specs.declared.header.Header.{Header}
 use Rattle.replay.specs.declared.header.Header.TheVariants.{Found, Malformed}
 use Rattle.replay.specs.declared.Turn.{Turn}
@@ -22,21 +22,21 @@ use Rattle.replay.specs.declared.Next.TheVariants.{Over, Take, Compare}
 abbrev pub section : ℕ → List ℕ → State → List ℕ
 section n b s = take n (unread b s.at)
 
--- a list or text that has no room in m bytes, or whose bytes are not all there
+-- a list that has no room in m bytes, or whose bytes are not all there
 abbrev pub untaken : ℕ → State → ℕ → Bool
 untaken m s n = ltb m n || ltb (size s.at) n
 
--- a list or text: a new case
+-- a list: a new case
 abbrev pub taken : ℕ → State → ℕ → Turn
 taken m s n =
     cond (untaken m s n) Stopped
     (On (record { at = advanced n s.at; skip = s.skip; list = n; cases = more s.cases; counts = s.counts }))
 
--- the buffer l of the list or text, and what it held past it stays
+-- the buffer l of the list, and what it held past the list stays
 abbrev pub list_after : List ℕ → List ℕ → State → ℕ → List ℕ
 list_after b l s n = cond (untaken (length l) s n) l (sets l 0 (section n b s))
 
--- an answer to what l holds about a topic, counted as right or not; before the first case there is none
+-- an answer to the list l about a topic, counted as right or not; before the first list there is none
 abbrev pub compared : List ℕ → List ℕ → State → Topic → ℕ → Turn
 compared b l s t n =
     cond (eqb s.cases 0 || ltb (size s.at) n) Stopped
@@ -57,7 +57,7 @@ resumed start s = moved (record { from = start; to = s.at.to }) s
 -- a header, whose section starts at `start`
 abbrev pub begun : State → Header → Next
 begun s Malformed = Over Stopped
-begun s (Found Case n start) = Take (resumed start s) n
+begun s (Found Listed n start) = Take (resumed start s) n
 begun s (Found (Answer t) n start) = Compare (resumed start s) t n
 begun s (Found Other n start) = Over (On (skipping n (resumed start s)))
 

@@ -10,8 +10,6 @@ ghost use Rattle.output.specs.Written.{answer_of, within, WrittenAs};
 ghost use Rattle.report.specs.Text.{answer_text};
 ghost use Rattle.reading.specs.Answer.{answer};
 ghost use Rattle.describe.specs.Listing as listing;
-ghost use Rattle.source.specs.Answer as source;
-ghost use Rattle.source.specs.Report.{tokens_text};
 ghost use Rattle.writing.specs.Answer as writing;
 ghost use Rattle.tagged_reading.specs.Answer as tagged;
 ghost use Rattle.replay.specs.Answer.{OUTPUT, letter_fits, letters_fit, accepted_fits, roles_fit, every_fits};
@@ -25,7 +23,6 @@ use output::written::Written;
 use parse::role::{BOUND, FIELD_NAME, PARAMETER_NAME, TYPE, WHERE_RUN};
 use report::check::report_check;
 use report::roles::{Roles, read_roles};
-use source::report::report_tokens;
 use tagged_attribute::utils::{Tagged, parse_tagged_attribute};
 use token_list::check::Refusal;
 use token_list::layout::MAX_ROWS;
@@ -138,7 +135,7 @@ fn is_every(list: &[u8], s: &[u8], start: usize, end: usize) -> bool
     }
 }
 
-// Room for the listing of any list, for what any writer of generics writes, and for the tokens of any text.
+// Room for the listing of any list, and for what any writer of generics writes.
 const OUTPUT: usize = 262144;
 
 fn output_buffer() -> [u8; OUTPUT]
@@ -210,18 +207,7 @@ fn is_tagged(list: &[u8], s: &[u8], start: usize, end: usize) -> bool
     }
 }
 
-// Whether the bytes from start to end are the token list of the source text, or the refusal.
-fn is_tokens(text: &[u8], s: &[u8], start: usize, end: usize) -> bool
-    requires { end ≤ length s.now }
-    ensures { result ≡ same (slice start end s.now)
-        (tokens_text text.now (source.answer OUTPUT text.now)) }
-{
-    let mut out = output_buffer();
-    let n = report_tokens(text, &mut out);
-    text_is(s, start, end, &out[..n])
-}
-
-// Whether the bytes from start to end are the answer to the list or text about a topic.
+// Whether the bytes from start to end are the answer to the list about a topic.
 pub fn is_right(topic: Topic, list: &[u8], s: &[u8], start: usize, end: usize) -> bool
     requires { (start ≤ end) × (end ≤ length s.now) }
     ensures { result ≡ right topic list.now (slice start end s.now) }
@@ -232,7 +218,6 @@ pub fn is_right(topic: Topic, list: &[u8], s: &[u8], start: usize, end: usize) -
         Topic::Every => is_every(list, s, start, end),
         Topic::Listing => is_listing(list, s, start, end),
         Topic::Tagged => is_tagged(list, s, start, end),
-        Topic::Tokens => is_tokens(list, s, start, end),
         Topic::Generics(writer) => is_generics(writer, list, s, start, end),
     }
 }

@@ -3,15 +3,14 @@ ghost use Rattle.std.specs.Prelude.{◌≡◌, ◌+◌, ◌≤◌, length};
 ghost use Rattle.std.proofs.Math.Seq.{slice};
 ghost use Rattle.token_list.specs.Text.{between};
 ghost use Rattle.output.specs.Contract.{Put};
-ghost use Rattle.replay.specs.Header.{run, writer_name, topic_name, generics_named, sized, header};
-ghost use Rattle.replay.specs.Header.{source_named, section_named};
+ghost use Rattle.replay.specs.Header.{run, writer_name, topic_name, generics_named, section_named, sized, header};
 
 use describe::value::worth;
 use output::put::put_bytes;
 use token_list::text::text_is;
 
 // A writer of generics.
-#[derive(Drop)]
+#[derive(Clone, Copy)]
 pub enum Writer {
     Impl,
     Type,
@@ -19,27 +18,26 @@ pub enum Writer {
 }
 
 // What an answer is about.
-#[derive(Drop)]
+#[derive(Clone, Copy)]
 pub enum Topic {
     Check,
     Roles,
     Every,
     Listing,
     Tagged,
-    Tokens,
     Generics(Writer),
 }
 
-// What a section holds: the list or the source text of a case, an answer that is compared, or what is passed over.
-#[derive(Drop)]
+// What a section holds: a list, an answer that is compared, or what is passed over.
+#[derive(Clone, Copy)]
 pub enum Section {
-    Case,
+    List,
     Answer(Topic),
     Other,
 }
 
 // The section, its length and where it starts.
-#[derive(Drop)]
+#[derive(Clone, Copy)]
 pub enum Header {
     Found(Section, usize, usize),
     Malformed,
@@ -64,20 +62,7 @@ fn run_end(s: &[u8], from: usize, to: usize, lo: u8, hi: u8) -> usize
     i
 }
 
-// What the name from start to end stands for, where it names a source text or its tokens.
-fn source_named(s: &[u8], start: usize, end: usize) -> Section
-    ensures { result ≡ source_named (slice start end s.now) }
-{
-    if text_is(s, start, end, b"text") {
-        return Section::Case;
-    }
-    if text_is(s, start, end, b"tokens") {
-        return Section::Answer(Topic::Tokens);
-    }
-    Section::Other
-}
-
-// What the name from start to end stands for, where it names a writer of generics, or what a source text has.
+// What the name from start to end stands for, where it names a writer of generics.
 fn generics_named(s: &[u8], start: usize, end: usize) -> Section
     ensures { result ≡ generics_named (slice start end s.now) }
 {
@@ -90,7 +75,7 @@ fn generics_named(s: &[u8], start: usize, end: usize) -> Section
     if text_is(s, start, end, b"additional") {
         return Section::Answer(Topic::Generics(Writer::Additional));
     }
-    source_named(s, start, end)
+    Section::Other
 }
 
 // What the name from start to end stands for.
@@ -98,7 +83,7 @@ fn section_named(s: &[u8], start: usize, end: usize) -> Section
     ensures { result ≡ section_named (slice start end s.now) }
 {
     if text_is(s, start, end, b"list") {
-        return Section::Case;
+        return Section::List;
     }
     if text_is(s, start, end, b"check") {
         return Section::Answer(Topic::Check);
@@ -139,7 +124,6 @@ pub fn put_topic(out: &mut [u8], at: usize, topic: Topic) -> usize
         Topic::Every => put_bytes(out, at, b"every"),
         Topic::Listing => put_bytes(out, at, b"listing"),
         Topic::Tagged => put_bytes(out, at, b"tagged"),
-        Topic::Tokens => put_bytes(out, at, b"tokens"),
         Topic::Generics(writer) => put_writer(out, at, writer),
     }
 }

@@ -1,5 +1,7 @@
 // Replays recorded answers: reads sections from standard input and compares each answer with this
 // repository's own. Prints the counts; at most ten differing cases are named, counted from 1.
+#![tactic(auto)]
+
 mod answers;
 mod header;
 mod state;
@@ -18,15 +20,15 @@ use libc::STDOUT_FILENO;
 use output::put::{put_byte, put_bytes, put_number};
 
 // What follows a turn: the next one, the end of the input, or a stop at what is no section.
-#[derive(Drop)]
+#[derive(Clone, Copy)]
 pub enum Turn {
     On(State),
     Done(State),
     Malformed,
 }
 
-// What a header asks for: nothing more, a list or text, or an answer, of so many bytes.
-#[derive(Drop)]
+// What a header asks for: nothing more, a list, or an answer, of so many bytes.
+#[derive(Clone, Copy)]
 pub enum Next {
     Over(Turn),
     Take(State, usize),
@@ -36,7 +38,7 @@ pub enum Next {
 // So many bytes are asked for before a header is read.
 const HEADER: usize = 64;
 
-// Takes the list or text of a new case.
+// Takes the list of a new case.
 fn take_list(buf: &[u8], list: &mut [u8], s: State, size: usize) -> Turn
     requires { Placed (length buf.now) (length list.old) s }
     ensures value { result ≡ taken (length list.old) s size }
@@ -117,7 +119,7 @@ fn begin(s: State, header: Header) -> Next
             };
             let next = moved(s, rest);
             match section {
-                Section::Case => Next::Take(next, size),
+                Section::List => Next::Take(next, size),
                 Section::Answer(topic) => Next::Compare(next, topic, size),
                 Section::Other => {
                     let mut skipping = next;
@@ -190,7 +192,6 @@ fn print_counts(counts: Counts) {
     print_count(b"listing ", counts.listings);
     print_count(b"generics ", counts.generics);
     print_count(b"tagged ", counts.taggeds);
-    print_count(b"tokens ", counts.tokens);
     print_count(b"differences ", counts.differences);
 }
 
@@ -222,8 +223,14 @@ fn buffer() -> [u8; 262144]
     [0; 262144]
 }
 
+fn list_buffer() -> [u8; 70000]
+    ensures { 70000 ≡ length result }
+{
+    [0; 70000]
+}
+
 fn main() {
     let mut buf = buffer();
-    let mut list = buffer();
+    let mut list = list_buffer();
     replay(&mut buf, &mut list);
 }

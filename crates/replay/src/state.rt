@@ -6,25 +6,24 @@ use crate::header::Topic;
 use crate::window::{Window, advanced};
 
 // How many answers about each topic were compared, and how many differ.
-#[derive(Drop)]
+#[derive(Clone, Copy)]
 pub struct Counts {
     pub checks: usize,
     pub roles: usize,
     pub everys: usize,
     pub listings: usize,
     pub taggeds: usize,
-    pub tokens: usize,
     pub generics: usize,
     pub differences: usize,
 }
 
-#[derive(Drop)]
+#[derive(Clone, Copy)]
 pub struct State {
     // Where the unread bytes stand.
     pub at: Window,
     // How many more bytes to pass over.
     pub skip: usize,
-    // The length of the list or text at hand.
+    // The length of the list at hand.
     pub list: usize,
     pub cases: usize,
     pub counts: Counts,
@@ -44,7 +43,6 @@ pub fn start() -> State
             everys: 0,
             listings: 0,
             taggeds: 0,
-            tokens: 0,
             generics: 0,
             differences: 0,
         },
@@ -90,10 +88,6 @@ pub fn counted(counts: Counts, topic: Topic, right: bool) -> Counts
         }
         Topic::Tagged => {
             next.taggeds = count(counts.taggeds);
-            next
-        }
-        Topic::Tokens => {
-            next.tokens = count(counts.tokens);
             next
         }
         Topic::Generics(_) => {

@@ -6,7 +6,7 @@ ghost use Rattle.replay.specs.Window.{Within, advanced, Ready};
 use libc::STDIN_FILENO;
 
 // Where they start and end.
-#[derive(Drop)]
+#[derive(Clone, Copy)]
 pub struct Window {
     pub from: usize,
     pub to: usize,

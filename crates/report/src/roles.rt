@@ -11,7 +11,7 @@ use parse::role::NONE;
 use token_list::check::Refusal;
 
 // How many rows have a role, or the refusal.
-#[derive(Drop)]
+#[derive(Clone, Copy)]
 pub enum Roles {
     Rows(usize),
     Refused(Refusal),

@@ -1,4 +1,6 @@
 // The roles of the list on standard input: prints a line for each row, or the refusal.
+#![tactic(auto)]
+
 ghost use Rattle.std.specs.Prelude.{◌≡◌, length};
 
 use libc::{STDIN_FILENO, STDOUT_FILENO};

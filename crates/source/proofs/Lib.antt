@@ -12,7 +12,6 @@ pub mod Cells
 pub mod Walks
 pub mod Spans
 pub mod Measures
-pub mod Scans
 pub mod Answers
 pub mod Reports
 pub mod DivisionCuts

@@ -5,7 +5,7 @@ use mathlib.Core.List.{List, [], ◌∷◌, ◌++◌, append_assoc}
 use Prim.Native.Nat.{ℕ, zero, suc, ◌+◌, ◌-◌, ◌≤◌, ◌<◌}
 use native.Mathlib.Omega.{arith}
 use native.Mathlib.Decide.{dec_le}
-use borrow.Author.Tests.{lt-ltb, le-ltb, le-leb, lt-leb, leb-true, eq-eqb, eqb-true, eqb-false}
+use borrow.Author.Tests.{lt-ltb, le-ltb, le-leb, lt-leb, eq-eqb, eqb-true, eqb-false}
 use lib.Dec.{leb, ltb, eqb}
 use lib.ListN.{length, drop, get_or, replicate, length-append}
 use lib.Seq.{slice, length-slice}
@@ -13,7 +13,7 @@ use Rattle.token_list.specs.Byte.{LF}
 use Rattle.token_list.specs.Layout.{OPEN, CLOSE, names, MAX_BYTES, MAX_ROWS, MAX_TEXT, MAX_DEPTH}
 use Rattle.token_list.specs.Row.{Row, written}
 use Rattle.token_list.specs.Rows.{list_of}
-use Rattle.token_list.proofs.Texts.{chosen, passed_over, and_both, and_fails, and_last, and_parts, or_holds, or_last}
+use Rattle.token_list.proofs.Texts.{chosen, passed_over, and_both, and_fails, and_last, or_holds, or_last}
 use Rattle.token_list.proofs.Rows.{written_append}
 use Rattle.source.specs.Piece.{Piece, piece, row, lifetime, doc}
 use Rattle.source.specs.Answer.{rows_of, short, shallow, within_limits}
@@ -190,7 +190,7 @@ data Step (z : Size) (r : Row) : Measured → Type 0 where
   past : ((rs : List Row) → fits z (r ∷ rs) ≡ false) → Step z r Over
   on : {y : Size} → ((rs : List Row) → fits z (r ∷ rs) ≡ fits y rs)
       → ((rs : List Row) → z.bytes + length (written false (r ∷ rs)) ≡ y.bytes + length (written false rs))
-      → y.rows ≡ z.rows + 1 → y.rows ≤ MAX_ROWS → y.bytes ≤ MAX_BYTES → Step z r (Within y)
+      → y.rows ≤ MAX_ROWS → y.bytes ≤ MAX_BYTES → Step z r (Within y)
 
 module _ (z : Size) (r : Row) where
   abbrev more : Measured
@@ -212,7 +212,7 @@ module _ (z : Size) (r : Row) where
       λ j. (leb (sum rs j) MAX_BYTES && leb (count j) MAX_ROWS)
       && (shorts j && shallow-more z.depth r rs deep j) in
       subst⁻¹ (Step z r) (more_within z r.kind (length r.text) text rows bytes deep)
-      (on same sum refl (omega arith) bytes)
+      (on same sum (omega arith) bytes)
 
   deep_step : length r.text ≤ MAX_TEXT → z.rows < MAX_ROWS → z.bytes + length r.text + 3 ≤ MAX_BYTES
       → Step z r more
@@ -246,57 +246,35 @@ module _ (z : Size) (r : Row) where
 -- what the measure says of rows behind a list of this size
 data Judged (z : Size) (rs : List Row) : Measured → Type 0 where
   past : fits z rs ≡ false → Judged z rs Over
-  kept : {y : Size} → fits z rs ≡ true → y.bytes ≡ z.bytes + length (written false rs)
-      → y.rows ≡ z.rows + length rs → Judged z rs (Within y)
+  kept : {y : Size} → fits z rs ≡ true → y.bytes ≡ z.bytes + length (written false rs) → Judged z rs (Within y)
 
 judged-step : {z : Size} {r : Row} {m : Measured} (rs : List Row) → Step z r m
     → ((y : Size) → y.rows ≤ MAX_ROWS → y.bytes ≤ MAX_BYTES → Judged y rs (rows_more_lem (Within y) rs))
     → Judged z (r ∷ rs) (rows_more_lem m rs)
 judged-step {z} {r} rs (past h) go = subst⁻¹ (Judged z (r ∷ rs)) (over_stays rs) (past (h rs))
-judged-step {z} {r} rs (on {y} same sum one rows bytes) go = behind (go y rows bytes)
+judged-step {z} {r} rs (on {y} same sum rows bytes) go = behind (go y rows bytes)
   where
     behind : {m : Measured} → Judged y rs m → Judged z (r ∷ rs) m
     behind (past h) = past (same rs ∙ h)
-    behind (kept {y = x} h e f) = kept {y = x} (same rs ∙ h) (e ∙ sym (sum rs)) (omega (arith, f, one))
+    behind (kept h e) = kept (same rs ∙ h) (e ∙ sym (sum rs))
 
 judged : (z : Size) (rs : List Row) → z.rows ≤ MAX_ROWS → z.bytes ≤ MAX_BYTES
     → Judged z rs (rows_more_lem (Within z) rs)
 judged z [] rows bytes =
     let size = le-leb (z.bytes + 0) MAX_BYTES (omega arith) in
     let count = le-leb (z.rows + 0) MAX_ROWS (omega arith) in
-    kept {y = z} (and_both _ _ (and_both _ _ size count) refl) (omega arith) (omega arith)
+    kept {y = z} (and_both _ _ (and_both _ _ size count) refl) (omega arith)
 judged z (r ∷ rs) rows bytes = judged-step rs (step z r) (λ y p q. judged y rs p q)
 
 -- ## The limits of a list
-
--- `within_limits` by its parts
-pub record Limits (rs : List Row) : Type 0 where
-  pub bytes : length (list_of false rs) ≤ MAX_BYTES
-  pub rows : length rs ≤ MAX_ROWS
-  pub texts : short rs ≡ true
-  pub depth : shallow 0 rs ≡ true
-
-pub limits : (rs : List Row) → within_limits rs ≡ true → Limits rs
-unfolding within_limits
-limits rs e =
-    let parts = and_parts (leb (length (list_of false rs)) MAX_BYTES && leb (length rs) MAX_ROWS) _ e in
-    let sizes = and_parts (leb (length (list_of false rs)) MAX_BYTES) _ parts.0 in
-    let each = and_parts (short rs) _ parts.1 in
-    record { bytes = leb-true _ _ sizes.0; rows = leb-true _ _ sizes.1; texts = each.0; depth = each.1 }
-
--- the list of these rows keeps the limits, and has this size
-pub record Kept (rs : List Row) (z : Size) : Type 0 where
-  pub within : within_limits rs ≡ true
-  pub bytes : z.bytes ≡ length (list_of false rs)
-  pub rows : z.rows ≡ length rs
 
 abbrev NONE : Size
 NONE = record { rows = 0; bytes = length (names false); depth = 0 }
 
 module _ (rs : List Row) where
-  limits_fit : within_limits rs ≡ fits NONE rs
+  limits : within_limits rs ≡ fits NONE rs
   unfolding within_limits
-  limits_fit =
+  limits =
       let bytes = length-append (names false) (written false rs) in
       let count : length rs ≡ 0 + length rs = omega arith in
       λ j. (leb (bytes j) MAX_BYTES && leb (count j) MAX_ROWS) && (short rs && shallow 0 rs)
@@ -308,17 +286,15 @@ module _ (rs : List Row) where
   past_limits e = go (subst⁻¹ (Judged NONE rs) e whole)
     where
       go : Judged NONE rs Over → within_limits rs ≡ false
-      go (past h) = limits_fit ∙ h
+      go (past h) = limits ∙ h
 
-  kept_known : {z : Size} → Judged NONE rs (Within z) → Kept rs z
-  kept_known (kept h b r) = record {
-    within = limits_fit ∙ h;
-    bytes = b ∙ sym (length-append (names false) (written false rs));
-    rows = omega (arith, r);
-  }
-
-  pub keeps_limits : {z : Size} → Within z ≡ rows_more_lem NO_ROWS rs → Kept rs z
-  keeps_limits e = kept_known (subst⁻¹ (Judged NONE rs) e whole)
+  pub keeps_limits : {z : Size} → Within z ≡ rows_more_lem NO_ROWS rs
+      → (within_limits rs ≡ true) × (z.bytes ≡ length (list_of false rs))
+  keeps_limits {z} e = go (subst⁻¹ (Judged NONE rs) e whole)
+    where
+      go : Judged NONE rs (Within z)
+          → (within_limits rs ≡ true) × (z.bytes ≡ length (list_of false rs))
+      go (kept h b) = (limits ∙ h, b ∙ sym (length-append (names false) (written false rs)))
 
 -- ## Cells
 

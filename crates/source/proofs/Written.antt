@@ -5,6 +5,7 @@ use mathlib.Core.List.{List, [], ◌∷◌}
 use Prim.Native.Nat.{ℕ, ◌+◌, ◌-◌, ◌≤◌}
 use native.Mathlib.Omega.{arith}
 use lib.Dec.{leb, ltb, eqb}
+use borrow.Author.Tests.{leb-true}
 use lib.ListN.{length}
 use Rattle.token_list.specs.Layout.{OPEN, CLOSE, marked, first_row, MAX_BYTES, MAX_ROWS, MAX_TEXT, MAX_DEPTH}
 use Rattle.token_list.specs.Text.{closer}
@@ -20,7 +21,6 @@ use Rattle.source.specs.Answer.{wrote, refused, rows_of, short, shallow, within_
 use Rattle.source.specs.Answer.{matched_answer, answer}
 use Rattle.source.specs.Division.{accepted}
 use Rattle.source.specs.Written.{IsTokenList}
-use Rattle.source.proofs.Measures.{limits}
 use Rattle.source.proofs.Rights.{fits, all_fit, division_fits}
 use Rattle.source.proofs.Division.{divided_always}
 
@@ -138,6 +138,21 @@ answer_parts n rs t sound e = go (within_limits rs) refl (ltb n (length (list_of
     go false q x e = never (cc)
     go true q true e = never (cc)
     go true q false e = (refl, q, (cc))
+
+-- `within_limits` by its parts
+record Limits (rs : List Row) : Type 0 where
+  bytes : length (list_of false rs) ≤ MAX_BYTES
+  rows : length rs ≤ MAX_ROWS
+  texts : short rs ≡ true
+  depth : shallow 0 rs ≡ true
+
+limits : (rs : List Row) → within_limits rs ≡ true → Limits rs
+unfolding within_limits
+limits rs e =
+    let parts = and_parts (leb (length (list_of false rs)) MAX_BYTES && leb (length rs) MAX_ROWS) _ e in
+    let sizes = and_parts (leb (length (list_of false rs)) MAX_BYTES) _ parts.0 in
+    let each = and_parts (short rs) _ parts.1 in
+    record { bytes = leb-true _ _ sizes.0; rows = leb-true _ _ sizes.1; texts = each.0; depth = each.1 }
 
 -- t is written for the text s
 pub record Wrote (s t : List ℕ) : Type 0 where

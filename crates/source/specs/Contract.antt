@@ -4,14 +4,14 @@ use Rattle.std.proofs.Math.Seq.{slice}
 use Rattle.token_list.specs.Byte.{QUOTE}
 use Rattle.token_list.specs.Text.{name_part}
 use Rattle.token_list.specs.Rows.{ident, punct}
-use Rattle.source.specs.Bytes.{SLASH, blank, in_line, in_doc, in_digits}
+use Rattle.source.specs.Bytes.{blank, in_line, in_doc, in_digits}
 use Rattle.source.specs.Taken.{Taken, takes, fault, run}
 use Rattle.source.specs.Number.{fraction, sign_length}
 use Rattle.source.specs.Piece as piece
 use Rattle.source.specs.Lex.{Lexed, token, stops, row_at, doc_rows}
 use Rattle.source.specs.Piece.{suffix}
 use Rattle.source.specs.declared.bytes.Class.{Class}
-use Rattle.source.specs.declared.bytes.Class.TheVariants.{Blank, Name, Line, Doc}
+use Rattle.source.specs.declared.bytes.Class.TheVariants.{Blank, Name, Line, Doc, Digits}
 use Rattle.source.specs.declared.bytes.Ends.{Ends}
 use Rattle.source.specs.declared.bytes.Ends.TheVariants.{To, Fault}
 use Rattle.source.specs.declared.piece.Piece.{Piece}
@@ -22,6 +22,7 @@ in_class Blank = blank
 in_class Name = name_part
 in_class Line = in_line
 in_class Doc = in_doc
+in_class (Digits radix) = in_digits radix
 
 -- the bytes that pass a test, from `from` on, end at r
 pub record RunEnd (p : ℕ → Bool) (s : List ℕ) (from r : ℕ) : Type 0 where
@@ -37,16 +38,6 @@ pub record EndsTo (s : List ℕ) (i : ℕ) (t : Taken) (e : ℕ) : Type 0 where
 pub data EndsAs (s : List ℕ) (i : ℕ) (t : Taken) : Ends → Type 0 where
   ends : {e : ℕ} → EndsTo s i t e → EndsAs s i t (To e)
   none : t ≡ fault → EndsAs s i t Fault
-
--- no `/` stands from i up to e
-abbrev pub NoSlash : List ℕ → ℕ → ℕ → Type 0
-NoSlash s i e = (k : ℕ) → k < e → i ≤ k → get_or s k 0 ≡ SLASH → ⊥
-
--- inside a block comment none begins and none ends with the bytes from i up to r: no `/` is among them or behind them
-pub record PlainEnd (s : List ℕ) (i r : ℕ) : Type 0 where
-  pub forth : i ≤ r
-  pub within : r ≤ length s
-  pub plain : i < r → NoSlash s i (r + 1)
 
 -- digits that stand at i, with their fraction, end at r
 pub record FractionEnd (s : List ℕ) (i r : ℕ) : Type 0 where

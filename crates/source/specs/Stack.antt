@@ -7,13 +7,13 @@ use Rattle.token_list.specs.Text.{closer}
 use Rattle.token_list.specs.Row.{first}
 use Rattle.source.specs.Bytes.{opens}
 use Rattle.source.specs.Lex.{Token, Lexed, end, token, stops, lex_from, lex}
-use Rattle.source.specs.Brackets.{Open, Matched, faulty, brackets}
-use Rattle.source.specs.declared.piece.Piece as code
-use Rattle.source.specs.declared.piece.Piece.TheVariants as pieces
+use Rattle.source.specs.Brackets.{Open, Matched, sound, faulty, brackets}
 use Rattle.source.specs.declared.brackets.Step.{Step}
 use Rattle.source.specs.declared.brackets.Step.TheVariants as steps
 use Rattle.source.specs.declared.brackets.Depth.{Depth}
 use Rattle.source.specs.declared.brackets.Depth.TheVariants as depths
+use Rattle.source.specs.declared.brackets.Matched as code
+use Rattle.source.specs.declared.brackets.Matched.TheVariants as matches
 
 -- ## What stands from an offset on
 
@@ -73,13 +73,6 @@ pub data StepAs (s : List ℕ) (i : ℕ) : Step → Type 0 where
 -- a row of this kind that ends at e
 abbrev pub row_step_lem : ℕ → ℕ → Step
 row_step_lem k e = cond (eqb k OPEN) (steps.Opens e) (cond (eqb k CLOSE) (steps.Closes e) (steps.Passes e))
-
-abbrev pub step_of : code.Piece → Step
-step_of (pieces.Gap e) = steps.Passes e
-step_of (pieces.Row k e) = row_step_lem k e
-step_of (pieces.Lifetime e) = steps.Passes e
-step_of (pieces.Doc e) = steps.Passes e
-step_of pieces.Fault = steps.Fault
 
 -- where a step ends
 abbrev pub step_end : ℕ → Step → ℕ
@@ -163,3 +156,7 @@ Reached s cells i depth = (os : List Open) × ReachedBy s cells i depth os
 pub data TurnedAs (s cells : List ℕ) (i e : ℕ) : Depth → Type 0 where
   turned : {d : ℕ} → Within s i e → Reached s cells e d → TurnedAs s cells i e (depths.Open d)
   fault : brackets [] (lex s) ≡ faulty i → TurnedAs s cells i e depths.Fault
+
+abbrev pub matched_of : code.Matched → Matched
+matched_of matches.Sound = sound
+matched_of (matches.FaultAt i) = faulty i

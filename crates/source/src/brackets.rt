@@ -1,17 +1,17 @@
 // Brackets, matched at any depth. The kinds of the outermost open ones are kept in lent cells, four to a cell; the kind
 // of one that stands deeper is found by reading the text again.
-ghost use Rattle.std.specs.Prelude.{◌≡◌, true, List, [], ◌∷◌, ◌≤◌, ◌<◌, length};
+ghost use Rattle.std.specs.Prelude.{◌≡◌, true, List, [], ◌∷◌, ℕ, ◌+◌, ◌≤◌, ◌<◌, length, get_or};
 ghost use Rattle.source.specs.Bytes.{opens};
 ghost use Rattle.source.specs.Lex.{lex};
-ghost use Rattle.source.specs.Brackets.{Open};
-ghost use Rattle.source.specs.Stack.{stack_to, StepAs, row_step_lem, step_of, step_end, InnermostAt, bits_of, delimiter_of};
-ghost use Rattle.source.specs.Stack.{Held, Popped, DelimiterAt, Reached, TurnedAs};
+ghost use Rattle.source.specs.Brackets.{Open, brackets};
+ghost use Rattle.source.specs.Stack.{stack_to, StepAs, row_step_lem, step_end, InnermostAt, bits_of, delimiter_of, Held};
+ghost use Rattle.source.specs.Stack.{Popped, DelimiterAt, Reached, TurnedAs, matched_of};
 
 use crate::piece::{Piece, piece_at};
 use token_list::row::closer;
 
 // What a piece is to brackets, with where it ends.
-#[derive(Drop)]
+#[derive(Clone, Copy)]
 pub enum Step {
     Passes(usize),
     Opens(usize),
@@ -20,10 +20,17 @@ pub enum Step {
 }
 
 // How many brackets are open behind a piece, or that it is a close without its open.
-#[derive(Drop)]
+#[derive(Clone, Copy)]
 pub enum Depth {
     Open(usize),
     Fault,
+}
+
+// Whether all is well, or where it is not.
+#[derive(Clone, Copy)]
+pub enum Matched {
+    Sound,
+    FaultAt(usize),
 }
 
 fn row_step(kind: u8, end: usize) -> Step
@@ -38,24 +45,17 @@ fn row_step(kind: u8, end: usize) -> Step
     Step::Passes(end)
 }
 
-pub fn step_of(p: Piece) -> Step
-    ensures { result ≡ step_of p }
+fn step_at(s: &[u8], i: usize) -> Step
+    requires { i < length s.now }
+    ensures { StepAs s.now i result }
 {
-    match p {
+    match piece_at(s, i) {
         Piece::Gap(e) => Step::Passes(e),
         Piece::Row(kind, e) => row_step(kind, e),
         Piece::Lifetime(e) => Step::Passes(e),
         Piece::Doc(e) => Step::Passes(e),
         Piece::Fault => Step::Fault,
     }
-}
-
-fn step_at(s: &[u8], i: usize) -> Step
-    requires { i < length s.now }
-    ensures { StepAs s.now i result }
-{
-    let p = piece_at(s, i);
-    step_of(p)
 }
 
 // The place i where `count` is `depth`, else `found`.
@@ -70,7 +70,7 @@ fn latest(count: usize, depth: usize, i: usize, found: usize) -> usize
 
 // Where the innermost of the brackets stands that are open at `end`, where they are `depth`: the last one before it
 // with which so many were open.
-pub fn innermost(s: &[u8], end: usize, depth: usize) -> usize
+fn innermost(s: &[u8], end: usize, depth: usize) -> usize
     requires end_in_bounds { end ≤ length s.now }
     requires s_len { length (stack_to end [] (lex s.now)) ≡ depth }
     requires depth_nonzero { 0 < depth }
@@ -178,7 +178,7 @@ fn delimiter_at(s: &[u8], i: usize, depth: usize, held: u8) -> u8
 }
 
 // The brackets that are open behind the piece at i, where `depth` were open before.
-pub fn turn(s: &[u8], cells: &mut [u8], i: usize, step: Step, depth: usize) -> Depth
+fn turn(s: &[u8], cells: &mut [u8], i: usize, step: Step, depth: usize) -> Depth
     requires i_in_bounds { i < length s.now }
     requires step_as { StepAs s.now i step }
     requires reached { Reached s.now cells.old i depth }
@@ -205,4 +205,43 @@ pub fn turn(s: &[u8], cells: &mut [u8], i: usize, step: Step, depth: usize) -> D
             Depth::Fault
         }
     }
+}
+
+// Where a step at i ends.
+fn step_end(i: usize, step: Step) -> usize
+    ensures { result ≡ step_end i step }
+{
+    match step {
+        Step::Passes(e) => e,
+        Step::Opens(e) => e,
+        Step::Closes(e) => e,
+        Step::Fault => i,
+    }
+}
+
+// Whether each piece is a token, or vanishes, and each bracket is closed by its own close; or the first place where it
+// is not so, and else the innermost bracket that is left open. The cells are 0 at first.
+pub fn match_brackets(s: &[u8], cells: &mut [u8]) -> Matched
+    requires { (c : ℕ) → get_or cells.old c 0 ≡ 0 }
+    ensures { matched_of result ≡ brackets [] (lex s.now) }
+{
+    let mut i = 0;
+    let mut depth = 0;
+    while i < s.len() {
+        let step = step_at(s, i);
+        match turn(s, cells, i, step, depth) {
+            Depth::Fault => {
+                return Matched::FaultAt(i);
+            }
+            Depth::Open(d) => {
+                depth = d;
+                i = step_end(i, step);
+            }
+        }
+    }
+    if depth == 0 {
+        return Matched::Sound;
+    }
+    let at = innermost(s, s.len(), depth);
+    Matched::FaultAt(at)
 }

@@ -7,19 +7,20 @@ ghost use Rattle.source.specs.Contract.{in_class, RunEnd};
 use token_list::text::{digit_worth, is_digit, is_name_start};
 
 // Where a production ends, or that it stands there in no form.
-#[derive(Drop)]
+#[derive(Clone, Copy)]
 pub enum Ends {
     To(usize),
     Fault,
 }
 
 // The bytes that a run may have.
-#[derive(Drop)]
+#[derive(Clone, Copy)]
 pub enum Class {
     Blank,
     Name,
     Line,
     Doc,
+    Digits(usize),
 }
 
 // The byte at i, or 0 past the end.
@@ -85,6 +86,7 @@ fn is_in(class: Class, b: u8) -> bool
         Class::Name => is_name_part(b),
         Class::Line => b != b'\n',
         Class::Doc => is_in_doc(b),
+        Class::Digits(radix) => is_in_digits(radix, b),
     }
 }
 
@@ -95,20 +97,6 @@ pub fn run_end(s: &[u8], from: usize, class: Class) -> usize
     let mut i = from;
     while i < s.len() {
         if !is_in(class, s[i]) {
-            return i;
-        }
-        i += 1;
-    }
-    i
-}
-
-// The first place from `from` on with neither a digit of the radix nor `_`, or the end.
-pub fn digits_end(s: &[u8], from: usize, radix: usize) -> usize
-    ensures { RunEnd (in_digits radix) s.now from result }
-{
-    let mut i = from;
-    while i < s.len() {
-        if !is_in_digits(radix, s[i]) {
             return i;
         }
         i += 1;

@@ -1,4 +1,6 @@
 // A source text read as a token list (document 02, card 1).
+#![tactic(auto)]
+
 pub mod brackets;
 pub mod bytes;
 pub mod comment;

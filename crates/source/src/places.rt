@@ -8,14 +8,14 @@ ghost use Rattle.source.specs.Places.{row_count, span_in, span_at, LineColumn};
 use crate::piece::{Piece, piece_at, piece_end};
 
 // The first byte, and how many.
-#[derive(Drop)]
+#[derive(Clone, Copy)]
 pub struct Place {
     pub offset: usize,
     pub length: usize,
 }
 
 // A line and a column, each counted from 1; columns are bytes.
-#[derive(Drop)]
+#[derive(Clone, Copy)]
 pub struct Position {
     pub line: usize,
     pub column: usize,

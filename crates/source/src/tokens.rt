@@ -1,22 +1,24 @@
 // The token list of a source text, written into a lent output.
-ghost use Rattle.std.specs.Prelude.{◌≡◌, true, false, List, ℕ, ◌+◌, ◌<◌, length, get_or};
+ghost use Rattle.std.specs.Prelude.{◌≡◌, false, List, [], ◌∷◌, ℕ, ◌+◌, ◌<◌, length, get_or};
 ghost use Rattle.token_list.specs.Layout.{MAX_DEPTH, OPEN};
 ghost use Rattle.token_list.specs.Row.{written};
-ghost use Rattle.output.specs.Contract.{Appended};
+ghost use Rattle.token_list.specs.Rows.{list_of};
+ghost use Rattle.output.specs.Contract.{Put};
 ghost use Rattle.source.specs.Piece as piece;
-ghost use Rattle.source.specs.Answer.{answer};
+ghost use Rattle.source.specs.Lex.{row_at, lex};
+ghost use Rattle.source.specs.Brackets.{sound};
+ghost use Rattle.source.specs.Answer.{rows_of, matched_answer, answer};
 ghost use Rattle.source.specs.Contract.{PieceAs};
-ghost use Rattle.source.specs.Tokens.{doc_line_rows, piece_rows, depth_after, row_more, rows_more_lem, ScannedAs, Fitted};
-ghost use Rattle.source.specs.Tokens.{TokensAs};
+ghost use Rattle.source.specs.Tokens.{doc_line_rows, piece_rows, depth_after, row_more, rows_more_lem, NO_ROWS, TokensAs};
 
-use crate::brackets::{Depth, innermost, step_of, turn};
-use crate::piece::{Piece, past_piece, piece_at};
-use output::put::{append, append_row, put_bytes};
+use crate::brackets::{Matched, match_brackets};
+use crate::piece::{Piece, piece_at, piece_end};
+use output::put::{put_byte, put_bytes, put_names};
 use token_list::check::{END, Refusal};
 use token_list::layout::{MAX_BYTES, MAX_DEPTH, MAX_ROWS, MAX_TEXT};
 
 // The list's length, 40 at an offset, or another refusal.
-#[derive(Drop)]
+#[derive(Clone, Copy)]
 pub enum Tokens {
     List(usize),
     FaultAt(usize),
@@ -24,7 +26,7 @@ pub enum Tokens {
 }
 
 // How much of a list there is: its rows, its bytes, and the groups that are open behind it.
-#[derive(Drop)]
+#[derive(Clone, Copy)]
 pub struct Size {
     pub rows: usize,
     pub bytes: usize,
@@ -32,17 +34,10 @@ pub struct Size {
 }
 
 // That, or that the list passes a limit.
-#[derive(Drop)]
+#[derive(Clone, Copy)]
 pub enum Measured {
     Within(Size),
     Over,
-}
-
-// What one round over a text finds: 40 at an offset, or how much its list is.
-#[derive(Drop)]
-pub enum Scanned {
-    FaultAt(usize),
-    Sound(Measured),
 }
 
 // The groups that are open behind a row of this kind.
@@ -135,47 +130,11 @@ fn piece_more(measured: Measured, i: usize, p: Piece) -> Measured
     }
 }
 
-// The rows of a doc line.
-fn put_doc(list: &mut [u8], at: usize, text: &[u8]) -> usize
-    ensures { Appended list.old list.new at result
-        (written false (doc_line_rows text.now)) }
+// How much the list of a text is; behind a fault nothing is read.
+fn measure(s: &[u8]) -> Measured
+    ensures { result ≡ rows_more_lem NO_ROWS (rows_of (lex s.now)) }
 {
-    let start = append(list, at, b"p #\no [\ni doc\np =\nl \"");
-    let end = append(list, start, text);
-    append(list, end, b"\"\nc ]\n")
-}
-
-// The rows of the piece p, which begins at i.
-fn put_piece(list: &mut [u8], at: usize, s: &[u8], i: usize, p: Piece) -> usize
-    requires { (t : piece.Piece) × PieceAs s.now i t p }
-    ensures { Appended list.old list.new at result
-        (written false (piece_rows s.now i p)) }
-{
-    match p {
-        Piece::Gap(_) => at,
-        Piece::Row(kind, e) => append_row(list, at, kind, &s[i..e]),
-        Piece::Lifetime(e) => {
-            let start = i + 1;
-            let name = append_row(list, at, b'p', b"'");
-            append_row(list, name, b'i', &s[start..e])
-        }
-        Piece::Doc(e) => {
-            let start = i + 3;
-            put_doc(list, at, &s[start..e])
-        }
-        Piece::Fault => at,
-    }
-}
-
-// One round over a text: its brackets are matched, and its rows are counted and written into `list`, which has them all
-// where they fit. The cells are 0 at first.
-pub fn scan(s: &[u8], cells: &mut [u8], list: &mut [u8]) -> Scanned
-    requires { (c : ℕ) → get_or cells.old c 0 ≡ 0 }
-    ensures { ScannedAs s.now list.new result }
-{
-    let mut at = append(list, 0, b"kind text\n");
     let mut i = 0;
-    let mut depth = 0;
     let mut measured = Measured::Within(Size {
         rows: 0,
         bytes: 10,
@@ -183,120 +142,96 @@ pub fn scan(s: &[u8], cells: &mut [u8], list: &mut [u8]) -> Scanned
     });
     while i < s.len() {
         let p = piece_at(s, i);
-        let step = step_of(p);
-        match turn(s, cells, i, step, depth) {
-            Depth::Fault => {
-                return Scanned::FaultAt(i);
-            }
-            Depth::Open(d) => {
-                depth = d;
-                measured = piece_more(measured, i, p);
-                at = put_piece(list, at, s, i, p);
-                i = past_piece(s, p);
-            }
+        measured = piece_more(measured, i, p);
+        i = piece_end(s, p);
+    }
+    measured
+}
+
+// A row of this kind.
+fn put_row(out: &mut [u8], at: usize, kind: u8, text: &[u8]) -> usize
+    ensures { Put out.old out.new at result
+        (written false ((row_at kind 0 text.now).row ∷ [])) }
+{
+    let space = put_byte(out, at, kind);
+    let start = put_byte(out, space, b' ');
+    let end = put_bytes(out, start, text);
+    put_byte(out, end, b'\n')
+}
+
+// The rows of a doc line.
+fn put_doc(out: &mut [u8], at: usize, text: &[u8]) -> usize
+    ensures { Put out.old out.new at result (written false (doc_line_rows text.now)) }
+{
+    let start = put_bytes(out, at, b"p #\no [\ni doc\np =\nl \"");
+    let end = put_bytes(out, start, text);
+    put_bytes(out, end, b"\"\nc ]\n")
+}
+
+// The rows of the piece p, which begins at i.
+fn put_piece(out: &mut [u8], at: usize, s: &[u8], i: usize, p: Piece) -> usize
+    requires { (t : piece.Piece) × PieceAs s.now i t p }
+    ensures { Put out.old out.new at result (written false (piece_rows s.now i p)) }
+{
+    match p {
+        Piece::Gap(_) => at,
+        Piece::Row(kind, e) => put_row(out, at, kind, &s[i..e]),
+        Piece::Lifetime(e) => {
+            let start = i + 1;
+            let name = put_row(out, at, b'p', b"'");
+            put_row(out, name, b'i', &s[start..e])
         }
-    }
-    if depth == 0 {
-        return Scanned::Sound(measured);
-    }
-    let open = innermost(s, s.len(), depth);
-    Scanned::FaultAt(open)
-}
-
-// Whether a list of n bytes has room for what was found.
-pub fn has_room(scanned: Scanned, n: usize) -> bool
-    ensures { result ≡ true → Fitted scanned n }
-{
-    match scanned {
-        Scanned::FaultAt(_) => true,
-        Scanned::Sound(measured) => match measured {
-            Measured::Over => true,
-            Measured::Within(size) => size.bytes <= n,
-        },
+        Piece::Doc(e) => {
+            let start = i + 3;
+            put_doc(out, at, &s[start..e])
+        }
+        Piece::Fault => at,
     }
 }
 
-// Copies the list that was found, or refuses.
-fn copy_list(scanned: Scanned, list: &[u8], out: &mut [u8]) -> Tokens
-    requires { Fitted scanned (length list.now) }
-    ensures { (s : List ℕ) → ScannedAs s list.now scanned →
-        TokensAs out.old out.new (answer (length out.old) s) result }
+// The list of a text; behind a fault nothing is read.
+fn put_list(out: &mut [u8], s: &[u8]) -> usize
+    ensures { Put out.old out.new 0 result (list_of false (rows_of (lex s.now))) }
 {
-    match scanned {
-        Scanned::FaultAt(i) => Tokens::FaultAt(i),
-        Scanned::Sound(measured) => match measured {
-            Measured::Over => Tokens::Refused(Refusal {
-                number: 41,
-                place: END,
-            }),
-            Measured::Within(size) => {
-                let needed = size.bytes;
-                if out.len() < needed {
-                    return Tokens::Refused(Refusal {
-                        number: 8,
-                        place: END,
-                    });
-                }
-                let n = put_bytes(out, 0, &list[..needed]);
-                Tokens::List(n)
-            }
-        },
+    let mut at = put_names(out, 0, false);
+    let mut i = 0;
+    while i < s.len() {
+        let p = piece_at(s, i);
+        at = put_piece(out, at, s, i, p);
+        i = piece_end(s, p);
     }
+    at
 }
 
 // Room for the kinds of 65,536 open brackets.
-pub fn cells() -> [u8; 16384]
+fn cells() -> [u8; 16384]
     ensures { (c : ℕ) → get_or result c 0 ≡ 0 }
 {
     [0; 16384]
 }
 
-// As many bytes as a token list may have.
-pub fn list_buffer() -> [u8; 65536]
-    ensures { 65536 ≡ length result }
-{
-    [0; 65536]
-}
-
-fn write_long(s: &[u8], out: &mut [u8]) -> Tokens
+// Writes the list of a text whose brackets match.
+fn write_matched(s: &[u8], out: &mut [u8]) -> Tokens
     ensures { TokensAs out.old out.new
-        (answer (length out.old) s.now) result }
+        (matched_answer (length out.old) (rows_of (lex s.now)) sound) result }
 {
-    let mut kinds = cells();
-    let mut list = list_buffer();
-    let scanned = scan(s, &mut kinds, &mut list);
-    copy_list(scanned, &list, out)
-}
-
-// A short text, and room for its list in most cases: little, since all of it is set to 0 first.
-pub const SHORT: usize = 1024;
-
-pub const SHORT_LIST: usize = 4096;
-
-// Room for the kinds of as many brackets as a short text has.
-pub fn few_cells() -> [u8; 256]
-    ensures { (c : ℕ) → get_or result c 0 ≡ 0 }
-{
-    [0; 256]
-}
-
-pub fn short_list_buffer() -> [u8; SHORT_LIST]
-    ensures { 4096 ≡ length result }
-{
-    [0; SHORT_LIST]
-}
-
-fn write_short(s: &[u8], out: &mut [u8]) -> Tokens
-    ensures { TokensAs out.old out.new
-        (answer (length out.old) s.now) result }
-{
-    let mut kinds = few_cells();
-    let mut list = short_list_buffer();
-    let scanned = scan(s, &mut kinds, &mut list);
-    if has_room(scanned, SHORT_LIST) {
-        return copy_list(scanned, &list, out);
+    match measure(s) {
+        Measured::Over => Tokens::Refused(Refusal {
+            number: 41,
+            place: END,
+        }),
+        Measured::Within(size) => {
+            let needed = size.bytes;
+            if out.len() < needed {
+                return Tokens::Refused(Refusal {
+                    number: 8,
+                    place: END,
+                });
+            }
+            let n = put_list(out, s);
+            Tokens::List(n)
+        }
     }
-    write_long(s, out)
 }
 
 // Writes the token list of a source text at the start of the output.
@@ -304,8 +239,9 @@ pub fn write_tokens(s: &[u8], out: &mut [u8]) -> Tokens
     ensures { TokensAs out.old out.new
         (answer (length out.old) s.now) result }
 {
-    if s.len() <= SHORT {
-        return write_short(s, out);
+    let mut kinds = cells();
+    match match_brackets(s, &mut kinds) {
+        Matched::FaultAt(i) => Tokens::FaultAt(i),
+        Matched::Sound => write_matched(s, out),
     }
-    write_long(s, out)
 }

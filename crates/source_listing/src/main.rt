@@ -1,4 +1,6 @@
 // The listing of the declaration in the source text on standard input, or the refusal with its line and column.
+#![tactic(auto)]
+
 ghost use Rattle.std.specs.Prelude.{◌≡◌, length};
 
 use libc::{STDERR_FILENO, STDIN_FILENO, STDOUT_FILENO};

@@ -1,5 +1,7 @@
 // The entries of the tagged attribute on standard input, whose prefix is the argument: prints a line for each, `none`,
 // or the refusal.
+#![tactic(auto)]
+
 ghost use Rattle.std.specs.Prelude.{◌≡◌, length};
 
 use libc::{STDERR_FILENO, STDIN_FILENO, STDOUT_FILENO};

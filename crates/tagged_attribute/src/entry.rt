@@ -12,14 +12,14 @@ use token_list::check::{Cursor, Refusal};
 use token_list::stream::{Peeked, Token, peek, skip};
 
 // Where a tag stands, and the cursor after its `,`.
-#[derive(Drop)]
+#[derive(Clone, Copy)]
 pub struct TagAt {
     pub tag: Token,
     pub next: Cursor,
 }
 
 // Where a property's key and literal stand, and the cursor after its `,`.
-#[derive(Drop)]
+#[derive(Clone, Copy)]
 pub struct PropertyAt {
     pub key: Token,
     pub literal: Token,
@@ -28,7 +28,7 @@ pub struct PropertyAt {
 
 // What stands at a cursor: an entry; a key without a literal, which adds nothing, and the cursor after it and the token
 // that is lost; the end; or a refusal.
-#[derive(Drop)]
+#[derive(Clone, Copy)]
 pub enum EntryStep {
     Tag(TagAt),
     Property(PropertyAt),

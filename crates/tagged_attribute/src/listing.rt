@@ -15,7 +15,7 @@ use token_list::check::Cursor;
 use token_list::stream::Token;
 
 // A line, or nothing, was written up to a place, and the next entry is at a cursor; or there are no more.
-#[derive(Drop)]
+#[derive(Clone, Copy)]
 pub enum LineStep {
     On(Cursor, usize),
     Done,

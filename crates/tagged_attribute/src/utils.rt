@@ -20,7 +20,7 @@ use token_list::check::{Checked, Cursor, END, Refusal, check, start};
 use token_list::stream::{Peeked, look, peek, skip};
 
 // Where the entries begin, how many there are, and how many rows the list has, each with its role.
-#[derive(Drop)]
+#[derive(Clone, Copy)]
 pub struct EntriesAt {
     pub first: Cursor,
     pub count: usize,
@@ -28,7 +28,7 @@ pub struct EntriesAt {
 }
 
 // The answer: the prefix does not stand there; the entries; or a refusal.
-#[derive(Drop)]
+#[derive(Clone, Copy)]
 pub enum Tagged {
     Absent,
     Read(EntriesAt),
@@ -36,7 +36,7 @@ pub enum Tagged {
 }
 
 // Where something is looked for in the list: it does not stand there, it begins at a cursor, or a refusal.
-#[derive(Drop)]
+#[derive(Clone, Copy)]
 pub enum Found {
     Absent,
     At(Cursor),
@@ -44,7 +44,7 @@ pub enum Found {
 }
 
 // So many entries were taken, up to a cursor; the end; or a refusal.
-#[derive(Drop)]
+#[derive(Clone, Copy)]
 pub enum TakeStep {
     On(Cursor, usize),
     Done,
@@ -52,7 +52,7 @@ pub enum TakeStep {
 }
 
 // The cursor after the entries and their number, or a refusal.
-#[derive(Drop)]
+#[derive(Clone, Copy)]
 pub enum Entered {
     At(Cursor, usize),
     Refused(Refusal),

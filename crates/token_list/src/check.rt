@@ -9,21 +9,21 @@ use crate::row::{Shape, closer, line_shape};
 pub const END: usize = 65535;
 
 // Where a row of a list starts, and its number.
-#[derive(Drop)]
+#[derive(Clone, Copy)]
 pub struct Cursor {
     pub at: usize,
     pub row: usize,
 }
 
 // A refusal's number and place.
-#[derive(Drop)]
+#[derive(Clone, Copy)]
 pub struct Refusal {
     pub number: u8,
     pub place: usize,
 }
 
 // The answer: the number of rows, or a refusal.
-#[derive(Drop)]
+#[derive(Clone, Copy)]
 pub enum Checked {
     Passed(usize),
     Refused(Refusal),
@@ -31,7 +31,7 @@ pub enum Checked {
 
 // What the rows at one level end with: the list's end after so many rows, a closing row with its
 // delimiter and what comes after it, or a refusal.
-#[derive(Drop)]
+#[derive(Clone, Copy)]
 pub enum LevelEnd {
     End(usize),
     Close(u8, usize, usize),

@@ -1,4 +1,6 @@
 // Token lists: rows, the list check, and the cursor that later parts read with.
+#![tactic(auto)]
+
 pub mod check;
 pub mod layout;
 pub mod reader;

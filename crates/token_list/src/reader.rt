@@ -7,7 +7,7 @@ use crate::check::Cursor;
 use crate::row::line_end;
 
 // The list, a row of it, and where that row starts.
-#[derive(Drop)]
+#[derive(Clone, Copy)]
 pub struct Reader<'a> {
     pub list: &'a [u8],
     pub row: usize,
@@ -15,7 +15,7 @@ pub struct Reader<'a> {
 }
 
 // A row, from its start to its LF or the list's end; or no row is left.
-#[derive(Drop)]
+#[derive(Clone, Copy)]
 pub enum Shown {
     Row(usize, usize),
     End,

@@ -10,7 +10,7 @@ use crate::layout::{MARK, MARKED_TEXT, MAX_TEXT, SHORT_ROW, TEXT};
 use crate::text::{all_fit, is_digit, is_name_start, is_one_of, is_punctuation, text_end, text_is};
 
 // The form of a line: a token, an opening or closing row with its delimiter, or no row.
-#[derive(Drop)]
+#[derive(Clone, Copy)]
 pub enum Shape {
     Plain,
     Opens(u8),
@@ -19,7 +19,7 @@ pub enum Shape {
 }
 
 // The same with where the next line starts.
-#[derive(Drop)]
+#[derive(Clone, Copy)]
 pub struct Line {
     pub shape: Shape,
     pub next: usize,

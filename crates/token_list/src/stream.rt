@@ -12,7 +12,7 @@ use crate::layout::{MARK, MARKED_TEXT, SHORT_MARKED_ROW, SHORT_ROW, TEXT, has_ma
 // A row: its kind, its mark, the last byte of its text (a punctuation's byte, a group's delimiter: theirs is
 // found with the row's end, whichever names the list has), where its text starts and ends, and where the next
 // row starts.
-#[derive(Drop)]
+#[derive(Clone, Copy)]
 pub struct Token {
     pub kind: u8,
     pub joint: bool,
@@ -22,14 +22,14 @@ pub struct Token {
     pub next: usize,
 }
 
-#[derive(Drop)]
+#[derive(Clone, Copy)]
 pub struct Glance {
     pub kind: u8,
     pub first: u8,
 }
 
 // What stands at a cursor: nothing more in this stream, a token, or a group's opening row.
-#[derive(Drop)]
+#[derive(Clone, Copy)]
 pub enum Peeked {
     Nothing,
     Leaf(Token),

@@ -141,7 +141,7 @@ pub fn is_one_of(b: u8, set: &[u8]) -> bool
 }
 
 // Two texts compared: whether they are the same, and how many pairs of bytes were looked at for it.
-#[derive(Drop)]
+#[derive(Clone, Copy)]
 pub struct Compared {
     pub same: bool,
     pub pairs: usize,

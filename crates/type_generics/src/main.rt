@@ -1,5 +1,7 @@
 // The generics of the declaration on standard input by their names, as they stand behind the type's name: prints a
 // token list, or the refusal.
+#![tactic(auto)]
+
 ghost use Rattle.std.specs.Prelude.{◌≡◌, length};
 
 use libc::{STDIN_FILENO, STDOUT_FILENO};

@@ -33,18 +33,12 @@ fn refused(refusal: &Refusal) -> Vec<u8> {
     }
 }
 
-// The number of a refusal of a source text, and how it is printed: a fault with its line and column.
-fn source_refused(text: &[u8], refusal: &SourceRefusal) -> (u8, Vec<u8>) {
+// The number of a refusal of a source text, and how it is printed.
+fn source_refused(refusal: &SourceRefusal) -> (u8, Vec<u8>) {
     match refusal {
-        SourceRefusal::At(offset) => {
-            let mut lines = text[..*offset].split(|byte| *byte == b'\n').rev();
-            let column = lines.next().map_or(0, <[u8]>::len) + 1;
-            let line = lines.count() + 1;
-            (refusal::NO_TOKEN, format!("refused place\n40 {offset} {line}:{column}\n").into())
-        }
+        SourceRefusal::At(offset) => (refusal::NO_TOKEN, format!("refused place\n40 {offset}\n").into()),
         SourceRefusal::OverLimit => (refusal::OVER_LIMIT, b"refused place\n41 -\n".to_vec()),
         SourceRefusal::ShortOutput => (refusal::SHORT_BUFFER, b"refused place\n8 -\n".to_vec()),
-        SourceRefusal::InList(refusal) => (refusal.number, refused(refusal)),
     }
 }
 
@@ -199,7 +193,7 @@ fn main() {
             }
             "tokens" => {
                 let ours = reader.source(&text).unwrap_or_else(|refusal| {
-                    let (number, printed) = source_refused(&text, &refusal);
+                    let (number, printed) = source_refused(&refusal);
                     *counts.refusals.entry(number).or_default() += 1;
                     printed
                 });

@@ -1,6 +1,5 @@
-use mathlib.Core.Path.{refl}
 use borrow.Author.Rules.{rules}
-use Rattle.exports.proofs.SourceCodes.{tokens_low, tokens_into}
+use Rattle.exports.proofs.SourceCodes.{tokens_low, list_into, fault_into, refusal_into}
 use Rattle.exports.proofs.kusthrila_tokens.Statement.{statement}
 use Rattle.exports.proofs.kusthrila_tokens.Tie as tie
 
@@ -13,49 +12,44 @@ enum-known-n c = search rules
 enum-known-offset : tie.Need-enum-known-offset
 enum-known-offset c = search rules
 
-fault-at-requires : tie.Need-fault-at-requires
-fault-at-requires c κs = search rules
+coded-requires : tie.Need-coded-requires
+coded-requires c κs = search rules
 
 enum-known-r : tie.Need-enum-known-r
 enum-known-r c = search rules
 
-coded-requires : tie.Need-coded-requires
-coded-requires c κs =
-    let known = c.before in
-    let write = known.before.before.before.before in
-    let args = write.before.before.before.before.args in
-    tokens_low args.text.now write.write-tokens.ensures _ known.r.given.1
+coded-requires-2 : tie.Need-coded-requires-2
+coded-requires-2 c κs =
+    let args = c.before.before.before.before.before.before.before.before.before.args in
+    let write = c.before.before.before.before.before.write-tokens in
+    tokens_low args.text.now write.ensures _ c.before.r.given.1
 
 same_length : tie.Need-same-length
 same_length c = search rules
 
 returns : tie.Need-returns
 returns c =
-    let known = c.before in
-    let write = known.before.before.before.before in
-    let args = write.before.before.before.before.args in
-    tokens_into args.text.now write.write-tokens.ensures _ known.n.given.1 refl refl
+    let args = c.before.before.before.before.before.before.before.before.before.args in
+    let write = c.before.before.before.before.before.write-tokens in
+    list_into args.text.now write.ensures _ c.before.n.given.1
 
 same-length-2 : tie.Need-same-length-2
 same-length-2 c = search rules
 
 returns-2 : tie.Need-returns-2
 returns-2 c =
-    let known = c.before.before.before in
-    let write = known.before.before.before.before in
-    let args = write.before.before.before.before.args in
-    tokens_into args.text.now write.write-tokens.ensures _ known.offset.given.1 c.fault-at.ensures.0
-    c.fault-at.ensures.1
+    let args = c.before.before.before.before.before.before.before.before.before.before.args in
+    let write = c.before.before.before.before.before.before.write-tokens in
+    fault_into args.text.now write.ensures _ c.before.before.offset.given.1 c.coded.ensures
 
 same-length-3 : tie.Need-same-length-3
 same-length-3 c = search rules
 
 returns-3 : tie.Need-returns-3
 returns-3 c =
-    let known = c.before.before in
-    let write = known.before.before.before.before in
-    let args = write.before.before.before.before.args in
-    tokens_into args.text.now write.write-tokens.ensures _ known.r.given.1 c.coded.ensures refl
+    let args = c.before.before.before.before.before.before.before.before.before.before.args in
+    let write = c.before.before.before.before.before.before.write-tokens in
+    refusal_into args.text.now write.ensures _ c.before.before.r.given.1 c.coded2.ensures
 
 pub kusthrila-tokens-spec : {M : Type 1} → statement M
 kusthrila-tokens-spec =
@@ -64,9 +58,9 @@ kusthrila-tokens-spec =
     write-tokens-requires
     enum-known-n
     enum-known-offset
-    fault-at-requires
-    enum-known-r
     coded-requires
+    enum-known-r
+    coded-requires-2
     same_length
     returns
     same-length-2

@@ -32,12 +32,6 @@ enum-told-5 c = search rules
 is-tagged-requires : tie.Need-is-tagged-requires
 is-tagged-requires c κs = search rules
 
-enum-told-6 : tie.Need-enum-told-6
-enum-told-6 c = search rules
-
-is-tokens-requires : tie.Need-is-tokens-requires
-is-tokens-requires c κs = search rules
-
 enum-known-topic : tie.Need-enum-known-topic
 enum-known-topic c = search rules
 
@@ -60,10 +54,7 @@ returns-5 : tie.Need-returns-5
 returns-5 c = rw c.before.enum-told5.given.1 c.is-tagged.ensures
 
 returns-6 : tie.Need-returns-6
-returns-6 c = rw c.before.enum-told6.given.1 c.is-tokens.ensures
-
-returns-7 : tie.Need-returns-7
-returns-7 c = rw c.before.before.topic.given.1 c.is-generics.ensures
+returns-6 c = rw c.before.before.topic.given.1 c.is-generics.ensures
 
 pub is-right-spec : {M : Type 1} → statement M
 is-right-spec =
@@ -79,8 +70,6 @@ is-right-spec =
     is-listing-requires
     enum-told-5
     is-tagged-requires
-    enum-told-6
-    is-tokens-requires
     enum-known-topic
     is-generics-requires
     returns
@@ -88,5 +77,4 @@ is-right-spec =
     returns-3
     returns-4
     returns-5
-    returns-6
-    returns-7)
+    returns-6)

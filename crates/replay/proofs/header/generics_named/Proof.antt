@@ -42,20 +42,15 @@ returns-3 c =
       sym c.before.text-is3.ensures ∙ c.if3.true,
     )
 
-source-named-requires : tie.Need-source-named-requires
-source-named-requires c κs = search rules
-
 returns-4 : tie.Need-returns-4
 returns-4 c =
-    let not-additional = c.before in
-    let not-type = not-additional.before.before.before in
+    let not-type = c.before.before.before in
     let not-impl = not-type.before.before.before in
     rw (
       sym not-impl.before.text-is.ensures ∙ not-impl.if1.false,
       sym not-type.before.text-is2.ensures ∙ not-type.if2.false,
-      sym not-additional.before.text-is3.ensures ∙ not-additional.if3.false,
+      sym c.before.text-is3.ensures ∙ c.if3.false,
     )
-    c.source-named.ensures
 
 pub generics-named-spec : {M : Type 1} → statement M
 generics-named-spec =
@@ -70,5 +65,4 @@ generics-named-spec =
     slice-aggregate-text-is-3
     text-is-requires-3
     returns-3
-    source-named-requires
     returns-4)

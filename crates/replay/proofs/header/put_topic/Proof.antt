@@ -47,15 +47,6 @@ slice-aggregate-put-bytes-5 c = search rules
 put-bytes-requires-5 : tie.Need-put-bytes-requires-5
 put-bytes-requires-5 c κs = search rules
 
-enum-told-6 : tie.Need-enum-told-6
-enum-told-6 c = search rules
-
-slice-aggregate-put-bytes-6 : tie.Need-slice-aggregate-put-bytes-6
-slice-aggregate-put-bytes-6 c = search rules
-
-put-bytes-requires-6 : tie.Need-put-bytes-requires-6
-put-bytes-requires-6 c κs = search rules
-
 enum-known-topic : tie.Need-enum-known-topic
 enum-known-topic c = search rules
 
@@ -112,15 +103,6 @@ same-length-6 c = search rules
 
 returns-6 : tie.Need-returns-6
 returns-6 c =
-    let enum-told6 = c.before.before.before.before.before.enum-told6 in
-    let put-bytes6 = c.before.before.put-bytes6 in
-    rw enum-told6.given.1 put-bytes6.ensures
-
-same-length-7 : tie.Need-same-length-7
-same-length-7 c = search rules
-
-returns-7 : tie.Need-returns-7
-returns-7 c =
     let topic = c.before.before.before.before.before.topic in
     rw topic.given.1 c.before.before.put-writer.ensures
 
@@ -143,9 +125,6 @@ put-topic-spec =
     enum-told-5
     slice-aggregate-put-bytes-5
     put-bytes-requires-5
-    enum-told-6
-    slice-aggregate-put-bytes-6
-    put-bytes-requires-6
     enum-known-topic
     put-writer-requires
     same_length
@@ -159,6 +138,4 @@ put-topic-spec =
     same-length-5
     returns-5
     same-length-6
-    returns-6
-    same-length-7
-    returns-7)
+    returns-6)

@@ -41,12 +41,6 @@ enum-told-6 c = search rules
 count-requires-6 : tie.Need-count-requires-6
 count-requires-6 c κs = search rules
 
-enum-told-7 : tie.Need-enum-told-7
-enum-told-7 c = search rules
-
-count-requires-7 : tie.Need-count-requires-7
-count-requires-7 c κs = search rules
-
 returns : tie.Need-returns
 returns c = rw (c.before.enum_told.given.1, c.count.ensures, c.before.before.before.count-wrong.ensures)
 
@@ -65,9 +59,6 @@ returns-5 c = rw (c.before.enum-told5.given.1, c.count5.ensures, c.before.before
 returns-6 : tie.Need-returns-6
 returns-6 c = rw (c.before.enum-told6.given.1, c.count6.ensures, c.before.before.before.count-wrong.ensures)
 
-returns-7 : tie.Need-returns-7
-returns-7 c = rw (c.before.enum-told7.given.1, c.count7.ensures, c.before.before.before.count-wrong.ensures)
-
 pub counted_spec : {M : Type 1} → statement M
 counted_spec =
     tie.close
@@ -85,12 +76,9 @@ counted_spec =
     count-requires-5
     enum-told-6
     count-requires-6
-    enum-told-7
-    count-requires-7
     returns
     returns-2
     returns-3
     returns-4
     returns-5
-    returns-6
-    returns-7)
+    returns-6)

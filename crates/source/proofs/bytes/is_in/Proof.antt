@@ -27,6 +27,12 @@ enum-told-4 c = search rules
 is-in-doc-requires : tie.Need-is-in-doc-requires
 is-in-doc-requires c κs = search rules
 
+enum-known-class : tie.Need-enum-known-class
+enum-known-class c = search rules
+
+is-in-digits-requires : tie.Need-is-in-digits-requires
+is-in-digits-requires c κs = search rules
+
 returns : tie.Need-returns
 returns c =
     let args = c.before.before.before.args in
@@ -48,6 +54,12 @@ returns-4 c =
     let args = c.before.before.before.args in
     c.is-in-doc.ensures ∙ sym (ap (λ (k : Class). in_class k args.b) c.before.enum-told4.given.1)
 
+returns-5 : tie.Need-returns-5
+returns-5 c =
+    let args-2 = c.before.before.before.before.args in
+    let args = args-2 in
+    c.is-in-digits.ensures ∙ sym (ap (λ (k : Class). in_class k args.b) c.before.before.class.given.1)
+
 pub is-in-spec : {M : Type 1} → statement M
 is-in-spec =
     tie.close
@@ -59,7 +71,10 @@ is-in-spec =
     enum-told-3
     enum-told-4
     is-in-doc-requires
+    enum-known-class
+    is-in-digits-requires
     returns
     returns-2
     returns-3
-    returns-4)
+    returns-4
+    returns-5)

@@ -12,11 +12,11 @@ use Rattle.source.proofs.number.exponent_end.Tie as tie
 sign-end-requires : tie.Need-sign-end-requires
 sign-end-requires c κs = search rules
 
-digits-end-requires : tie.Need-digits-end-requires
-digits-end-requires c κs = search rules
+run-end-requires : tie.Need-run-end-requires
+run-end-requires c κs = search rules
 
 any-digit-requires : tie.Need-any-digit-requires
-any-digit-requires c κs = c.digits-end.ensures.within c.before.sign-end.ensures.within
+any-digit-requires c κs = c.run-end.ensures.within c.before.sign-end.ensures.within
 
 returns : tie.Need-returns
 returns c =
@@ -24,7 +24,7 @@ returns c =
     let sign-end = c.before.before.before.sign-end in
     let start = before in
     let sign = sign-end.ensures in
-    let run = c.before.before.digits-end.ensures in
+    let run = c.before.before.run-end.ensures in
     let some = sym c.before.any-digit.ensures ∙ c.if1.true in
     let from = sign-end.result in
     ends_from from (omega (arith, sign.told)) (exponent_at sign) (ends (record {
@@ -35,7 +35,7 @@ returns c =
 
 returns-2 : tie.Need-returns-2
 returns-2 c =
-    let run = c.before.before.digits-end.ensures in
+    let run = c.before.before.run-end.ensures in
     let no = sym c.before.any-digit.ensures ∙ c.if1.false in
     none
     (exponent_at c.before.before.before.sign-end.ensures ∙ ap (after _)
@@ -43,4 +43,4 @@ returns-2 c =
 
 pub exponent-end-spec : {M : Type 1} → statement M
 exponent-end-spec =
-    tie.close (tie.spec sign-end-requires digits-end-requires any-digit-requires returns returns-2)
+    tie.close (tie.spec sign-end-requires run-end-requires any-digit-requires returns returns-2)

@@ -9,16 +9,16 @@ use borrow.Author.Rules.{rules}
 use Rattle.source.proofs.number.radix_digits_end.Statement.{statement}
 use Rattle.source.proofs.number.radix_digits_end.Tie as tie
 
-digits-end-requires : tie.Need-digits-end-requires
-digits-end-requires c κs = search rules
+run-end-requires : tie.Need-run-end-requires
+run-end-requires c κs = search rules
 
 any-digit-requires : tie.Need-any-digit-requires
-any-digit-requires c κs = c.digits-end.ensures.within c.before.before.requires
+any-digit-requires c κs = c.run-end.ensures.within c.before.before.requires
 
 returns : tie.Need-returns
 unfolding radix_digits
 returns c =
-    let digits = digits_at c.before.before.digits-end.ensures in
+    let digits = digits_at c.before.before.run-end.ensures in
     let no = and_fails _ _ (sym c.before.any-digit.ensures ∙ not-true _ c.if1.true) in
     none (digits ∙ passed_over _ _ _ no)
 
@@ -28,8 +28,8 @@ is-reserved-requires c κs = search rules
 returns-2 : tie.Need-returns-2
 unfolding radix_digits
 returns-2 c =
-    let digits-end = c.before.before.before.before.digits-end in
-    let digits = digits_at digits-end.ensures in
+    let run-end = c.before.before.before.before.run-end in
+    let digits = digits_at run-end.ensures in
     let some = sym c.before.before.before.any-digit.ensures ∙ not-false _ c.before.before.if1.false in
     let no = and_last _ _ some ∙ ap not (sym c.before.is-reserved.ensures ∙ c.if2.true) in
     none (digits ∙ passed_over _ _ _ no)
@@ -38,9 +38,9 @@ returns-3 : tie.Need-returns-3
 unfolding radix_digits
 returns-3 c =
     let before = c.before.before.before.before.before.before in
-    let digits-end = c.before.before.before.before.digits-end in
+    let run-end = c.before.before.before.before.run-end in
     let start = before in
-    let run = digits-end.ensures in
+    let run = run-end.ensures in
     let some = sym c.before.before.before.any-digit.ensures ∙ not-false _ c.before.before.if1.false in
     let fits = and_both _ _ some (ap not (sym c.before.is-reserved.ensures ∙ c.if2.false)) in
     ends (record {
@@ -52,4 +52,4 @@ returns-3 c =
 pub radix-digits-end-spec : {M : Type 1} → statement M
 radix-digits-end-spec =
     tie.close
-    (tie.spec digits-end-requires any-digit-requires returns is-reserved-requires returns-2 returns-3)
+    (tie.spec run-end-requires any-digit-requires returns is-reserved-requires returns-2 returns-3)

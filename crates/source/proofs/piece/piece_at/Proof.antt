@@ -1,12 +1,17 @@
-use mathlib.Core.Path.{refl, sym, ◌∙◌}
+use mathlib.Core.Path.{◌≡◌, refl, sym, ap, ◌∙◌}
+use Prim.Native.Nat.{◌-◌}
+use native.Mathlib.Omega.{arith}
 use borrow.Author.Tests.{eq-eqb, ne_eqb}
+use lib.ListN.{drop}
 use Rattle.token_list.specs.Byte.{QUOTE}
 use Rattle.token_list.proofs.Texts.{chosen, passed_over}
 use Rattle.source.specs.Bytes.{SLASH, DOUBLE_QUOTE, blank}
 use Rattle.source.specs.Taken as taken
 use Rattle.source.specs.Piece as piece
+use Rattle.source.specs.Contract.{gap}
 use Rattle.source.proofs.Offsets.{ends_behind}
-use Rattle.source.proofs.Pieces.{piece_as, piece_at, gap_at}
+use Rattle.source.proofs.Runs.{run_on}
+use Rattle.source.proofs.Pieces.{piece_as, piece_at}
 use borrow.Author.Rules.{rules}
 use Rattle.source.proofs.piece.piece_at.Statement.{statement}
 use Rattle.source.proofs.piece.piece_at.Tie as tie
@@ -22,10 +27,20 @@ run-end-requires c κs = search rules
 
 returns : tie.Need-returns
 returns c =
-    let before = c.before.before.before.before.before in
-    let start = before in
+    let args-2 = c.before.before.before.before.before.args in
+    let pre = c.before.before.before.before.before.requires in
+    let args = args-2 in
+    let s = args.s.now in
+    let i = args.i in
     let some = sym c.before.before.is-blank.ensures ∙ c.before.if1.true in
-    gap_at start.requires some c.run-end.ensures
+    let run = c.run-end.ensures in
+    let here = pre in
+    let n : taken.run blank (drop i s) ≡ c.run-end.result - i = omega (arith, run.told) in
+    gap (record {
+      told = piece_at s i ∙ chosen _ _ _ some ∙ ap piece.gap n;
+      forth = omega (arith, run_on blank s i here some, run.told);
+      within = run.within (omega arith);
+    })
 
 is-name-start-requires : tie.Need-is-name-start-requires
 is-name-start-requires c κs = search rules
@@ -35,10 +50,8 @@ word-requires c κs = sym c.before.is-name-start.ensures ∙ c.if2.true
 
 returns-2 : tie.Need-returns-2
 returns-2 c =
-    let args-3 = c.before.before.before.before.before.before.before.args in
-    let is-blank-2 = c.before.before.before.before.is-blank in
-    let args-2 = args-3 in
-    let is-blank = is-blank-2 in
+    let args-2 = c.before.before.before.before.before.before.before.args in
+    let is-blank = c.before.before.before.before.is-blank in
     let args = args-2 in
     let s = args.s.now in
     let i = args.i in
@@ -57,16 +70,11 @@ literal-requires c κs = search rules
 
 returns-3 : tie.Need-returns-3
 returns-3 c =
-    let args-3 = c.before.before.before.before.before.before.before.before.before.before.args in
-    let is-blank-2 = c.before.before.before.before.before.before.before.is-blank in
-    let if1-2 = c.before.before.before.before.before.before.if1 in
-    let is-name-start-2 = c.before.before.before.before.before.is-name-start in
-    let if2-2 = c.before.before.before.before.if2 in
-    let args-2 = args-3 in
-    let is-blank = is-blank-2 in
-    let if1 = if1-2 in
-    let is-name-start = is-name-start-2 in
-    let if2 = if2-2 in
+    let args-2 = c.before.before.before.before.before.before.before.before.before.before.args in
+    let is-blank = c.before.before.before.before.before.before.before.is-blank in
+    let if1 = c.before.before.before.before.before.before.if1 in
+    let is-name-start = c.before.before.before.before.before.is-name-start in
+    let if2 = c.before.before.before.before.if2 in
     let args = args-2 in
     let s = args.s.now in
     let i = args.i in
@@ -87,18 +95,12 @@ literal-requires-2 c κs = search rules
 
 returns-4 : tie.Need-returns-4
 returns-4 c =
-    let args-3 = c.before.before.before.before.before.before.before.before.before.before.before.args in
-    let is-blank-2 = c.before.before.before.before.before.before.before.before.is-blank in
-    let if1-2 = c.before.before.before.before.before.before.before.if1 in
-    let is-name-start-2 = c.before.before.before.before.before.before.is-name-start in
-    let if2-2 = c.before.before.before.before.before.if2 in
-    let is-digit-2 = c.before.before.before.before.is_digit in
-    let args-2 = args-3 in
-    let is-blank = is-blank-2 in
-    let if1 = if1-2 in
-    let is-name-start = is-name-start-2 in
-    let if2 = if2-2 in
-    let is_digit = is-digit-2 in
+    let args-2 = c.before.before.before.before.before.before.before.before.before.before.before.args in
+    let is-blank = c.before.before.before.before.before.before.before.before.is-blank in
+    let if1 = c.before.before.before.before.before.before.before.if1 in
+    let is-name-start = c.before.before.before.before.before.before.is-name-start in
+    let if2 = c.before.before.before.before.before.if2 in
+    let is_digit = c.before.before.before.before.is_digit in
     let args = args-2 in
     let s = args.s.now in
     let i = args.i in
@@ -115,18 +117,12 @@ quote-requires c κs = search rules
 
 returns-5 : tie.Need-returns-5
 returns-5 c =
-    let args-3 = c.before.before.before.before.before.before.before.before.before.before.before.args in
-    let is-blank-2 = c.before.before.before.before.before.before.before.before.is-blank in
-    let if1-2 = c.before.before.before.before.before.before.before.if1 in
-    let is-name-start-2 = c.before.before.before.before.before.before.is-name-start in
-    let if2-2 = c.before.before.before.before.before.if2 in
-    let is-digit-2 = c.before.before.before.before.is_digit in
-    let args-2 = args-3 in
-    let is-blank = is-blank-2 in
-    let if1 = if1-2 in
-    let is-name-start = is-name-start-2 in
-    let if2 = if2-2 in
-    let is_digit = is-digit-2 in
+    let args-2 = c.before.before.before.before.before.before.before.before.before.before.before.args in
+    let is-blank = c.before.before.before.before.before.before.before.before.is-blank in
+    let if1 = c.before.before.before.before.before.before.before.if1 in
+    let is-name-start = c.before.before.before.before.before.before.is-name-start in
+    let if2 = c.before.before.before.before.before.if2 in
+    let is_digit = c.before.before.before.before.is_digit in
     let args = args-2 in
     let s = args.s.now in
     let i = args.i in
@@ -142,20 +138,13 @@ slash-requires c κs = search rules
 
 returns-6 : tie.Need-returns-6
 returns-6 c =
-    let before = c.before.before.before.before.before.before.before.before.before.before.before.before in
-    let is-blank-2 = c.before.before.before.before.before.before.before.before.before.is-blank in
-    let if1-2 = c.before.before.before.before.before.before.before.before.if1 in
-    let is-name-start-2 = c.before.before.before.before.before.before.before.is-name-start in
-    let if2-2 = c.before.before.before.before.before.before.if2 in
-    let is-digit-2 = c.before.before.before.before.before.is_digit in
-    let if3-2 = c.before.before.before.before.if3 in
-    let args-2 = before.args in
-    let is-blank = is-blank-2 in
-    let if1 = if1-2 in
-    let is-name-start = is-name-start-2 in
-    let if2 = if2-2 in
-    let is_digit = is-digit-2 in
-    let if3 = if3-2 in
+    let args-2 = c.before.before.before.before.before.before.before.before.before.before.before.before.args in
+    let is-blank = c.before.before.before.before.before.before.before.before.before.is-blank in
+    let if1 = c.before.before.before.before.before.before.before.before.if1 in
+    let is-name-start = c.before.before.before.before.before.before.before.is-name-start in
+    let if2 = c.before.before.before.before.before.before.if2 in
+    let is_digit = c.before.before.before.before.before.is_digit in
+    let if3 = c.before.before.before.before.if3 in
     let args = args-2 in
     let s = args.s.now in
     let i = args.i in
@@ -173,20 +162,13 @@ single-requires c κs = search rules
 
 returns-7 : tie.Need-returns-7
 returns-7 c =
-    let before = c.before.before.before.before.before.before.before.before.before.before.before.before in
-    let is-blank-2 = c.before.before.before.before.before.before.before.before.before.is-blank in
-    let if1-2 = c.before.before.before.before.before.before.before.before.if1 in
-    let is-name-start-2 = c.before.before.before.before.before.before.before.is-name-start in
-    let if2-2 = c.before.before.before.before.before.before.if2 in
-    let is-digit-2 = c.before.before.before.before.before.is_digit in
-    let if3-2 = c.before.before.before.before.if3 in
-    let args-2 = before.args in
-    let is-blank = is-blank-2 in
-    let if1 = if1-2 in
-    let is-name-start = is-name-start-2 in
-    let if2 = if2-2 in
-    let is_digit = is-digit-2 in
-    let if3 = if3-2 in
+    let args-2 = c.before.before.before.before.before.before.before.before.before.before.before.before.args in
+    let is-blank = c.before.before.before.before.before.before.before.before.before.is-blank in
+    let if1 = c.before.before.before.before.before.before.before.before.if1 in
+    let is-name-start = c.before.before.before.before.before.before.before.is-name-start in
+    let if2 = c.before.before.before.before.before.before.if2 in
+    let is_digit = c.before.before.before.before.before.is_digit in
+    let if3 = c.before.before.before.before.if3 in
     let args = args-2 in
     let s = args.s.now in
     let i = args.i in

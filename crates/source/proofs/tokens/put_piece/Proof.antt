@@ -1,4 +1,4 @@
-use mathlib.Core.Path.{ap, sym}
+use mathlib.Core.Path.{ap}
 use mathlib.Core.Bool.{false}
 use mathlib.Core.List.{List, [], ◌∷◌}
 use Prim.Native.Nat.{ℕ, ◌+◌}
@@ -6,7 +6,7 @@ use native.Mathlib.Omega.{arith}
 use Rattle.token_list.specs.Row.{written}
 use Rattle.token_list.specs.Rows.{lifetime_rows}
 use Rattle.token_list.proofs.Texts.{drop_of_take}
-use Rattle.output.proofs.Appends.{appended_none, appended_join, appended_as}
+use Rattle.output.proofs.Texts.{nothing, joined, put_as}
 use Rattle.source.specs.Lex.{row_at}
 use Rattle.source.specs.Tokens.{doc_line_rows}
 use Rattle.source.proofs.Measures.{row_to, lifetime_to, doc_to, doc_long}
@@ -20,32 +20,32 @@ enum_told c = search rules
 enum-known-p : tie.Need-enum-known-p
 enum-known-p c = search rules
 
-sub-append-row : tie.Need-overflow-sub-append-row
-sub-append-row c =
+sub-put-row : tie.Need-overflow-sub-put-row
+sub-put-row c =
     let before = c.before.before.before.before.before.before in
     let start = before in
     let piece = c.before.before.p.given in
     let here = rw piece.1 at start.requires.1 in
     omega (arith, (row_to here).forth, (row_to here).within)
 
-part-append-row-start : tie.Need-slice-bounds-append-row-start
-part-append-row-start c =
+part-put-row-start : tie.Need-slice-bounds-put-row-start
+part-put-row-start c =
     let before = c.before.before.before.before.before.before in
     let start = before in
     let piece = c.before.before.p.given in
     let here = rw piece.1 at start.requires.1 in
     omega (arith, (row_to here).forth, (row_to here).within)
 
-part-append-row-end : tie.Need-slice-bounds-append-row-end
-part-append-row-end c =
+part-put-row-end : tie.Need-slice-bounds-put-row-end
+part-put-row-end c =
     let before = c.before.before.before.before.before.before in
     let start = before in
     let piece = c.before.before.p.given in
     let here = rw piece.1 at start.requires.1 in
     omega (arith, (row_to here).forth, (row_to here).within)
 
-append-row-requires : tie.Need-append-row-requires
-append-row-requires c κs = search rules
+put-row-requires : tie.Need-put-row-requires
+put-row-requires c κs = search rules
 
 enum-known-p-2 : tie.Need-enum-known-p-2
 enum-known-p-2 c = search rules
@@ -58,14 +58,14 @@ add_start c =
     let here = rw piece.1 at start.requires.1 in
     omega (arith, (lifetime_to here).forth, (lifetime_to here).within)
 
-slice-aggregate-append-row : tie.Need-slice-aggregate-append-row
-slice-aggregate-append-row c = search rules
+slice-aggregate-put-row : tie.Need-slice-aggregate-put-row
+slice-aggregate-put-row c = search rules
 
-append-row-requires-2 : tie.Need-append-row-requires-2
-append-row-requires-2 c κs = search rules
+put-row-requires-2 : tie.Need-put-row-requires-2
+put-row-requires-2 c κs = search rules
 
-sub-append-row-2 : tie.Need-overflow-sub-append-row-2
-sub-append-row-2 c =
+sub-put-row-2 : tie.Need-overflow-sub-put-row-2
+sub-put-row-2 c =
     let before = c.before.before.before.before.before.before.before.before.before.before.before in
     let p2 = c.before.before.before.before.before.before.before.p2 in
     let start = before in
@@ -73,8 +73,8 @@ sub-append-row-2 c =
     let here = rw piece.1 at start.requires.1 in
     omega (arith, (lifetime_to here).forth, (lifetime_to here).within)
 
-part-append-row-start-2 : tie.Need-slice-bounds-append-row-start-2
-part-append-row-start-2 c =
+part-put-row-start-2 : tie.Need-slice-bounds-put-row-start-2
+part-put-row-start-2 c =
     let before = c.before.before.before.before.before.before.before.before.before.before.before in
     let p2 = c.before.before.before.before.before.before.before.p2 in
     let start = before in
@@ -82,8 +82,8 @@ part-append-row-start-2 c =
     let here = rw piece.1 at start.requires.1 in
     omega (arith, (lifetime_to here).forth, (lifetime_to here).within)
 
-part-append-row-end-2 : tie.Need-slice-bounds-append-row-end-2
-part-append-row-end-2 c =
+part-put-row-end-2 : tie.Need-slice-bounds-put-row-end-2
+part-put-row-end-2 c =
     let before = c.before.before.before.before.before.before.before.before.before.before.before in
     let p2 = c.before.before.before.before.before.before.before.p2 in
     let start = before in
@@ -91,8 +91,8 @@ part-append-row-end-2 c =
     let here = rw piece.1 at start.requires.1 in
     omega (arith, (lifetime_to here).forth, (lifetime_to here).within)
 
-append-row-requires-3 : tie.Need-append-row-requires-3
-append-row-requires-3 c κs = search rules
+put-row-requires-3 : tie.Need-put-row-requires-3
+put-row-requires-3 c κs = search rules
 
 enum-known-p-3 : tie.Need-enum-known-p-3
 enum-known-p-3 c = search rules
@@ -136,7 +136,9 @@ enum-told-2 : tie.Need-enum-told-2
 enum-told-2 c = search rules
 
 returns : tie.Need-returns
-returns c = rw c.enum_told.given.1 appended_none
+returns c =
+    let good = c.before.before.before.before.well-formed in
+    rw c.enum_told.given.1 (nothing _ _ (omega (arith, good)))
 
 same_length : tie.Need-same-length
 same_length c = search rules
@@ -147,10 +149,10 @@ returns-2 c =
     let p = c.before.before.before.before.before.before.p in
     let args = args-2 in
     let piece = p.given in
-    let text = sym (drop_of_take args.i piece.0.1.0 args.s.now) in
+    let text = drop_of_take args.i piece.0.1.0 args.s.now in
     rw piece.1
-    (appended_as (ap (λ (t : List ℕ). written false ((row_at piece.0.0 0 t).row ∷ [])) text)
-    c.before.before.append-row.ensures)
+    (put_as (ap (λ (t : List ℕ). written false ((row_at piece.0.0 0 t).row ∷ [])) text)
+    c.before.before.put-row.ensures)
 
 same-length-2 : tie.Need-same-length-2
 same-length-2 c = search rules
@@ -161,10 +163,10 @@ returns-3 c =
     let quote = before in
     let piece = quote.before.before.before.before.p2.given in
     let args = quote.before.before.before.before.before.before.before.before.args in
-    let text = sym (drop_of_take (args.i + 1) piece.0.0 args.s.now) in
+    let text = drop_of_take (args.i + 1) piece.0.0 args.s.now in
     rw piece.1
-    (appended_as (ap (λ (t : List ℕ). written false (lifetime_rows t)) text)
-    (appended_join quote.append-row2.ensures c.before.before.append-row3.ensures))
+    (put_as (ap (λ (t : List ℕ). written false (lifetime_rows t)) text)
+    (joined quote.put-row2.ensures c.before.before.put-row3.ensures))
 
 same-length-3 : tie.Need-same-length-3
 same-length-3 c = search rules
@@ -175,12 +177,14 @@ returns-4 c =
     let p3 = c.before.before.before.before.before.before.p3 in
     let args = args-2 in
     let piece = p3.given in
-    let text = sym (drop_of_take (args.i + 3) piece.0.0 args.s.now) in
+    let text = drop_of_take (args.i + 3) piece.0.0 args.s.now in
     rw piece.1
-    (appended_as (ap (λ (t : List ℕ). written false (doc_line_rows t)) text) c.before.before.put-doc.ensures)
+    (put_as (ap (λ (t : List ℕ). written false (doc_line_rows t)) text) c.before.before.put-doc.ensures)
 
 returns-5 : tie.Need-returns-5
-returns-5 c = rw c.enum-told2.given.1 appended_none
+returns-5 c =
+    let good = c.before.before.before.before.well-formed in
+    rw c.enum-told2.given.1 (nothing _ _ (omega (arith, good)))
 
 pub put-piece-spec : {M : Type 1} → statement M
 put-piece-spec =
@@ -188,18 +192,18 @@ put-piece-spec =
     (tie.spec
     enum_told
     enum-known-p
-    sub-append-row
-    part-append-row-start
-    part-append-row-end
-    append-row-requires
+    sub-put-row
+    part-put-row-start
+    part-put-row-end
+    put-row-requires
     enum-known-p-2
     add_start
-    slice-aggregate-append-row
-    append-row-requires-2
-    sub-append-row-2
-    part-append-row-start-2
-    part-append-row-end-2
-    append-row-requires-3
+    slice-aggregate-put-row
+    put-row-requires-2
+    sub-put-row-2
+    part-put-row-start-2
+    part-put-row-end-2
+    put-row-requires-3
     enum-known-p-3
     add-start-2
     sub-put-doc

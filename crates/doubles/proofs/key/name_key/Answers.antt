@@ -1,0 +1,6 @@
+use Rattle.doubles.proofs.Keys.{name-key}
+use borrow.Author.Rules.{rules}
+use Rattle.doubles.proofs.key.name_key.Goals as goal
+
+pub returns : goal.returns
+returns c = name-key c.bare-from.ensures c.hash-number.ensures

@@ -1,0 +1,52 @@
+use mathlib.Core.Path.{◌≡◌, ap, ◌∙◌, sym}
+use mathlib.Core.List.{List, [], ◌∷◌, ◌++◌}
+use Prim.Native.Nat.{ℕ, suc, ◌+◌}
+use native.Mathlib.Omega.{arith}
+use lib.ListN.{length, set, length-set, length-append}
+use lib.Seq.{sets, length-sets}
+use Rattle.token_list.specs.Byte.{SPACE, LF}
+use Rattle.token_list.proofs.Stores.{sets_append}
+use Rattle.output.specs.Contract.{Stored}
+use Rattle.output.proofs.Appends.{appended_stored}
+use Rattle.output.proofs.put.append_row.Goals as goal
+
+abbrev row : ℕ → List ℕ → List ℕ
+row kind t = kind ∷ SPACE ∷ t ++ LF ∷ []
+
+row-long : (kind : ℕ) (t : List ℕ) → length (row kind t) ≡ length t + 3
+row-long kind t = omega (arith, length-append t (LF ∷ []))
+
+-- the row by its four stores
+module _ (k : List ℕ) (i kind : ℕ) (t : List ℕ) where
+  abbrev started : List ℕ
+  started = set (set k i kind) (i + 1) SPACE
+
+  row-stored : {l : List ℕ} → l ≡ sets started (i + 2) t
+      → Stored k (set l (i + 2 + length t) LF) i (i + 2 + length t + 1) (row kind t)
+  row-stored {l} e =
+      let to : i + 2 ≡ suc (suc i) = omega arith in
+      let one : i + 1 ≡ suc i = omega arith in
+      let ended = ap (λ (x : List ℕ). set x (i + 2 + length t) LF) e in
+      let moved = ap (λ (n : ℕ). sets (sets started n t) (n + length t) (LF ∷ [])) to in
+      let first = ap (λ (n : ℕ). sets (set (set k i kind) n SPACE) (suc (suc i)) (t ++ LF ∷ [])) one in
+      record {
+        next = omega (arith, row-long kind t);
+        bytes = ended ∙ moved ∙ sym (sets_append started (suc (suc i)) t (LF ∷ [])) ∙ first;
+      }
+
+pub bounds-out-space : goal.bounds-out-space
+bounds-out-space c = simp length-set (omega arith)
+
+pub copy_bytes-requires : goal.copy_bytes-requires
+copy_bytes-requires c = simp length-set (omega arith)
+
+pub bounds-out-end : goal.bounds-out-end
+bounds-out-end c = omega (arith, simp (length-sets, length-set) at (ap length c.copy_bytes.ensures))
+
+pub shape_of-out-then-n-room : goal.shape_of-out-then-n-room
+shape_of-out-then-n-room c = simp length-set (simp (length-sets, length-set) at (ap length c.copy_bytes.ensures))
+
+pub returns-then-n-room : goal.returns-then-n-room
+returns-then-n-room c = let stored = row-stored c.args.out.now c.args.at c.args.kind c.args.text.now c.copy_bytes.ensures in
+    let long = row-long c.args.kind c.args.text.now in
+    appended_stored (omega (arith, long)) stored

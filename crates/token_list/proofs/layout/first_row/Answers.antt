@@ -1,0 +1,11 @@
+use mathlib.Core.Path.{sym, ◌∙◌}
+use mathlib.Core.Bool.{true, false}
+use Rattle.token_list.proofs.Columns.{first-row_by}
+use borrow.Author.Rules.{rules}
+use Rattle.token_list.proofs.layout.first_row.Goals as goal
+
+pub returns-then-is_marked : goal.returns-then-is_marked
+returns-then-is_marked c = first-row_by c.args.s.now true (sym c.is_marked.ensures ∙ c.if-is_marked.true)
+
+pub returns : goal.returns
+returns c = first-row_by c.args.s.now false (sym c.is_marked.ensures ∙ c.if-is_marked.false)

@@ -1,0 +1,32 @@
+use mathlib.Core.Path.{sym, ◌∙◌}
+use Rattle.token_list.proofs.Texts.{or_last, or_holds}
+use borrow.Author.Rules.{rules}
+use Rattle.token_list.proofs.row.is_never_raw.Goals as goal
+
+pub returns-then-text_is : goal.returns-then-text_is
+returns-then-text_is c = sym (or_holds _ _ (sym c.text_is.ensures ∙ c.if-text_is.true))
+
+pub returns-then-text_is-2 : goal.returns-then-text_is-2
+returns-then-text_is-2 c = sym
+    (or_last _ _ (sym c.text_is.ensures ∙ c.if-text_is.false) ∙ or_holds _ _
+    (sym c.text_is-2.ensures ∙ c.if-text_is-2.true))
+
+pub returns-then-text_is-3 : goal.returns-then-text_is-3
+returns-then-text_is-3 c = sym
+    (or_last _ _ (sym c.text_is.ensures ∙ c.if-text_is.false) ∙ or_last _ _
+    (sym c.text_is-2.ensures ∙ c.if-text_is-2.false) ∙ or_holds _ _
+    (sym c.text_is-3.ensures ∙ c.if-text_is-3.true))
+
+pub returns-then-text_is-4 : goal.returns-then-text_is-4
+returns-then-text_is-4 c = sym
+    (or_last _ _ (sym c.text_is.ensures ∙ c.if-text_is.false) ∙ or_last _ _
+    (sym c.text_is-2.ensures ∙ c.if-text_is-2.false) ∙ or_last _ _
+    (sym c.text_is-3.ensures ∙ c.if-text_is-3.false) ∙ or_holds _ _
+    (sym c.text_is-4.ensures ∙ c.if-text_is-4.true))
+
+pub returns : goal.returns
+returns c = c.text_is-5.ensures ∙ sym
+    (or_last _ _ (sym c.text_is.ensures ∙ c.if-text_is.false) ∙ or_last _ _
+    (sym c.text_is-2.ensures ∙ c.if-text_is-2.false) ∙ or_last _ _
+    (sym c.text_is-3.ensures ∙ c.if-text_is-3.false) ∙ or_last _ _
+    (sym c.text_is-4.ensures ∙ c.if-text_is-4.false))

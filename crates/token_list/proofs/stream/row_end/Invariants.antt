@@ -1,0 +1,14 @@
+use native.Mathlib.Omega.{arith}
+use Prim.Native.Nat.{◌+◌, ◌-◌}
+use mathlib.Core.Path.{◌≡◌, subst}
+use lib.ListN.{length}
+use Rattle.token_list.specs.Layout.{marked}
+use Rattle.token_list.proofs.Columns.{offset_low}
+use Rattle.token_list.proofs.Rows.{Ahead, ahead_start, ahead_more, ahead_found}
+use Rattle.token_list.proofs.stream.row_end.Given as goal
+
+abbrev pub invariant-loop-i : goal.invariant-loop-i
+invariant-loop-i l = Ahead l.s l.at l.i
+
+abbrev pub decreases-loop-i : goal.decreases-loop-i
+decreases-loop-i l = length l.s - l.i

@@ -1,0 +1,13 @@
+use Rattle.token_list.proofs.Starts.{start_low}
+use Rattle.token_list.proofs.Streams.{Inside, inside-start, inside-none, inside-step, inside_done}
+use native.Mathlib.Omega.{arith}
+use lib.ListN.{length}
+use Prim.Native.Nat.{ℕ, ◌+◌, ◌-◌}
+use mathlib.Core.Path.{sym, subst}
+use Rattle.token_list.proofs.stream.skip.Given as goal
+
+abbrev pub invariant-loop-depth : goal.invariant-loop-depth
+invariant-loop-depth l = Inside l.s (record { at = l.initial.i; row = l.initial.row }) l.i l.row l.depth
+
+abbrev pub decreases-loop-depth : goal.decreases-loop-depth
+decreases-loop-depth l = length l.s - l.i
