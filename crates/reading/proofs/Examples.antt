@@ -82,7 +82,7 @@ unfolding before at scope_form keyword marked first_row
 scopes = refl
 
 -- `where u8 : X ;` after a tuple struct's body, where that difference is allowed
-pub tuple_where : (allowed : Difference → Bool) → allowed g.tuple_where ≡ true
+pub tuple_where : (allowed : Difference → Bool) → allowed g.tuple-where ≡ true
     → LeftOver allowed true (stream (bytes "kind text\ni where\ni u8\np :\ni X\np ;\n"))
 unfolding before at marked first_row
 tuple_where allowed e =

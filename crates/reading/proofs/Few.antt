@@ -129,7 +129,7 @@ module _ {A : Type 0} (f : Fields → Value → A) where
     where
       closed : (t : Took Fields) → Short (size (group d ts us))
           (after row (r.closing us t) (λ g. (r.value_if >>= λ v. r.comma (f g v))))
-      closed (took g rs vs) = onward-short _ (omega arith) (value-short (f g) _ us)
+      closed (took g rs vs) = onward-short (role.delimiter ∷ rs ++ role.delimiter ∷ []) (omega arith) (value-short (f g) _ us)
       closed (stopped w n p) = stops
 
       go : (b c : Bool) → Short (size (group d ts us))
@@ -154,14 +154,16 @@ module _ (a : List Trees) (k : ℕ) where
     where
       go : (b : Bool) → Short k (after row
           (cond b (took (found q.text row) (role.variant-name ∷ []) us) (took missing [] (leaf q us))) (name_rest a))
-      go true = onward-short _ (omega arith) (named-short q.text row _ us (omega arith))
+      go true = onward-short (role.variant-name ∷ []) (omega arith) (named-short q.text row _ us (omega arith))
       go false = stops
   name-short row (group d ts us) h = go (r.lone r.is_ident ts)
     where
       go : (b : Bool) → Short k (after row
           (cond b (took (found (r.first_text ts) (row + 1)) (r.copied role.variant-name ts) us)
           (took missing [] (group d ts us))) (name_rest a))
-      go true = onward-short _ (omega arith) (named-short (r.first_text ts) (row + 1) _ us (omega arith))
+      go true =
+          onward-short (r.copied role.variant-name ts) (omega arith)
+          (named-short (r.first_text ts) (row + 1) _ us (omega arith))
       go false = stops
 
 here_short : (k row : ℕ) (ts : Trees) → size ts ≤ k + 1 → Short k (r.variant_here row ts)

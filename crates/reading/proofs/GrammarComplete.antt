@@ -16,7 +16,7 @@ use Rattle.reading.specs.Token.{is_ident, is_literal, is_punct, is_word, starts,
 use Rattle.reading.specs.Token.{WHERE, parameter_stops, field_stops, clause_stops}
 use Rattle.reading.specs.Grammar as g
 use Rattle.reading.specs.Grammar.{everything}
-use Rattle.reading.specs.Declaration.{Visibility, Kind, struct, enum, Parameter, Generics, Constraints}
+use Rattle.reading.specs.Declaration.{Visibility, Kind, Parameter, Generics, Constraints}
 use Rattle.reading.specs.Declaration.{unconstrained, constrained, Field, Fields, Value, absent, Variant, Body}
 use Rattle.reading.specs.Declaration.{Declaration, without, angled}
 use Rattle.reading.specs.Took.{Took, took, Reader, onward, ◌>>=◌, pure}
@@ -53,19 +53,19 @@ separator_then : {B : Type 0} {Q : B → Type 0} {f : Bool → Reader B} {b : �
 separator_then {Q = Q} {f = f} {us = us} {vs = vs} {qs = qs} h k =
     and_then (punct_if_complete h) (λ x e. subst (λ (x : Bool). Takes Q (f x) us vs qs) (sym e) k)
 
-optional_run_none : {b : ℕ} {ts : Trees} → starts (is_punct b) ts ≡ false → Takes Any (r.optional_run b) ts ts []
-optional_run_none {b} {ts} e = separator_then {b = b} {t = false} {us = ts} (g.Separator.absent e)
+optional_run_none : (b : ℕ) {ts : Trees} → starts (is_punct b) ts ≡ false → Takes Any (r.optional_run b) ts ts []
+optional_run_none b {ts} e = separator_then {b = b} {t = false} {us = ts} (g.Separator.absent e)
     (pure_takes end ts tt)
 
-optional_run_some : {b : ℕ} {c : Row} {us vs : Trees} {rs : List ℕ} → is_punct b c ≡ true →
+optional_run_some : (b : ℕ) {c : Row} {us vs : Trees} {rs : List ℕ} → is_punct b c ≡ true →
     g.Run everything parameter_stops role.bound 0 false us vs rs
     → Takes Any (r.optional_run b) (leaf c us) vs (role.separator ∷ rs)
-optional_run_some {b} {c} e h =
+optional_run_some b {c} e h =
     separator_then {b = b} {t = true} (g.Separator.present {q = c} e) (run_complete parameter_stops role.bound h)
 
 bound_complete : {ts us : Trees} {rs : List ℕ} → g.Bound everything ts us rs → Takes Any (r.optional_run COLON) ts us rs
-bound_complete (g.Bound.none e) = optional_run_none e
-bound_complete (g.Bound.bound e h) = optional_run_some e h
+bound_complete (g.Bound.none e) = optional_run_none COLON e
+bound_complete (g.Bound.bound e h) = optional_run_some COLON e h
 
 -- one more was read, or it was the last
 abbrev Another : {A : Type 0} → Maybe A → Type 0
@@ -117,7 +117,7 @@ module _ (n : List ℕ) where
       Takes Any (r.type_after n) us us []
   type_after_plain {us} h k =
       separator_then {f = r.type_runs n} {b = COLON} {t = false} {us = us} (g.Separator.absent h)
-      (and_pure (Parameter.type n end) (optional_run_none k) (λ x y. tt))
+      (and_pure (Parameter.type n end) (optional_run_none EQUALS k) (λ x y. tt))
 
   type_after_bounded : (c : Row) {us vs : Trees} {rs : List ℕ} → is_punct COLON c ≡ true →
       g.Run everything parameter_stops role.bound 0 false us vs rs
@@ -132,7 +132,7 @@ module _ (n : List ℕ) where
   type_after_defaulted c {us} i h =
       separator_then {f = r.type_runs n} {b = COLON} {t = false} {us = leaf c us}
       (g.Separator.absent (punct-other EQUALS COLON c i refl))
-      (and_pure (Parameter.type n end) (optional_run_some {b = EQUALS} {c = c} i h) (λ x y. tt))
+      (and_pure (Parameter.type n end) (optional_run_some EQUALS {c = c} i h) (λ x y. tt))
 
 and_comma : {A : Type 0} {t : Bool} {m : Reader A} {ts us vs : Trees} {rs cs : List ℕ} → Takes Any m ts us rs →
     g.Separator everything COMMA t us vs cs

@@ -54,7 +54,7 @@ module _ (fewer more : Difference → Bool) (wider : (d : Difference) → fewer 
   attributes : {ts us : Trees} {rs : List ℕ} → g.Attributes fewer ts us rs → g.Attributes more ts us rs
   attributes (g.Attributes.none e) = g.Attributes.none e
   attributes (g.Attributes.attribute a b h) = g.Attributes.attribute a b (attributes h)
-  attributes (g.Attributes.idle u a b h) = g.Attributes.idle (wider g.idle_mark u) a b (attributes h)
+  attributes (g.Attributes.idle u a b h) = g.Attributes.idle (wider g.idle-mark u) a b (attributes h)
 
   visibility : {ts us : Trees} {rs : List ℕ} → g.Visibility fewer ts us rs → g.Visibility more ts us rs
   visibility (g.Visibility.none e) = g.Visibility.none e
@@ -156,7 +156,7 @@ module _ (fewer more : Difference → Bool) (wider : (d : Difference) → fewer 
   left_over_lem g.LeftOver.none = g.LeftOver.none
   left_over_lem (g.LeftOver.semicolon e) = g.LeftOver.semicolon e
   left_over_lem (g.LeftOver.without_semicolon u) = g.LeftOver.without_semicolon (wider g.tuple-without-semicolon u)
-  left_over_lem (g.LeftOver.clause u e h f) = g.LeftOver.clause (wider g.tuple_where u) e (run h) f
+  left_over_lem (g.LeftOver.clause u e h f) = g.LeftOver.clause (wider g.tuple-where u) e (run h) f
   left_over_lem (g.LeftOver.rows u) = g.LeftOver.rows (wider g.left-over-rows u)
 
   pub obeys : {ts : Trees} {rs : List ℕ} → g.Obeys fewer ts rs → g.Obeys more ts rs

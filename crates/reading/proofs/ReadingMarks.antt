@@ -15,7 +15,7 @@ use Rattle.token_list.specs.Stream.{Trees, end, leaf, group, size}
 use Rattle.token_list.specs.Marks.{unmarked_row, unmarked}
 use Rattle.token_list.proofs.Marks.{size-unmarked}
 use Rattle.reading.specs.Role as role
-use Rattle.reading.specs.Declaration.{Visibility, Kind, struct, enum, Fields}
+use Rattle.reading.specs.Declaration.{Visibility, Kind, struct, enum, Fields, Parameter, Generics, Constraints, Value}
 use Rattle.reading.specs.Took.{Took, took, stopped, Reader, onward, after, ◌>>=◌, pure, wrong, refuse}
 use Rattle.reading.specs.Reading as r
 use Rattle.reading.specs.Reading.{Maybe, done, one, Word, missing, found, Stops, RunEnd, Verdict, belongs, ends}
@@ -172,7 +172,7 @@ run_from_unmarking : (st : Stops) (n depth : ℕ) (minus : Bool) → Unmarking u
 run_from_unmarking st n depth minus row end = at_once
 run_from_unmarking st n depth minus row (leaf q us) =
     judged_alike depth (r.judge st depth minus q) (leaf q us) row
-    (λ e m. onward_alike _ (run_from_unmarking st n e m (row + 1) us))
+    (λ e m. onward_alike (n ∷ []) (run_from_unmarking st n e m (row + 1) us))
 run_from_unmarking st n depth minus row (group d ts us) =
     choice (r.stopping st depth d) at_once
     (past_group (r.run_from st n depth false) [] n row ts us
@@ -208,7 +208,8 @@ mutual
       (row + 1) ts us (after_alike _ there (attributes_unmarking there us) (λ xs row vs. at_once)))
       at_once
   after_hash_unmarking row (leaf q us) =
-      choice (r.is_punct HASH q) (onward_alike _ (after_hash_unmarking (row + 1) us)) at_once
+      choice {u = refuse 13 (row + 1)} (r.is_punct HASH q)
+      (onward_alike (role.idle_mark ∷ []) (after_hash_unmarking (row + 1) us)) at_once
 
 any_scope_unmarking : Unmarking unmarked_visibility r.any_scope
 any_scope_unmarking row end = at_once
@@ -226,7 +227,8 @@ scope_after_unmarking row (group d ts us) = choice_by (ap (λ (b : Bool). eqb d 
 pub visibility_unmarking : Unmarking unmarked_visibility r.visibility
 visibility_unmarking row end = at_once
 visibility_unmarking row (leaf q us) =
-    choice (r.is_word r.PUB q) (onward_alike _ (scope_after_unmarking (row + 1) us)) at_once
+    choice {u = took Visibility.default [] (leaf q us)} (r.is_word r.PUB q)
+    (onward_alike (role.visibility ∷ []) (scope_after_unmarking (row + 1) us)) at_once
 visibility_unmarking row (group d ts us) = choice_by (lone-unmarked (r.is_word r.PUB) (λ q. refl) ts)
     (past_group r.any_scope [] role.visibility row ts us (any_scope_unmarking (row + r.group_size ts) us)) at_once
 
@@ -270,11 +272,17 @@ parameter_unmarking : (angle : ℕ) → Unmarking (maybe unmarked_parameter) (r.
 parameter_unmarking angle row end = at_once
 parameter_unmarking angle row (group d ts us) = at_once
 parameter_unmarking angle row (leaf q us) =
-    choice (r.is_punct QUOTE q) (onward_alike _ (bind _ lifetime_after (comma_alike unmarked_parameter) (row + 1) us))
-    (choice (r.is_punct GREATER q) at_once
-    (choice (r.is_word r.CONST q) (onward_alike _ (bind _ constant_after (comma_alike unmarked_parameter) (row + 1) us))
-    (choice (r.is_ident q) (onward_alike _ (bind _ type_after (comma_alike unmarked_parameter) (row + 1) us)) at_once)))
+    choice (r.is_punct QUOTE q) (with_comma lifetime_after)
+    (choice {t = took done (role.angle ∷ []) us} (r.is_punct GREATER q) at_once
+    (choice (r.is_word r.CONST q) (with_comma constant_after)
+    (choice {u = refuse 14 row} (r.is_ident q) (with_comma type_after) at_once)))
   where
+    with_comma : {m : Reader Parameter} → Unmarking unmarked_parameter m
+        → Alike (maybe unmarked_parameter) (r.from role.parameter-name row us (m >>= r.comma))
+        (r.from role.parameter-name row (unmarked us) (m >>= r.comma))
+    with_comma e =
+        onward_alike (role.parameter-name ∷ []) (bind r.comma e (comma_alike unmarked_parameter) (row + 1) us)
+
     lifetime_after : Unmarking unmarked_parameter (r.lifetime_after row)
     lifetime_after =
         bind _ (parameter_name_unmarking 24 row) (λ n. bind _ (optional_run_unmarking COLON) (λ b row ts. at_once))
@@ -290,15 +298,15 @@ pub generics_unmarking : Unmarking unmarked_generics r.generics
 generics_unmarking row end = at_once
 generics_unmarking row (group d ts us) = at_once
 generics_unmarking row (leaf q us) =
-    choice (r.is_punct LESS q)
-    (onward_alike _ (bind _ (every_unmarking (parameter_unmarking row)) (λ ps row ts. at_once) (row + 1) us))
+    choice {u = took Generics.without [] (leaf q us)} (r.is_punct LESS q)
+    (onward_alike (role.angle ∷ []) (bind _ (every_unmarking (parameter_unmarking row)) (λ ps row ts. at_once) (row + 1) us))
     at_once
 
 pub clause_unmarking : Unmarking unmarked_constraints r.clause
 clause_unmarking row end = at_once
 clause_unmarking row (group d ts us) = at_once
-clause_unmarking row (leaf q us) = choice (r.is_word r.WHERE q)
-    (onward_alike _ (bind _ (run_unmarking r.clause_stops role.where_run) (λ c row ts. at_once) (row + 1) us)) at_once
+clause_unmarking row (leaf q us) = choice {u = took Constraints.unconstrained [] (leaf q us)} (r.is_word r.WHERE q)
+    (onward_alike (role.where_word ∷ []) (bind _ (run_unmarking r.clause_stops role.where_run) (λ c row ts. at_once) (row + 1) us)) at_once
 
 -- ## Fields
 
@@ -317,7 +325,8 @@ field_start_alike : (a : List Trees) (v : Visibility) → AlikeReaders (maybe un
 field_start_alike a v row end = at_once
 field_start_alike a v row (group d ts us) = at_once
 field_start_alike a v row (leaf q us) =
-    choice (r.is_ident q) (onward_alike _ (field_after_alike a v q.text (row + 1) us)) at_once
+    choice {u = refuse 22 row} (r.is_ident q)
+    (onward_alike (role.field_name ∷ []) (field_after_alike a v q.text (row + 1) us)) at_once
 
 named_field_unmarking : Unmarking (maybe unmarked_field) r.named_field
 named_field_unmarking = bind _ attributes_unmarking (λ a. bind _ visibility_unmarking (λ v. field_start_alike a v))
@@ -368,14 +377,15 @@ discriminant_unmarking row end = at_once
 discriminant_unmarking row (group d ts us) = at_once
 discriminant_unmarking row (leaf q us) =
     choice (r.is_literal q) at_once
-    (choice (r.is_punct MINUS q) (onward_alike _ (negative_value_unmarking (row + 1) us)) at_once)
+    (choice {u = refuse 21 row} (r.is_punct MINUS q)
+    (onward_alike (role.value ∷ []) (negative_value_unmarking (row + 1) us)) at_once)
 
 value_if_unmarking : Unmarking unchanged r.value_if
 value_if_unmarking row end = at_once
 value_if_unmarking row (group d ts us) = at_once
 value_if_unmarking row (leaf q us) =
-    choice (r.is_punct EQUALS q) (onward_alike _ (discriminant_unmarking (row + 1) us))
-    (choice (r.is_punct COMMA q) at_once at_once)
+    choice (r.is_punct EQUALS q) (onward_alike (role.separator ∷ []) (discriminant_unmarking (row + 1) us))
+    (choice {t = took Value.absent [] (leaf q us)} {u = refuse 20 row} (r.is_punct COMMA q) at_once at_once)
 
 variant_here_unmarking : Unmarking (maybe unmarked_variant) r.variant_here
 variant_here_unmarking =

@@ -1,6 +1,6 @@
 -- Keywords and identifiers of the edition 2021 (Rust Reference 1.63, "Keywords" and "Identifiers"). Weak keywords, as
 -- `union`, may be names and are not here; `'static` is one, but no lifetime is named so, since `static` is strict.
-use Rattle.std.specs.Prelude.{Bool, true, false, not, ◌||◌, List, [], ◌∷◌, ℕ}
+use Rattle.std.specs.Prelude.{Bool, false, not, ◌||◌, List, [], ◌∷◌, ℕ}
 use Prim.Native.String.{String}
 use Rattle.token_list.specs.Byte.{bytes}
 use Rattle.token_list.specs.Text.{same}
