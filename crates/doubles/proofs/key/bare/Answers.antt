@@ -1,6 +1,5 @@
 use native.Mathlib.Omega.{arith}
 use Rattle.doubles.proofs.Keys.{bare-short, bare_plain, bare_raw}
-use borrow.Author.Rules.{rules}
 use Rattle.doubles.proofs.key.bare.Goals as goal
 
 pub returns-then-end-start-lt2 : goal.returns-then-end-start-lt2

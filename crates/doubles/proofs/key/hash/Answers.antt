@@ -1,9 +1,6 @@
 -- `hash` meets its contract: the text's number is that of what is left of it, after the number so far.
-use mathlib.Core.Path.{◌≡◌, refl, sym, ◌∙◌}
-use Prim.Native.Nat.{◌-◌, ◌<◌}
+use mathlib.Core.Path.{refl, sym, ◌∙◌}
 use native.Mathlib.Omega.{arith}
-use lib.Seq.{slice}
-use Rattle.doubles.specs.Key.{BOUND, hash}
 use Rattle.doubles.proofs.Keys.{hash_next, hash-ended}
 use Rattle.doubles.proofs.key.hash.Goals as goal
 

@@ -1,10 +1,8 @@
 -- `hash` meets its contract: the text's number is that of what is left of it, after the number so far.
-use mathlib.Core.Path.{◌≡◌, refl, sym, ◌∙◌}
+use mathlib.Core.Path.{◌≡◌}
 use Prim.Native.Nat.{◌-◌, ◌<◌}
-use native.Mathlib.Omega.{arith}
 use lib.Seq.{slice}
 use Rattle.doubles.specs.Key.{BOUND, hash}
-use Rattle.doubles.proofs.Keys.{hash_next, hash-ended}
 use Rattle.doubles.proofs.key.hash.Given as goal
 
 abbrev pub invariant-loop-i : goal.invariant-loop-i

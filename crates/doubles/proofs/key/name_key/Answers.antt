@@ -1,5 +1,4 @@
 use Rattle.doubles.proofs.Keys.{name-key}
-use borrow.Author.Rules.{rules}
 use Rattle.doubles.proofs.key.name_key.Goals as goal
 
 pub returns : goal.returns

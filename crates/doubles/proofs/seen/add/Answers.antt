@@ -1,7 +1,6 @@
 use native.Mathlib.Nat.{mod-lt}
 use native.Mathlib.Omega.{arith}
 use lib.ListN.{length, length-set}
-use borrow.Author.Rules.{rules}
 use Rattle.doubles.proofs.seen.add.Goals as goal
 
 pub offset_bounds-words-bucket : goal.offset_bounds-words-bucket

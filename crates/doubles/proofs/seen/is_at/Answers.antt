@@ -4,7 +4,6 @@ use native.Mathlib.Omega.{arith}
 use lib.ListN.{length}
 use Rattle.doubles.specs.Contract.{key_of, words_at, key_at}
 use Rattle.doubles.proofs.Tables.{other-number, text_told}
-use borrow.Author.Rules.{rules}
 use Rattle.doubles.proofs.seen.is_at.Goals as goal
 
 pub returns-then-number-numbers : goal.returns-then-number-numbers

@@ -1,13 +1,11 @@
 -- `is_in` meets its contract: no key from `link` on is the same, and the one that it leads to has the remainder.
 use mathlib.Core.Path.{sym, ◌∙◌}
-use mathlib.Core.List.{List}
 use Prim.Native.Nat.{◌+◌, ◌-◌, ◌%◌}
 use native.Mathlib.Omega.{arith}
 use native.Mathlib.Nat.{mod-lt}
 use lib.ListN.{length}
-use Rattle.doubles.specs.Key.{Key}
-use Rattle.doubles.specs.Contract.{key_of, words_at, Holds}
-use Rattle.doubles.proofs.Tables.{Looking, look_first, look_next, next_less, found_at, found_nowhere}
+use Rattle.doubles.specs.Contract.{words_at}
+use Rattle.doubles.proofs.Tables.{look_first, look_next, next_less, found_at, found_nowhere}
 use Rattle.doubles.proofs.seen.is_in.Goals as goal
 
 pub offset_bounds-words-bucket : goal.offset_bounds-words-bucket

@@ -1,10 +1,9 @@
 use native.Mathlib.Omega.{arith}
 use Rattle.doubles.proofs.Tables.{holds_more}
-use borrow.Author.Rules.{rules}
 use Rattle.doubles.proofs.seen.seen.Goals as goal
 
 pub returns : goal.returns
 returns c = λ ks t n. record {
-      told = c.is_in-found.ensures ks t;
-      holds = holds_more t c.TOOFAR.before.before.args.key (omega arith) n c.add.ensures;
-    }
+  told = c.is_in-found.ensures ks t;
+  holds = holds_more t c.args.key (omega arith) n c.add.ensures;
+}
