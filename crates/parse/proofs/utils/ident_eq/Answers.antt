@@ -1,0 +1,10 @@
+use Rattle.token_list.proofs.Texts.{and_last, and_fails}
+use borrow.Author.Tests.{eq-eqb, ne_eqb}
+use mathlib.Core.Path.{sym, ◌∙◌}
+use Rattle.parse.proofs.utils.ident_eq.Goals as goal
+
+pub returns-then-t-eq105 : goal.returns-then-t-eq105
+returns-then-t-eq105 c = c.text_is.ensures ∙ sym (and_last _ _ (eq-eqb _ _ c.if-t-eq105.true))
+
+pub returns : goal.returns
+returns c = sym (and_fails _ _ (ne_eqb _ _ c.if-t-eq105.false))

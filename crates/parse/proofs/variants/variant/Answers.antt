@@ -1,0 +1,16 @@
+use mathlib.Core.Path.{refl, ◌∙◌, ap}
+use Rattle.token_list.specs.Stream.{first_kind_lem}
+use Rattle.reading.specs.Reading.{variant}
+use Rattle.parse.specs.Contract.{stream}
+use Rattle.parse.proofs.Meeting.{meets_same, meets_as}
+use Rattle.parse.proofs.Looks.{as_variant}
+use Rattle.parse.proofs.variants.variant.Goals as goal
+
+pub returns-then-l-eq0 : goal.returns-then-l-eq0
+returns-then-l-eq0 c = meets_same variant c.args.s.now c.args.c c.requires _ _ _ _
+    (c.look-l.ensures.none c.if-l-eq0.true) refl refl
+
+pub returns : goal.returns
+returns c = meets_as
+    (as_variant c.args.c.row (stream c.args.s.now c.args.c) (λ e. c.if-l-eq0.false (c.look-l.ensures.kind ∙ ap first_kind_lem e)))
+    c.variant_here.ensures
