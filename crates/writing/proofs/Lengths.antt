@@ -12,7 +12,7 @@ use Rattle.token_list.specs.Layout.{marked, first_row}
 use Rattle.token_list.specs.Row.{Row, written, Lines, tail, line, lines, byte}
 use Rattle.token_list.specs.Rows.{ident, punct, list_of}
 use Rattle.token_list.specs.Check as list
-use Rattle.token_list.specs.Stream.{Trees, size, at}
+use Rattle.token_list.specs.Stream.{Trees, at}
 use Rattle.token_list.proofs.Passed.{passed_list}
 use Rattle.token_list.proofs.Bounds.{bounds}
 use Rattle.token_list.proofs.Columns.{first-row_by}
