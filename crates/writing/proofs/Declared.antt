@@ -219,7 +219,8 @@ module _ (m : Bool) where
       → CountedRun ts b us
   counted_of x {ts = ts} OptionalRun.none n h =
       record { run = no_run ts h; bounds = omega arith; const = omega (arith, colon_bytes end) }
-  counted_of x (OptionalRun.some {c = c} {us = us} e r) n h = past_separator x c e (run_of_lem r n (right_leaf c us h).1)
+  counted_of x (OptionalRun.some {c = c} {us = us} e r) n h =
+      past_separator x c e (run_of_lem r n (right_leaf c us h).1)
 
   parameter_takes : {ts us : Trees} {p : Parameter} → ParameterAt ts p us → is_end us ≡ false → sound m ts ≡ true
       → Takes ts p us

@@ -24,8 +24,8 @@ use Rattle.reading.proofs.GrammarWider as wider
 use Rattle.reading.proofs.Promise.{obeys_unique}
 use Rattle.writing.specs.Generics.{angled_rows, sent_parameter, named, names, added_lifetime, added_type, additional}
 use Rattle.writing.specs.ReadBack.{behind_struct_lem, unit_struct, with_commas, Reads, Refused, ReadBack, run_of}
-use Rattle.writing.specs.ReadBack.{ends_in_minus_lem, last_minus, const_named, const_added, added_exception, without_default_lem}
-use Rattle.writing.specs.ReadBack.{WritersReadBack}
+use Rattle.writing.specs.ReadBack.{ends_in_minus_lem, last_minus, const_named, const_added, added_exception}
+use Rattle.writing.specs.ReadBack.{without_default_lem, WritersReadBack}
 use Rattle.writing.proofs.Joined.{tokens}
 use Rattle.writing.proofs.Written.{parted_then, all_tokens, behind_struct}
 use Rattle.writing.proofs.Runs.{AFTER}
@@ -79,7 +79,8 @@ read_back ps w t = record { same = reads; other = refuses }
     stream : (name : List ℕ) → behind_struct_lem name (angled_rows ps) ≡ around name (parted_then true ps AFTER)
     stream name = behind_struct name ps t
 
-    reads : (any_const ps || last_minus ps) ≡ false → (name : List ℕ) → Reads name (angled_rows ps) (map without_default_lem ps)
+    reads : (any_const ps || last_minus ps) ≡ false → (name : List ℕ)
+        → Reads name (angled_rows ps) (map without_default_lem ps)
     reads e name =
         let n = reread.or_parts (any_const ps) (last_minus ps) e in
         let i = reread 2 ps w n.0 n.1 3 in
@@ -173,7 +174,8 @@ named_default (constant n t) = refl
 named_default (type n b d) = refl
 
 -- a declared type is not named `const`
-named_const : {m : Bool} {ts : Trees} {ps : List Parameter} → AllDeclared m ts ps → any_const (names ps) ≡ const_named ps
+named_const : {m : Bool} {ts : Trees} {ps : List Parameter} → AllDeclared m ts ps
+    → any_const (names ps) ≡ const_named ps
 named_const AllDeclared.none = refl
 named_const (AllDeclared.also {p = lifetime n b} d ds) = named_const ds
 named_const (AllDeclared.also {p = constant n t} d ds) = ap (λ (b : Bool). same n CONST || b) (named_const ds)
