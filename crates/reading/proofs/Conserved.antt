@@ -92,11 +92,13 @@ module _ (b : ℕ) where
   judged_conserved depth (ends e) ts row l c = nothing-taken
   judged_conserved depth unopened ts row l c = told_row row refl l
 
-  run_from_conserving : (st : Stops) (n depth : ℕ) (minus : Bool) → IsRole n → Conserving b (r.run_from st n depth minus)
+  run_from_conserving : (st : Stops) (n depth : ℕ) (minus : Bool) → IsRole n →
+      Conserving b (r.run_from st n depth minus)
   run_from_conserving st n depth minus k row end l = nothing-taken
   run_from_conserving st n depth minus k row (leaf q us) l =
       judged_conserved depth (r.judge st depth minus q) (leaf q us) row (omega arith)
-      (λ e m. onward_conserved (n ∷ []) (past_leaf n k q us) (run_from_conserving st n e m k (row + 1) us (omega arith)))
+      (λ e m. onward_conserved (n ∷ []) (past_leaf n k q us)
+      (run_from_conserving st n e m k (row + 1) us (omega arith)))
   run_from_conserving st n depth minus k row (group d ts us) l =
       choice (r.stopping st depth d) nothing-taken
       (copied_conserved n k d ts us (run_from_conserving st n depth false k (row + r.group_size ts) us (omega arith)))

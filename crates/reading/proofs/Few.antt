@@ -129,7 +129,8 @@ module _ {A : Type 0} (f : Fields → Value → A) where
     where
       closed : (t : Took Fields) → Short (size (group d ts us))
           (after row (r.closing us t) (λ g. (r.value_if >>= λ v. r.comma (f g v))))
-      closed (took g rs vs) = onward-short (role.delimiter ∷ rs ++ role.delimiter ∷ []) (omega arith) (value-short (f g) _ us)
+      closed (took g rs vs) =
+          onward-short (role.delimiter ∷ rs ++ role.delimiter ∷ []) (omega arith) (value-short (f g) _ us)
       closed (stopped w n p) = stops
 
       go : (b c : Bool) → Short (size (group d ts us))

@@ -332,7 +332,8 @@ value_taken (g.Value.negative {e = e} {m = m} {q = q} {us = us} a b k d) row =
     ∙ ap (onward (role.value ∷ [])) (chosen (is_literal q) _ _ k ∙ chosen (negatable q.text) _ _ d)))
 
 -- without a value: a `,` or the end of the group follows
-no_value : {t : Bool} {ws xs : Trees} {cs : List ℕ} → g.Separator everything COMMA t ws xs cs → (t || is_end xs) ≡ true →
+no_value : {t : Bool} {ws xs : Trees} {cs : List ℕ} → g.Separator everything COMMA t ws xs cs
+    → (t || is_end xs) ≡ true →
     (row : ℕ)
     → r.value_if row ws ≡ took absent [] ws
 no_value (g.Separator.present {q = q} e) p row =

@@ -294,10 +294,12 @@ closing_met us (met rs vs h) k = met (role.delimiter ∷ rs ++ role.delimiter �
 closing_met us refused k = refused
 
 named-inside : (row : ℕ) (ts : Trees) → Sound (λ x rs us. g.NamedFields everything ts rs) (r.named_fields row ts)
-named-inside row ts = pure_met {P = λ rs us. g.NamedFields everything ts rs} row Fields.named (named_fields_sound row ts)
+named-inside row ts =
+    pure_met {P = λ rs us. g.NamedFields everything ts rs} row Fields.named (named_fields_sound row ts)
 
 tuple_inside : (row : ℕ) (ts : Trees) → Sound (λ x rs us. g.TupleFields everything ts rs) (r.tuple_fields row ts)
-tuple_inside row ts = pure_met {P = λ rs us. g.TupleFields everything ts rs} row Fields.tuple (tuple_fields_sound row ts)
+tuple_inside row ts =
+    pure_met {P = λ rs us. g.TupleFields everything ts rs} row Fields.tuple (tuple_fields_sound row ts)
 
 pub variant_fields_sound : (row : ℕ) (ts : Trees) → Sound (λ x rs us. g.VariantFields everything ts us rs)
     (r.variant_fields row ts)
@@ -318,7 +320,8 @@ data ValueRead : Trees → Value → List ℕ → Trees → Type 0 where
   some : {v : Value} {ts us : Trees} {rs : List ℕ} → g.Value everything ts us rs → ValueRead ts v rs us
 
 negative_value_read : (e m : Row) → is_punct EQUALS e ≡ true → is_punct MINUS m ≡ true → (row : ℕ) (ts : Trees)
-    → Sound (λ v rs us. ValueRead (leaf e (leaf m ts)) v (role.separator ∷ role.value ∷ rs) us) (r.negative_value row ts)
+    → Sound (λ v rs us. ValueRead (leaf e (leaf m ts)) v (role.separator ∷ role.value ∷ rs) us)
+    (r.negative_value row ts)
 negative_value_read e m a b row end = refused
 negative_value_read e m a b row (group d ts us) = refused
 negative_value_read e m a b row (leaf q us) =

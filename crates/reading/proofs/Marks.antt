@@ -53,7 +53,8 @@ inside-unmarked x = go x.stream
     go (leaf q us) = refl
     go (group d ts us) = refl
 
-pub variant_at-unmarked : (k : ℕ) (x : Point) → place.variant_at k (unmarked_point x) ≡ unmarked_point (place.variant_at k x)
+pub variant_at-unmarked : (k : ℕ) (x : Point)
+    → place.variant_at k (unmarked_point x) ≡ unmarked_point (place.variant_at k x)
 variant_at-unmarked zero x = refl
 variant_at-unmarked (suc k) x =
     ap (place.variant_at k) (beyond-unmarked variant_unmarking x) ∙ variant_at-unmarked k (beyond r.variant x)
@@ -66,7 +67,8 @@ variant_head_unmarking =
     bind _ attributes_unmarking (λ a. bind _ (word_unmarking role.variant-name)
     (λ w. bind _ (named!_unmarking w) (λ n row ts. at_once)))
 
-pub variant_name_at-unmarked : (x : Point) → place.variant_name_at (unmarked_point x) ≡ unmarked_point (place.variant_name_at x)
+pub variant_name_at-unmarked : (x : Point)
+    → place.variant_name_at (unmarked_point x) ≡ unmarked_point (place.variant_name_at x)
 variant_name_at-unmarked x = beyond-unmarked attributes_unmarking x
 
 pub equals_at-unmarked : (x : Point) → place.equals_at (unmarked_point x) ≡ unmarked_point (place.equals_at x)
@@ -100,7 +102,8 @@ module _ {s t : List ℕ} (e : EqualButMarks s t) where
   answers_alike n = framed-same unmarked_answer refused (λ rows. ltb n rows) item_answer item_answer
       (made (r.item 0 (stream_of s)) ∙ ap item_answer item-same ∙ sym (made (r.item 0 (stream_of t))))
     where
-      made : (u : Took Declaration) → unmarked_answer (item_answer u) ≡ item_answer (unmarked_took unmarked_declaration u)
+      made : (u : Took Declaration)
+          → unmarked_answer (item_answer u) ≡ item_answer (unmarked_took unmarked_declaration u)
       made (took d rs us) = ap (λ (k : ℕ). declared (unmarked_declaration d) (rs ++ replicate k role.left_over))
           (sym (size-unmarked us))
       made (stopped w m p) = refl

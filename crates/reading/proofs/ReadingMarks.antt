@@ -299,14 +299,16 @@ generics_unmarking row end = at_once
 generics_unmarking row (group d ts us) = at_once
 generics_unmarking row (leaf q us) =
     choice {u = took Generics.without [] (leaf q us)} (r.is_punct LESS q)
-    (onward_alike (role.angle ∷ []) (bind _ (every_unmarking (parameter_unmarking row)) (λ ps row ts. at_once) (row + 1) us))
+    (onward_alike (role.angle ∷ [])
+    (bind _ (every_unmarking (parameter_unmarking row)) (λ ps row ts. at_once) (row + 1) us))
     at_once
 
 pub clause_unmarking : Unmarking unmarked_constraints r.clause
 clause_unmarking row end = at_once
 clause_unmarking row (group d ts us) = at_once
 clause_unmarking row (leaf q us) = choice {u = took Constraints.unconstrained [] (leaf q us)} (r.is_word r.WHERE q)
-    (onward_alike (role.where_word ∷ []) (bind _ (run_unmarking r.clause_stops role.where_run) (λ c row ts. at_once) (row + 1) us)) at_once
+    (onward_alike (role.where_word ∷ [])
+    (bind _ (run_unmarking r.clause_stops role.where_run) (λ c row ts. at_once) (row + 1) us)) at_once
 
 -- ## Fields
 
@@ -397,7 +399,8 @@ variant_unmarking row end = at_once
 variant_unmarking row (leaf q us) = variant_here_unmarking row (leaf q us)
 variant_unmarking row (group d ts us) = variant_here_unmarking row (group d ts us)
 
-struct_fields_unmarking : {m : Reader Fields} → Unmarking unmarked_fields m → Unmarking unmarked_body (r.struct_fields_lem m)
+struct_fields_unmarking : {m : Reader Fields} → Unmarking unmarked_fields m →
+    Unmarking unmarked_body (r.struct_fields_lem m)
 struct_fields_unmarking e = bind _ e (λ f row ts. at_once)
 
 body_of_unmarking : (k : Kind) → Unmarking unmarked_body (r.body_of k)

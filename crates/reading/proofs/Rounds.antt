@@ -184,7 +184,8 @@ module _ {b : ℕ} where
       Conserved b T ts (stopped w n END)
   told_end own = refused own at_end
 
-  pub told_row : {A : Type 0} {T : A → Trees → Type 0} {ts : Trees} {w : Cause} {n : ℕ} (p : ℕ) → own_number_lem n ≡ true →
+  pub told_row : {A : Type 0} {T : A → Trees → Type 0} {ts : Trees} {w : Cause} {n : ℕ} (p : ℕ)
+      → own_number_lem n ≡ true →
       p < b → Conserved b T ts (stopped w n p)
   told_row p own l = refused own (at_row l)
 

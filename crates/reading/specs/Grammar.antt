@@ -2,7 +2,8 @@
 -- reading. `N ts us rs` says: an N stands first in the stream ts, us is what is left after it, and rs are the roles of
 -- the rows between. What is optional and can stand is taken: each `none` and `absent` says of the rows that it cannot
 -- stand there. Productions are those of the Rust Reference 1.63.
-use Rattle.std.specs.Prelude.{◌≡◌, Bool, true, false, cond, not, ◌&&◌, ◌||◌, List, [], ◌∷◌, ◌++◌, ℕ, ◌+◌, ◌-◌, eqb, leb, length, replicate}
+use Rattle.std.specs.Prelude.{◌≡◌, Bool, true, false, cond, not, ◌&&◌, ◌||◌, List, [], ◌∷◌, ◌++◌, ℕ}
+use Rattle.std.specs.Prelude.{◌+◌, ◌-◌, eqb, leb, length, replicate}
 use Rattle.token_list.specs.Byte.{HASH, QUOTE, COMMA, MINUS, COLON, SEMICOLON, LESS, EQUALS, GREATER}
 use Rattle.token_list.specs.Byte.{PARENTHESIS, BRACKET, BRACE}
 use Rattle.token_list.specs.Text.{raw_name}

@@ -1,6 +1,7 @@
 -- What the reader of declarations answers (document 01, "Runs", "Role grammar" and the table of refusals), one
 -- definition for each reader of the Rust. Productions are those of the Rust Reference 1.63.
-use Rattle.std.specs.Prelude.{Bool, true, false, cond, ◌&&◌, List, [], ◌∷◌, ◌++◌, ℕ, zero, suc, ◌+◌, ◌-◌, ltb, eqb, length}
+use Rattle.std.specs.Prelude.{Bool, true, false, cond, ◌&&◌, List, [], ◌∷◌, ◌++◌, ℕ, zero, suc, ◌+◌, ◌-◌}
+use Rattle.std.specs.Prelude.{ltb, eqb, length}
 use Rattle.token_list.specs.Byte.{HASH, QUOTE, COMMA, MINUS, COLON, SEMICOLON, LESS, EQUALS, GREATER}
 use Rattle.token_list.specs.Byte.{PARENTHESIS, BRACKET, BRACE}
 use Rattle.token_list.specs.Layout.{PUNCT}
@@ -381,7 +382,8 @@ struct_fields_lem m = m >>= λ f. pure (fields f)
 
 abbrev pub struct_body_lem : Reader Body
 struct_body_lem row end = ran_out_lem 16 END
-struct_body_lem row (leaf r us) = cond (is_punct SEMICOLON r) (took (fields unit) (role.delimiter ∷ []) us) (refuse 16 row)
+struct_body_lem row (leaf r us) =
+    cond (is_punct SEMICOLON r) (took (fields unit) (role.delimiter ∷ []) us) (refuse 16 row)
 struct_body_lem row (group d ts us) =
     cond (eqb d BRACE) (enclosed (struct_fields_lem named_fields) row ts us)
     (cond (eqb d PARENTHESIS) (enclosed (struct_fields_lem tuple_fields) row ts us) (refuse 17 row))

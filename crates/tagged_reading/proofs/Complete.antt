@@ -71,7 +71,7 @@ entries_complete (g.Entries.next {rs = rs} e h) =
       from = λ row. a.from row ∙ ap (adding a.es rs) (k.from (row + length rs));
     }
 
--- ## The group_size list
+-- ## The list
 
 attribute_complete : {ts : Trees} {rs : List ℕ} (prefix : List ℕ) → g.Attribute everything prefix ts rs
     → (es : List Entry) × (attribute prefix ts ≡ read es (role.other ∷ rs ++ role.other ∷ []))

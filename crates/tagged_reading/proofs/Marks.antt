@@ -97,7 +97,7 @@ module _ (prefix : List ℕ) {s t : List ℕ} (e : EqualButMarks s t) where
       go (subst (AllTold prefix (stream_of t)) (sym tagged-same ∙ a.1) (tagged_told prefix (stream_of t)))
     where
       go : {es : List Entry} → AllTold prefix (stream_of t) (read es roles) → Assignment prefix t roles
-      go (All_told.reads qs k) = k.obeys
+      go (AllTold.reads qs k) = k.obeys
 
   pub tagged_alike : TaggedAlike prefix s t
   tagged_alike = record { answers = answers_same; assignments = assignments_same }

@@ -1,6 +1,6 @@
 -- The answer about a tagged attribute keeps the promise on roles, and each of its refusals is one number with a place.
 use mathlib.Core.Path.{◌≡◌, refl, ap, ◌∙◌, sym, subst}
-use mathlib.Core.Logic.{◌⊎◌, inl, inr, ⊎_elim}
+use mathlib.Core.Logic.{inl, inr, ⊎_elim}
 use mathlib.Core.Bool.{Bool, true, false, cond, ◌&&◌, ◌||◌, false≢true}
 use mathlib.Core.List.{List}
 use Prim.Native.Nat.{ℕ, ◌≤◌, ◌<◌}
@@ -143,7 +143,8 @@ module _ (prefix s : List ℕ) where
     answer-refusal m p =
         answer-cases (λ (a : Answer). a ≡ refused m p → OneRefusal tagged_number s m p)
         (λ o q e i. let x : o ≡ m = cc in let y : q ≡ p = cc in
-        subst (λ (v : ℕ). OneRefusal tagged_number s v p) x (subst (OneRefusal tagged_number s o) y (check-number o q e)))
+        subst (λ (v : ℕ). OneRefusal tagged_number s v p) x
+        (subst (OneRefusal tagged_number s o) y (check-number o q e)))
         (λ k e l i. let x : 8 ≡ m = cc in let y : list.END ≡ p = cc in
         subst (λ (v : ℕ). OneRefusal tagged_number s v p) x
         (subst (OneRefusal tagged_number s 8) y (record { one = refl; stands = inl refl })))

@@ -75,7 +75,8 @@ module _ (b : ℕ) where
         choice (is_punct COMMA p)
         (λ c. added (tag q.text ∷ []) (role.tag ∷ role.other ∷ []) (g.Entry.tag k (g.Separated.comma c))
         (omega arith) refl (entries_told (row + 2) us (omega arith)))
-        (λ c. choice (is_punct EQUALS p) (λ e. valued_told row q p us k e h) (λ e. refuses {p = row} refl (omega arith)))
+        (λ c. choice (is_punct EQUALS p) (λ e. valued_told row q p us k e h)
+        (λ e. refuses {p = row} refl (omega arith)))
 
     valued_told : (row : ℕ) (q e : Row) (us : Trees) → is_ident q ≡ true → is_punct EQUALS e ≡ true
         → row + size (leaf q (leaf e us)) ≤ b → Told (leaf q (leaf e us)) (valued row q.text us)
@@ -104,7 +105,7 @@ module _ (b : ℕ) where
         (entries_told (row + 4) us (omega arith)))
         (λ m. refuses {p = row + 3} refl (omega arith))
 
--- ## The group_size list
+-- ## The list
 
 replicate_last : (n v : ℕ) → replicate (suc n) v ≡ replicate n v ++ v ∷ []
 replicate_last zero v = refl

@@ -217,13 +217,14 @@ module _ (m : Bool) where
 
   counted_of : (x : ℕ) {ts b us : Trees} → OptionalRun (suc x) ts b us → is_end us ≡ false → sound m ts ≡ true
       → CountedRun ts b us
-  counted_of x {ts = ts} Optional_run.none n h =
+  counted_of x {ts = ts} OptionalRun.none n h =
       record { run = no_run ts h; bounds = omega arith; const = omega (arith, colon_bytes end) }
-  counted_of x (Optional_run.some {c = c} {us = us} e r) n h = past_separator x c e (run_of_lem r n (right_leaf c us h).1)
+  counted_of x (OptionalRun.some {c = c} {us = us} e r) n h =
+      past_separator x c e (run_of_lem r n (right_leaf c us h).1)
 
   parameter_takes : {ts us : Trees} {p : Parameter} → ParameterAt ts p us → is_end us ≡ false → sound m ts ≡ true
       → Takes ts p us
-  parameter_takes (Parameter_at.lifetime {q = q} {p = p} {us = us} {b = b} e f o) n h =
+  parameter_takes (ParameterAt.lifetime {q = q} {p = p} {us = us} {b = b} e f o) n h =
       let i = right_leaf q (leaf p us) h in
       let j = right_leaf p us i.1 in
       let k = counted_of 57 o n j.1 in
@@ -247,7 +248,7 @@ module _ (m : Bool) where
           row-bytes (ident p.text) (bounds b),
         );
       }
-  parameter_takes (Parameter_at.constant {q = q} {p = p} {us = us} {t = t} e f o) n h =
+  parameter_takes (ParameterAt.constant {q = q} {p = p} {us = us} {t = t} e f o) n h =
       let i = right_leaf q (leaf p us) h in
       let j = right_leaf p us i.1 in
       let k = counted_of 57 o n j.1 in
@@ -273,7 +274,7 @@ module _ (m : Bool) where
           row-bytes (ident p.text) (constraints t),
         );
       }
-  parameter_takes (Parameter_at.bounded {q = q} {c = c} {us = us} {b = b} e f i r) n h =
+  parameter_takes (ParameterAt.bounded {q = q} {c = c} {us = us} {b = b} e f i r) n h =
       let j = right_leaf q (leaf c us) h in
       let k = past_separator 57 c i (run_of_lem r n (right_leaf c us j.1).1) in
       record {
@@ -289,7 +290,7 @@ module _ (m : Bool) where
         rows = omega (arith, k.run.rows);
         bytes = omega (arith, k.bounds, row-bytes q (run_rows (leaf c us)), row-bytes (ident q.text) (bounds b));
       }
-  parameter_takes (Parameter_at.defaulted {q = q} {us = us} {d = d} e f o) n h =
+  parameter_takes (ParameterAt.defaulted {q = q} {us = us} {d = d} e f o) n h =
       let j = right_leaf q us h in
       let k = counted_of 60 o n j.1 in
       let none = no_run us j.1 in
@@ -333,8 +334,8 @@ module _ (m : Bool) where
     pub bytes : total ps + single ≤ weight ts + 12 * length ps
 
   comma-part : {us vs : Trees} → CommaAt us vs → sound m us ≡ true → Part vs us
-  comma-part {us} Comma_at.absent h = record { right = h; deep = omega arith; rows = omega arith; bytes = omega arith }
-  comma-part (Comma_at.present {q = q} {us = us} e) h =
+  comma-part {us} CommaAt.absent h = record { right = h; deep = omega arith; rows = omega arith; bytes = omega arith }
+  comma-part (CommaAt.present {q = q} {us = us} e) h =
       record {
         right = (right_leaf q us h).1;
         deep = omega arith;
@@ -343,9 +344,9 @@ module _ (m : Bool) where
       }
 
   all-declared : {ts us : Trees} {ps : List Parameter} → ParametersAt ts ps us → sound m ts ≡ true → All ts ps
-  all-declared (Parameters_at.close {q = q} {us = us} e) h =
+  all-declared (ParametersAt.close {q = q} {us = us} e) h =
       record { declared = none; rows = omega arith; bytes = omega (arith, punct-bytes 61 q us e) }
-  all-declared (Parameters_at.next p n c ps) h =
+  all-declared (ParametersAt.next p n c ps) h =
       let t = parameter_takes p n h in
       let v = comma-part c t.rest in
       let i = all-declared ps v.right in
@@ -359,7 +360,7 @@ module _ (m : Bool) where
 
   later_part : {ts us : Trees} → Later ts us → sound m ts ≡ true → Part us ts
   later_part {ts} Later.here h = record { right = h; deep = omega arith; rows = omega arith; bytes = omega arith }
-  later_part (Later.past-leaf {q = q} {us = us} l) h =
+  later_part (Later.past_leaf {q = q} {us = us} l) h =
       let p = later_part l (right_leaf q us h).1 in
       record {
         right = p.right;
@@ -367,7 +368,7 @@ module _ (m : Bool) where
         rows = omega (arith, p.rows);
         bytes = omega (arith, p.bytes, row-bytes q (run_rows us));
       }
-  later_part (Later.past-group {d = d} {ts = ts} {us = us} l) h =
+  later_part (Later.past_group {d = d} {ts = ts} {us = us} l) h =
       let p = later_part l (and_parts (sound m ts) (sound m us) (and_parts (text.opening d) _ h).1).1 in
       record {
         right = p.right;
@@ -386,7 +387,7 @@ module _ (m : Bool) where
   generic {ts} {ps} w h = go w.stand (later_part w.past h)
     where
       go : {us : Trees} → GenericsAt us (angled ps) → Part us ts → Generic ts ps
-      go (Generics_at.some {q = q} {us = us} e a) p =
+      go (GenericsAt.some {q = q} {us = us} e a) p =
           let i = all-declared a (right_leaf q us p.right).1 in
           record {
             declared = declared_in p.deep i.declared;

@@ -12,7 +12,7 @@ use Rattle.token_list.specs.Layout.{marked, first_row}
 use Rattle.token_list.specs.Row.{Row, written, Lines, tail, line, lines, byte}
 use Rattle.token_list.specs.Rows.{ident, punct, list_of}
 use Rattle.token_list.specs.Check as list
-use Rattle.token_list.specs.Stream.{Trees, size, at}
+use Rattle.token_list.specs.Stream.{Trees, at}
 use Rattle.token_list.proofs.Passed.{passed_list}
 use Rattle.token_list.proofs.Bounds.{bounds}
 use Rattle.token_list.proofs.Columns.{first-row_by}
@@ -27,8 +27,8 @@ use Rattle.writing.specs.Generics.{added_lifetime, added_type, additional}
 use Rattle.writing.specs.Names.{line_names, names_of}
 use Rattle.output.specs.Answer.{Answer, wrote, refused}
 use Rattle.output.proofs.Answers.{Within, fitted-same}
-use Rattle.writing.specs.Answer.{Writer, impl_generics_lem, type_generics_lem, with_additional_lem, text, item_answer, full_answer}
-use Rattle.writing.specs.Answer.{answer, MOST, added_bytes, most_with, most_added, Fits}
+use Rattle.writing.specs.Answer.{Writer, impl_generics_lem, type_generics_lem, with_additional_lem, text}
+use Rattle.writing.specs.Answer.{item_answer, full_answer, answer, MOST, added_bytes, most_with, most_added, Fits}
 use Rattle.writing.proofs.Balanced.{list_stream}
 use Rattle.writing.proofs.Declared.{single, row-bytes, rows-bytes, offset_high, cost, total, declared_of}
 
@@ -212,7 +212,10 @@ module _ (w : Writer) (more : ℕ)
   fits_by : (n : ℕ) → Fits w (MOST + more) s n
   unfolding answer
   fits_by n =
-      record { longest = full_short; room = λ h. fitted-same n (full_answer w s) (within (full_answer w s) full_short) h }
+      record {
+        longest = full_short;
+        room = λ h. fitted-same n (full_answer w s) (within (full_answer w s) full_short) h;
+      }
     where
       within : (a : Answer) → Short a → Within (MOST + more) a
       within (wrote t) k = k t refl

@@ -2,7 +2,7 @@
 use mathlib.Core.Path.{◌≡◌, refl, ap, ◌∙◌, sym, subst}
 use mathlib.Core.Bool.{Bool, true, false, cond, ◌&&◌, ◌||◌}
 use mathlib.Core.List.{List, [], ◌∷◌, ◌++◌, map, append-nil, append_assoc}
-use Prim.Native.Nat.{ℕ, ◌+◌, ◌≤◌}
+use Prim.Native.Nat.{ℕ, ◌≤◌}
 use native.Mathlib.Omega.{arith}
 use Rattle.token_list.specs.Byte.{QUOTE, COMMA, COLON, LESS, GREATER}
 use Rattle.token_list.specs.Layout.{marked, first_row}
@@ -161,8 +161,8 @@ angled_list s {ps = ps} c f =
 
 declared_fine : {marks : Bool} {ts : Trees} {ps : List Parameter} → AllDeclared marks ts ps
     → AllFine marks (depth ts) ps
-declared_fine All_declared.none = none
-declared_fine (All_declared.also d ds) =
+declared_fine AllDeclared.none = none
+declared_fine (AllDeclared.also d ds) =
     also (record { name = d.name; run = d.run; deep = d.deep }) (declared_fine ds)
 
 right-name : (marks : Bool) (t : List ℕ) → right_name t ≡ true → right marks (ident t) ≡ true

@@ -2,7 +2,7 @@
 use mathlib.Core.Path.{◌≡◌, refl, ap, ◌∙◌, sym, subst}
 use mathlib.Core.Bool.{Bool, true, false, ◌||◌, or-false}
 use mathlib.Core.List.{List, [], ◌∷◌, ◌++◌, map, append-nil, map-append}
-use Prim.Native.Nat.{ℕ, ◌+◌}
+use Prim.Native.Nat.{ℕ}
 use Rattle.token_list.specs.Byte.{SEMICOLON, LESS}
 use Rattle.token_list.specs.Text.{same}
 use Rattle.token_list.specs.Check.{check, passed}
@@ -24,8 +24,8 @@ use Rattle.reading.proofs.GrammarWider as wider
 use Rattle.reading.proofs.Promise.{obeys_unique}
 use Rattle.writing.specs.Generics.{angled_rows, sent_parameter, named, names, added_lifetime, added_type, additional}
 use Rattle.writing.specs.ReadBack.{behind_struct_lem, unit_struct, with_commas, Reads, Refused, ReadBack, run_of}
-use Rattle.writing.specs.ReadBack.{ends_in_minus_lem, last_minus, const_named, const_added, added_exception, without_default_lem}
-use Rattle.writing.specs.ReadBack.{WritersReadBack}
+use Rattle.writing.specs.ReadBack.{ends_in_minus_lem, last_minus, const_named, const_added, added_exception}
+use Rattle.writing.specs.ReadBack.{without_default_lem, WritersReadBack}
 use Rattle.writing.proofs.Joined.{tokens}
 use Rattle.writing.proofs.Written.{parted_then, all_tokens, behind_struct}
 use Rattle.writing.proofs.Runs.{AFTER}
@@ -79,7 +79,8 @@ read_back ps w t = record { same = reads; other = refuses }
     stream : (name : List ℕ) → behind_struct_lem name (angled_rows ps) ≡ around name (parted_then true ps AFTER)
     stream name = behind_struct name ps t
 
-    reads : (any_const ps || last_minus ps) ≡ false → (name : List ℕ) → Reads name (angled_rows ps) (map without_default_lem ps)
+    reads : (any_const ps || last_minus ps) ≡ false → (name : List ℕ)
+        → Reads name (angled_rows ps) (map without_default_lem ps)
     reads e name =
         let n = reread.or_parts (any_const ps) (last_minus ps) e in
         let i = reread 2 ps w n.0 n.1 3 in
@@ -107,16 +108,16 @@ read_back ps w t = record { same = reads; other = refuses }
 -- ## The parameters of a declaration that was read
 
 runs_alone : {m : Bool} {ts : Trees} {ps : List Parameter} → AllDeclared m ts ps → AllStandAlone ps
-runs_alone All_declared.none = All_stand_alone.none
-runs_alone (All_declared.also d ds) = All_stand_alone.also d.stands (runs_alone ds)
+runs_alone AllDeclared.none = AllStandAlone.none
+runs_alone (AllDeclared.also d ds) = AllStandAlone.also d.stands (runs_alone ds)
 
 token_runs : {m : Bool} {ts : Trees} {ps : List Parameter} → AllDeclared m ts ps → all_tokens ps ≡ true
-token_runs All_declared.none = refl
-token_runs {m} (All_declared.also {p = p} d ds) = and_both _ _ (sound_tokens m (run_of p) d.run) (token_runs ds)
+token_runs AllDeclared.none = refl
+token_runs {m} (AllDeclared.also {p = p} d ds) = and_both _ _ (sound_tokens m (run_of p) d.run) (token_runs ds)
 
 no_const : {m : Bool} {ts : Trees} {ps : List Parameter} → AllDeclared m ts ps → any_const ps ≡ false
-no_const All_declared.none = refl
-no_const (All_declared.also {p = p} {ps = ps} d ds) = or_last (type_const p) (any_const ps) d.plain ∙ no_const ds
+no_const AllDeclared.none = refl
+no_const (AllDeclared.also {p = p} {ps = ps} d ds) = or_last (type_const p) (any_const ps) d.plain ∙ no_const ds
 
 -- ## Parameters without runs
 
@@ -126,7 +127,7 @@ end_alone = record { roles = []; alone = g.Run.ended refl }
 module _ {A : Type 0} (f : A → Parameter) (e : (a : A) → run_of (f a) ≡ end) where
   bare_alone : (xs : List A) {qs : List Parameter} → AllStandAlone qs → AllStandAlone (map f xs ++ qs)
   bare_alone [] w = w
-  bare_alone (x ∷ xs) w = All_stand_alone.also (subst StandsAlone (sym (e x)) end_alone) (bare_alone xs w)
+  bare_alone (x ∷ xs) w = AllStandAlone.also (subst StandsAlone (sym (e x)) end_alone) (bare_alone xs w)
 
   bare_tokens : (xs : List A) (qs : List Parameter) → all_tokens qs ≡ true → all_tokens (map f xs ++ qs) ≡ true
   bare_tokens [] qs h = h
@@ -173,11 +174,12 @@ named_default (constant n t) = refl
 named_default (type n b d) = refl
 
 -- a declared type is not named `const`
-named_const : {m : Bool} {ts : Trees} {ps : List Parameter} → AllDeclared m ts ps → any_const (names ps) ≡ const_named ps
-named_const All_declared.none = refl
-named_const (All_declared.also {p = lifetime n b} d ds) = named_const ds
-named_const (All_declared.also {p = constant n t} d ds) = ap (λ (b : Bool). same n CONST || b) (named_const ds)
-named_const (All_declared.also {p = type n b e} {ps = ps} d ds) =
+named_const : {m : Bool} {ts : Trees} {ps : List Parameter} → AllDeclared m ts ps
+    → any_const (names ps) ≡ const_named ps
+named_const AllDeclared.none = refl
+named_const (AllDeclared.also {p = lifetime n b} d ds) = named_const ds
+named_const (AllDeclared.also {p = constant n t} d ds) = ap (λ (b : Bool). same n CONST || b) (named_const ds)
+named_const (AllDeclared.also {p = type n b e} {ps = ps} d ds) =
     or_last (same n CONST) (any_const (names ps)) d.plain ∙ named_const ds
 
 added_const : (ts : List (List ℕ)) → any_const (map added_type ts) ≡ const_added ts
@@ -189,8 +191,8 @@ no_added [] qs = refl
 no_added (l ∷ ls) qs = no_added ls qs
 
 append_alone : {ps qs : List Parameter} → AllStandAlone ps → AllStandAlone qs → AllStandAlone (ps ++ qs)
-append_alone All_stand_alone.none v = v
-append_alone (All_stand_alone.also w ws) v = All_stand_alone.also w (append_alone ws v)
+append_alone AllStandAlone.none v = v
+append_alone (AllStandAlone.also w ws) v = AllStandAlone.also w (append_alone ws v)
 
 append_tokens : (ps qs : List Parameter) → all_tokens ps ≡ true → all_tokens qs ≡ true → all_tokens (ps ++ qs) ≡ true
 append_tokens [] qs h k = k
@@ -207,7 +209,7 @@ module _ {m : Bool} {ts : Trees} {ps : List Parameter} (d : AllDeclared m ts ps)
   type_back : ReadBack (const_named ps) (angled_rows (names ps)) (names ps)
   type_back =
       let bare = append-nil (names ps) in
-      let stands = subst AllStandAlone bare (bare_alone named named-run ps All_stand_alone.none) in
+      let stands = subst AllStandAlone bare (bare_alone named named-run ps AllStandAlone.none) in
       let tokens = sym (ap all_tokens bare) ∙ bare_tokens named named-run ps [] refl in
       let last = sym (ap last_minus bare) ∙ bare_last named named-run ps [] in
       let values = sym (ap (map without_default_lem) bare) ∙ without_default named named_default ps [] ∙ bare in
@@ -246,7 +248,7 @@ module _ {m : Bool} {ts : Trees} {ps : List Parameter} (d : AllDeclared m ts ps)
         (map added_lifetime ls ++ (map without_default_lem ps ++ map added_type us))
     additional_back =
         let bare = append-nil (map added_type us) in
-        let types = subst AllStandAlone bare (bare_alone added_type (λ t. refl) us All_stand_alone.none) in
+        let types = subst AllStandAlone bare (bare_alone added_type (λ t. refl) us AllStandAlone.none) in
         let tokens = sym (ap all_tokens bare) ∙ bare_tokens added_type (λ t. refl) us [] refl in
         subst (λ (qs : List Parameter). ReadBack (added_exception us ps) (angled_rows all) qs) values
         (subst (λ (b : Bool). ReadBack b (angled_rows all) (map without_default_lem all)) exception
@@ -255,7 +257,7 @@ module _ {m : Bool} {ts : Trees} {ps : List Parameter} (d : AllDeclared m ts ps)
         (append_tokens ps (map added_type us) (token_runs d) tokens))))
 
   pub writers_read_back : WritersReadBack ps
-  writers_read_back = record { impl = impl_back; type = type_back; with-additional = additional_back }
+  writers_read_back = record { impl = impl_back; type = type_back; with_additional = additional_back }
 
 -- ## The law, of a list that was read
 

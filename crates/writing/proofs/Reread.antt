@@ -141,7 +141,8 @@ module _ (q : Row) (us vs : Trees) (cs : List ℕ)
     (comma : (p : Parameter) (row : ℕ) → r.comma p row (leaf q us) ≡ took (one p) cs vs) (angle row : ℕ) where
   no_separator : (m : ℕ) → is_punct m q ≡ false → (row : ℕ) → r.optional_run m row (leaf q us) ≡ took end [] (leaf q us)
   no_separator m e row =
-      ap (λ (t : Took Bool). after row t (λ t. r.run_if t parameter_stops role.bound)) (passed_over (is_punct m q) _ _ e)
+      ap (λ (t : Took Bool). after row t (λ t. r.run_if t parameter_stops role.bound))
+      (passed_over (is_punct m q) _ _ e)
 
   with_run_lem : (p : Parameter) → Stopping q us (run_of p) → type_const p ≡ false
       → Read (r.parameter angle row (colon_then p (leaf q us))) (with_run (run_of p) p) vs

@@ -36,7 +36,7 @@ unit_struct name ps =
 abbrev pub with_commas : Difference → Bool
 with_commas grammar.comma-after-parameter = false
 with_commas grammar.where-ends-at-group = true
-with_commas grammar.tuple_where = true
+with_commas grammar.tuple-where = true
 with_commas grammar.tuple-without-semicolon = true
 with_commas grammar.left-over-rows = true
 with_commas grammar.comma-after-value = true
@@ -51,7 +51,7 @@ with_commas grammar.open-angle = true
 with_commas grammar.scope-contents = true
 with_commas grammar.wrapped-pub = true
 with_commas grammar.any-scope = true
-with_commas grammar.idle_mark = true
+with_commas grammar.idle-mark = true
 with_commas grammar.one-word-group = true
 with_commas grammar.empty-type = true
 with_commas grammar.lone-field-start = true
