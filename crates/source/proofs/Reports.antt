@@ -8,7 +8,7 @@ use borrow.Author.Tests.{leb-true}
 use lib.Dec.{eqb, ltb, leb}
 use lib.ListN.{length, take, length-take, length-append}
 use lib.Seq.{length-take-le}
-use Rattle.token_list.specs.Byte.{bytes, LF}
+use Rattle.token_list.specs.Byte.{LF}
 use Rattle.token_list.specs.Layout.{MAX_BYTES, MAX_ROWS}
 use Rattle.token_list.specs.Row.{Row}
 use Rattle.token_list.specs.Rows.{list_of}

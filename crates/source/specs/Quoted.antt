@@ -18,7 +18,7 @@ hex_escape byte s =
 unfoldable pub scalar : ℕ → Bool
 scalar v = ltb v 0xD800 || between 0xE000 0x10FFFF v
 
--- `( HEX_DIGIT ◌* )` 1 to 6 times and `}`, after so many digits that are worth v
+-- `( HEX_DIGIT _* )` 1 to 6 times and `}`, after so many digits that are worth v
 abbrev pub hex_digits : ℕ → ℕ → List ℕ → Taken
 hex_digits count v [] = fault
 hex_digits count v (b ∷ bs) =
