@@ -98,7 +98,8 @@ answer_few n s t e = go (brackets [] (lex s)) e
     rs : List Row
     rs = rows_of (lex s)
 
-    fit : (b : Bool) → length (list_of false rs) ≤ MAX_BYTES → cond b (refused 8 END) (wrote (list_of false rs)) ≡ wrote t
+    fit : (b : Bool) → length (list_of false rs) ≤ MAX_BYTES
+        → cond b (refused 8 END) (wrote (list_of false rs)) ≡ wrote t
         → length t ≤ MAX_BYTES
     fit true h q = let z : ◌≡◌ {A = ℕ} 0 1 = cc in absurd (omega arith)
     fit false h q = let same : list_of false rs ≡ t = cc in omega (arith, ap length same, h)

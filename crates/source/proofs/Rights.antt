@@ -189,7 +189,8 @@ own_mark true = refl
 own_mark false = refl
 
 -- a row alone, with its own mark
-one_fits : (at k : ℕ) (t : List ℕ) → is_row (form_of k t) ≡ true → all_fit (accepted (tokens_at at (Part.row k t))) ≡ true
+one_fits : (at k : ℕ) (t : List ℕ) → is_row (form_of k t) ≡ true
+    → all_fit (accepted (tokens_at at (Part.row k t))) ≡ true
 one_fits at k t e = and_both _ _ (and_both _ _ e (own_mark (own_mark_lem k t))) refl
 
 ident-form : (t : List ℕ) → name t ≡ true → is_row (form_of IDENT t) ≡ true
@@ -225,7 +226,8 @@ stands_fit at (Stands.closer {b} e) =
 stands_fit at (Stands.mark {b} e f g) =
     one_fits at PUNCT (b ∷ []) (ap (λ (x : Bool). is_row (cond x plain wrong)) e)
 
-pub division_fits : {s : List ℕ} {ps : List Part} → Division s ps → (at : ℕ) → all_fit (accepted (tokens_of at ps)) ≡ true
+pub division_fits : {s : List ℕ} {ps : List Part} → Division s ps → (at : ℕ)
+    → all_fit (accepted (tokens_of at ps)) ≡ true
 division_fits Division.none at = refl
 division_fits (Division.more {p} {ps = ps} h d) at =
     fit_both (tokens_at at p) _ (stands_fit at h) (division_fits d (at + length (bytes_of p)))

@@ -35,10 +35,16 @@ pub returns-then-depth-eq0 : goal.returns-then-depth-eq0
 returns-then-depth-eq0 c = sym (reached_sound (omega arith) c.if-depth-eq0.true c.loop-i.invariant.2)
 
 pub innermost-at-requires : goal.innermost-at-requires
-innermost-at-requires c = record { end_in_bounds = omega arith; s_len = reached_whole (omega arith) c.loop-i.invariant.0 c.loop-i.invariant.2; depth_nonzero = omega arith }
+innermost-at-requires c =
+    record {
+      end_in_bounds = omega arith;
+      s_len = reached_whole (omega arith) c.loop-i.invariant.0 c.loop-i.invariant.2;
+      depth_nonzero = omega arith;
+    }
 
 pub shape_of-cells : goal.shape_of-cells
 shape_of-cells c = c.loop-i.invariant.1
 
 pub returns : goal.returns
-returns c = sym (reached_open (omega arith) c.loop-i.invariant.0 (omega arith) c.innermost-at.ensures c.loop-i.invariant.2)
+returns c =
+    sym (reached_open (omega arith) c.loop-i.invariant.0 (omega arith) c.innermost-at.ensures c.loop-i.invariant.2)

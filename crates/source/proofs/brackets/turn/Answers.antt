@@ -19,7 +19,12 @@ returns-then-depth-eq0 c = let step = closing_known (rw c.in-Closes.is at c.requ
     fault (reached_none step.1 c.if-depth-eq0.true c.requires.reached)
 
 pub delimiter_at-d-requires : goal.delimiter_at-d-requires
-delimiter_at-d-requires c = record { i_in_bounds = omega (arith, c.requires.i_in_bounds); s_len = reached_count c.requires.reached; depth_nonzero = omega arith }
+delimiter_at-d-requires c =
+    record {
+      i_in_bounds = omega (arith, c.requires.i_in_bounds);
+      s_len = reached_count c.requires.reached;
+      depth_nonzero = omega arith;
+    }
 
 pub returns-then-closer-s : goal.returns-then-closer-s
 returns-then-closer-s c = let step = closing_known (rw c.in-Closes.is at c.requires.step_as) in

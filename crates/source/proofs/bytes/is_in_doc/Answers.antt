@@ -13,8 +13,10 @@ returns-then-b-gt126 c = simp (le-leb 32 c.args.b (omega arith), lt-leb c.args.b
 
 pub returns-then-b-eq34 : goal.returns-then-b-eq34
 unfolding in_doc
-returns-then-b-eq34 c = simp (le-leb 32 c.args.b (omega arith), le-leb c.args.b 126 (omega arith), eq-eqb c.args.b 34 (omega arith))
+returns-then-b-eq34 c =
+    simp (le-leb 32 c.args.b (omega arith), le-leb c.args.b 126 (omega arith), eq-eqb c.args.b 34 (omega arith))
 
 pub returns : goal.returns
 unfolding in_doc
-returns c = simp (le-leb 32 c.args.b (omega arith), le-leb c.args.b 126 (omega arith), ne_eqb c.args.b 34 (λ e. omega arith))
+returns c =
+    simp (le-leb 32 c.args.b (omega arith), le-leb c.args.b 126 (omega arith), ne_eqb c.args.b 34 (λ e. omega arith))

@@ -14,7 +14,8 @@ returns-then-b-ne42 c = let e = block_doc_at c.args.s.now c.args.i c.byte_at-b.e
     sym (e ∙ or_last _ _ (ne_eqb _ _ c.if-b-eq33.false) ∙ and_fails _ _ (ne_eqb _ _ c.if-b-ne42.true))
 
 pub returns-then-c-eq42 : goal.returns-then-c-eq42
-returns-then-c-eq42 c = let e = block_doc_star c.args.s.now c.args.i c.byte_at-b.ensures c.byte_at-c.ensures c.if-b-ne42.false in
+returns-then-c-eq42 c =
+    let e = block_doc_star c.args.s.now c.args.i c.byte_at-b.ensures c.byte_at-c.ensures c.if-b-ne42.false in
     sym (e ∙ ap not (or_holds _ _ (eq-eqb _ _ c.if-c-eq42.true)))
 
 pub returns : goal.returns

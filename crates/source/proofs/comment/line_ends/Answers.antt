@@ -11,7 +11,8 @@ pub returns-then-s-i : goal.returns-then-s-i
 returns-then-s-i c = sym (ap line_ends (drop_of_length-le c.args.s.now {i = c.args.i} c.if-s-i.true))
 
 pub returns-then-s-i-eq10 : goal.returns-then-s-i-eq10
-returns-then-s-i-eq10 c = sym (line_ends_at c.args.s.now c.args.i (omega arith) ∙ or_holds _ _ (eq-eqb _ _ c.if-s-i-eq10.true))
+returns-then-s-i-eq10 c =
+    sym (line_ends_at c.args.s.now c.args.i (omega arith) ∙ or_holds _ _ (eq-eqb _ _ c.if-s-i-eq10.true))
 
 pub returns-then-s-i-ne13 : goal.returns-then-s-i-ne13
 returns-then-s-i-ne13 c = let e = line_ends_at c.args.s.now c.args.i (omega arith) in

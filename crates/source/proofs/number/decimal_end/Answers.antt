@@ -14,7 +14,9 @@ fraction_end-end-requires c = let here = digit-stands c.args.s.now c.args.i
     c.requires in omega (arith, here)
 
 pub returns-then-not-starts_exponent : goal.returns-then-not-starts_exponent
-returns-then-not-starts_exponent c = let plain = ap exponent_start (sym c.byte_at.ensures) ∙ sym c.starts_exponent.ensures ∙ not-true _ (ap not c.if-not-starts_exponent.true) in
+returns-then-not-starts_exponent c =
+    let plain = ap exponent_start (sym c.byte_at.ensures) ∙ sym c.starts_exponent.ensures
+    ∙ not-true _ (ap not c.if-not-starts_exponent.true) in
     ends (record {
       taken = decimal_plain c.fraction_end-end.ensures plain;
       forth = fraction_forth c.requires c.fraction_end-end.ensures;
@@ -22,13 +24,16 @@ returns-then-not-starts_exponent c = let plain = ap exponent_start (sym c.byte_a
     })
 
 pub exponent_end-requires : goal.exponent_end-requires
-exponent_end-requires c = let exponent = ap exponent_start (sym c.byte_at.ensures) ∙ sym c.starts_exponent.ensures ∙ not-false _
+exponent_end-requires c =
+    let exponent = ap exponent_start (sym c.byte_at.ensures) ∙ sym c.starts_exponent.ensures ∙ not-false _
     (ap not c.if-not-starts_exponent.false) in
     omega (arith, exponent-stands c.args.s.now c.fraction_end-end.result exponent)
 
 pub returns : goal.returns
 returns c = let exponent =
-    ap exponent_start (sym c.byte_at.ensures) ∙ sym c.starts_exponent.ensures ∙ not-false _ (ap not c.if-not-starts_exponent.false)
+    ap exponent_start (sym c.byte_at.ensures) ∙ sym c.starts_exponent.ensures
+    ∙ not-false _ (ap not c.if-not-starts_exponent.false)
     in
     let forth = fraction_forth c.requires c.fraction_end-end.ensures in
-    ends_from (c.fraction_end-end.result + 1) (omega (arith, forth)) (decimal-exponent c.fraction_end-end.ensures exponent) c.exponent_end.ensures
+    ends_from (c.fraction_end-end.result + 1) (omega (arith, forth))
+    (decimal-exponent c.fraction_end-end.ensures exponent) c.exponent_end.ensures

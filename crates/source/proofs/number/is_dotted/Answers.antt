@@ -15,7 +15,8 @@ returns-then-byte_at-ne46 c = sym
     (ne_eqb _ _ (λ e. c.if-byte_at-ne46.true (c.byte_at.ensures ∙ e))))
 
 pub overflow_add-next : goal.overflow_add-next
-overflow_add-next c = let here = stands c.args.s.now c.args.i (λ e. omega (arith, e, c.byte_at.ensures, c.if-byte_at-ne46.false)) in
+overflow_add-next c =
+    let here = stands c.args.s.now c.args.i (λ e. omega (arith, e, c.byte_at.ensures, c.if-byte_at-ne46.false)) in
     omega (arith, here)
 
 pub returns-then-b-eq46 : goal.returns-then-b-eq46

@@ -13,10 +13,12 @@ returns-then-is_digit c = let told = ap digit (sym c.byte_at-b.ensures) ∙ sym 
 pub returns-then-starts_exponent : goal.returns-then-starts_exponent
 returns-then-starts_exponent c = let none = ap digit (sym c.byte_at-b.ensures) ∙ sym c.is_digit.ensures
     ∙ c.if-is_digit.false in
-    let told = ap exponent_start (sym c.byte_at-b.ensures) ∙ sym c.starts_exponent.ensures ∙ c.if-starts_exponent.true in
+    let told = ap exponent_start (sym c.byte_at-b.ensures) ∙ sym c.starts_exponent.ensures
+    ∙ c.if-starts_exponent.true in
     sym (reserved_at c.args.s.now c.args.i ∙ or_holds _ _ (or_last _ _ none ∙ told))
 
 pub returns : goal.returns
 returns c = let none = ap digit (sym c.byte_at-b.ensures) ∙ sym c.is_digit.ensures ∙ c.if-is_digit.false in
-    let told = ap exponent_start (sym c.byte_at-b.ensures) ∙ sym c.starts_exponent.ensures ∙ c.if-starts_exponent.false in
+    let told = ap exponent_start (sym c.byte_at-b.ensures) ∙ sym c.starts_exponent.ensures
+    ∙ c.if-starts_exponent.false in
     c.is_dotted.ensures ∙ sym (reserved_at c.args.s.now c.args.i ∙ or_last _ _ (or_last _ _ none ∙ told))

@@ -12,7 +12,8 @@ returns-then-b-eq111 c = simp (ne_eqb _ _ c.if-b-eq98.false, eq-eqb _ _ c.if-b-e
 
 pub returns-then-b-eq120 : goal.returns-then-b-eq120
 unfolding radix_of
-returns-then-b-eq120 c = simp (ne_eqb _ _ c.if-b-eq98.false, ne_eqb _ _ c.if-b-eq111.false, eq-eqb _ _ c.if-b-eq120.true)
+returns-then-b-eq120 c =
+    simp (ne_eqb _ _ c.if-b-eq98.false, ne_eqb _ _ c.if-b-eq111.false, eq-eqb _ _ c.if-b-eq120.true)
 
 pub returns : goal.returns
 unfolding radix_of

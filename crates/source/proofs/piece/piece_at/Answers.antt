@@ -40,7 +40,8 @@ pub returns-then-is_digit : goal.returns-then-is_digit
 returns-then-is_digit c = let blank = sym c.is_blank.ensures ∙ c.if-is_blank.false in
     let name = sym c.is_name_start.ensures ∙ c.if-is_name_start.false in
     let digit = sym c.is_digit.ensures ∙ c.if-is_digit.true in
-    let whole = piece_at c.args.s.now c.args.i ∙ passed_over _ _ _ blank ∙ passed_over _ _ _ name ∙ chosen _ _ _ digit in
+    let whole = piece_at c.args.s.now c.args.i ∙ passed_over _ _ _ blank ∙ passed_over _ _ _ name
+    ∙ chosen _ _ _ digit in
     piece_as whole (c.literal.ensures _ c.number_end-ends.ensures)
 
 pub returns-then-b-eq34 : goal.returns-then-b-eq34
@@ -78,4 +79,5 @@ returns c = let blank = sym c.is_blank.ensures ∙ c.if-is_blank.false in
     let quote = ne_eqb _ QUOTE c.if-b-eq39.false in
     let none = passed_over _ _ _ blank ∙ passed_over _ _ _ name ∙ passed_over _ _ _ digit ∙ passed_over _ _ _ quoted in
     let slash = ne_eqb _ SLASH c.if-b-eq47.false in
-    piece_as (piece_at c.args.s.now c.args.i ∙ none ∙ passed_over _ _ _ quote ∙ passed_over _ _ _ slash) c.single.ensures
+    piece_as (piece_at c.args.s.now c.args.i ∙ none ∙ passed_over _ _ _ quote
+    ∙ passed_over _ _ _ slash) c.single.ensures

@@ -25,10 +25,15 @@ loop-i-smaller c = let forth = piece_forth (omega arith) c.piece_at-p.ensures in
     omega (arith, forth, piece-within c.piece_at-p.ensures, c.piece_end-i.ensures)
 
 pub loop-i-preserved : goal.loop-i-preserved
-loop-i-preserved c = let behind = counted_behind c.loop-i.invariant (omega arith) c.piece_at-p.ensures (omega (arith, c.row_count-rows.ensures, c.if-left-rows.false)) in
+loop-i-preserved c =
+    let behind =
+    counted_behind c.loop-i.invariant (omega arith) c.piece_at-p.ensures
+    (omega (arith, c.row_count-rows.ensures, c.if-left-rows.false)) in
     record {
       within = omega (arith, piece-within c.piece_at-p.ensures, c.piece_end-i.ensures);
-      same = (λ j. span_of (length c.args.s.now) (c.loop-i.left - c.row_count-rows.ensures j) (rest c.args.s.now (c.piece_end-i.ensures j))) ∙ behind;
+      same =
+          (λ j. span_of (length c.args.s.now) (c.loop-i.left - c.row_count-rows.ensures j)
+          (rest c.args.s.now (c.piece_end-i.ensures j))) ∙ behind;
     }
 
 pub returns : goal.returns

@@ -30,7 +30,8 @@ overflow_add-second c = let p = c.digit_worth-first.ensures.value ∙ ap digit_w
 pub returns-then-digit_worth-ge16 : goal.returns-then-digit_worth-ge16
 returns-then-digit_worth-ge16 c = let p = c.digit_worth-first.ensures.value ∙ ap digit_worth c.byte_at.ensures in
     let q = c.digit_worth.ensures.value ∙ ap digit_worth c.byte_at-2.ensures in
-    let h = and_fails_last (ltb c.digit_worth-first.result (limit c.args.byte)) (le-ltb _ _ c.if-digit_worth-ge16.true) in
+    let h = and_fails_last (ltb c.digit_worth-first.result (limit c.args.byte))
+    (le-ltb _ _ c.if-digit_worth-ge16.true) in
     none (hex_at c.args.byte c.args.s.now c.args.i p q ∙ passed_over _ _ _ h)
 
 pub overflow_add-end : goal.overflow_add-end

@@ -10,7 +10,8 @@ returns-then-v-lt55296 c = sym (or_holds _ _ (lt-ltb _ _ c.if-v-lt55296.true))
 
 pub returns-then-v-lt57344 : goal.returns-then-v-lt57344
 unfolding scalar
-returns-then-v-lt57344 c = sym (or_last _ _ (le-ltb _ _ c.if-v-lt55296.false) ∙ and_fails _ _ (lt-leb _ _ c.if-v-lt57344.true))
+returns-then-v-lt57344 c =
+    sym (or_last _ _ (le-ltb _ _ c.if-v-lt55296.false) ∙ and_fails _ _ (lt-leb _ _ c.if-v-lt57344.true))
 
 pub returns : goal.returns
 unfolding scalar

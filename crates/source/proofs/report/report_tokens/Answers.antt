@@ -5,4 +5,7 @@ use Rattle.source.proofs.report.report_tokens.Goals as goal
 
 pub returns : goal.returns
 returns c = let few = report_short c.args.s.now _ c.write_tokens-answer.ensures in
-    record { printed = c.put_tokens.ensures.by_index _ _ c.write_tokens-answer.ensures; short = omega (arith, c.put_tokens.ensures.upper_bound, few) }
+    record {
+      printed = c.put_tokens.ensures.by_index _ _ c.write_tokens-answer.ensures;
+      short = omega (arith, c.put_tokens.ensures.upper_bound, few);
+    }

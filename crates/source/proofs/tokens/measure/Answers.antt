@@ -24,8 +24,10 @@ loop-i-preserved c = let here : c.loop-i.i < length c.args.s.now = omega arith i
     let piece = c.piece_at-p.ensures in
     let more = c.piece_more-measured.ensures c.args.s.now _ piece in (
       omega (arith, piece-within piece, c.piece_end-i.ensures),
-      measured_piece c.args.s.now c.loop-i.i here piece c.loop-i.measured more c.piece_end-i.ensures ∙ c.loop-i.invariant.1,
+      measured_piece c.args.s.now c.loop-i.i here piece c.loop-i.measured more c.piece_end-i.ensures
+          ∙ c.loop-i.invariant.1,
     )
 
 pub returns : goal.returns
-returns c = ap (rows_more_lem c.loop-i.measured) (sym (rows_none c.args.s.now c.loop-i.i (omega arith))) ∙ c.loop-i.invariant.1
+returns c =
+    ap (rows_more_lem c.loop-i.measured) (sym (rows_none c.args.s.now c.loop-i.i (omega arith))) ∙ c.loop-i.invariant.1

@@ -42,6 +42,8 @@ pub shape_of-out : goal.shape_of-out
 shape_of-out c = kept (joined c.put_names-at.ensures c.loop-i.invariant.2)
 
 pub returns : goal.returns
-returns c = let none = ap (λ (t : List Row). c.loop-i.invariant.1 ++ written false t) (rows_none c.args.s.now c.loop-i.i (omega arith)) in
+returns c =
+    let none = ap (λ (t : List Row). c.loop-i.invariant.1 ++ written false t)
+    (rows_none c.args.s.now c.loop-i.i (omega arith)) in
     let whole = sym (append-nil c.loop-i.invariant.1) ∙ sym none ∙ c.loop-i.invariant.3 in
     joined c.put_names-at.ensures (retold whole c.loop-i.invariant.2)
