@@ -1,6 +1,6 @@
 -- What stands in quotes (Reference 1.63, "Tokens": CHAR_LITERAL, STRING_LITERAL, BYTE_LITERAL, BYTE_STRING_LITERAL),
--- each
--- from behind its first quote on. STRING_CONTINUE holds an LF, and such a literal is postponed (document 02, card 1).
+-- each from behind its first quote on. STRING_CONTINUE holds an LF, and such a literal is postponed (document 02,
+-- card 1).
 use Rattle.std.specs.Prelude.{Bool, not, cond, ◌&&◌, ◌||◌, List, [], ◌∷◌, ℕ, zero, suc, ◌+◌, ◌-◌, ◌*◌, ltb, eqb, drop}
 use Rattle.std.specs.Prelude.{get_or}
 use Rattle.token_list.specs.Byte.{code, bytes, UNDERSCORE, QUOTE}
