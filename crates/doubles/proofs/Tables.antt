@@ -8,7 +8,8 @@ use native.Mathlib.Omega.{arith}
 use borrow.Author.Count.{below_more}
 use borrow.Author.Tests.{eq-eqb, ne_eqb, eqb-true, eqb-false, leb-true, leb-false}
 use lib.Dec.{eqb, leb}
-use lib.ListN.{length, get_or, set, take, drop, replicate, length-append, length-set, length-replicate, get_or-replicate}
+use lib.ListN.{length, get_or, set, take, drop, replicate, length-append, length-set, length-replicate}
+use lib.ListN.{get_or-replicate}
 use lib.ListN.{get_or-append}
 use lib.Seq.{slice, get_or_at, get_or-set_same, get_or-set_other}
 use Rattle.token_list.specs.Text.{same}

@@ -1,5 +1,6 @@
 -- What ties keys and the table of keys to their definitions.
-use Rattle.std.specs.Prelude.{◌≡◌, Bool, true, false, List, [], ◌∷◌, ◌++◌, ℕ, ◌+◌, ◌*◌, ◌%◌, ◌≤◌, ◌<◌, ℤ, pos, neg_ℤ, length, get_or, set}
+use Rattle.std.specs.Prelude.{◌≡◌, Bool, true, false, List, [], ◌∷◌, ◌++◌, ℕ, ◌+◌, ◌*◌, ◌%◌, ◌≤◌, ◌<◌, ℤ, pos, neg_ℤ}
+use Rattle.std.specs.Prelude.{length, get_or, set}
 use Rattle.std.proofs.Math.Seq.{slice}
 use Rattle.token_list.specs.Byte.{MINUS}
 use Rattle.doubles.specs.Double.{stands}

@@ -196,35 +196,35 @@ pub data DocText : List ℕ → List ℕ → Type 0 where
   text : {p r : List ℕ} → all in_doc p ≡ true → LineEnd r → DocText (SLASH ∷ SLASH ∷ SLASH ∷ p) r
 
 ends_sound : (r : List ℕ) → line_ends r ≡ true → LineEnd r
-ends_sound [] e = Line_end.text
+ends_sound [] e = LineEnd.text
 ends_sound (b ∷ r) e = go (eqb b LF) refl e
   where
     crlf : (r : List ℕ) → eqb (get_or r 0 0) LF ≡ true → LineEnd (CR ∷ r)
     crlf [] e = absurd (false≢true e)
-    crlf (c ∷ r) e = subst (λ (x : ℕ). LineEnd (CR ∷ x ∷ r)) (sym (eqb-true c LF e)) Line_end.crlf
+    crlf (c ∷ r) e = subst (λ (x : ℕ). LineEnd (CR ∷ x ∷ r)) (sym (eqb-true c LF e)) LineEnd.crlf
 
     go : (t : Bool) → eqb b LF ≡ t → (t || (eqb b CR && eqb (get_or r 0 0) LF)) ≡ true → LineEnd (b ∷ r)
-    go true q e = subst (λ (x : ℕ). LineEnd (x ∷ r)) (sym (eqb-true b LF q)) Line_end.lf
+    go true q e = subst (λ (x : ℕ). LineEnd (x ∷ r)) (sym (eqb-true b LF q)) LineEnd.lf
     go false q e =
         let both = and_parts (eqb b CR) _ e in
         subst (λ (x : ℕ). LineEnd (x ∷ r)) (sym (eqb-true b CR both.0)) (crlf r both.1)
 
 ends_complete : {r : List ℕ} → LineEnd r → line_ends r ≡ true
-ends_complete Line_end.text = refl
-ends_complete Line_end.lf = refl
-ends_complete Line_end.crlf = refl
+ends_complete LineEnd.text = refl
+ends_complete LineEnd.lf = refl
+ends_complete LineEnd.crlf = refl
 
 -- what ends a doc line is none of its bytes
 ends_longest : {r : List ℕ} → LineEnd r → begins in_doc r ≡ false
 unfolding in_doc
-ends_longest Line_end.text = refl
-ends_longest Line_end.lf = refl
-ends_longest Line_end.crlf = refl
+ends_longest LineEnd.text = refl
+ends_longest LineEnd.lf = refl
+ends_longest LineEnd.crlf = refl
 
 pub ends_no_slash : {r : List ℕ} → LineEnd r → eqb (get_or r 0 0) SLASH ≡ false
-ends_no_slash Line_end.text = refl
-ends_no_slash Line_end.lf = refl
-ends_no_slash Line_end.crlf = refl
+ends_no_slash LineEnd.text = refl
+ends_no_slash LineEnd.lf = refl
+ends_no_slash LineEnd.crlf = refl
 
 pub doc_sound : (s : List ℕ) → Cut DocText (SLASH ∷ SLASH ∷ SLASH ∷ s) (doc_line (SLASH ∷ SLASH ∷ SLASH ∷ s))
 unfolding doc_line

@@ -193,7 +193,8 @@ signed_complete (b ∷ ds) r Sign.none any h =
     (omega arith)
 signed_complete ds r (Sign.some {b} e) any h =
     ap (signed_body (b ∷ ds ++ r)) (chosen _ _ _ e)
-    ∙ after_takes 1 (length ds) (suc (length ds)) (digits_complete (in_digits 10) exponent_test ds r h any) (omega arith)
+    ∙ after_takes 1 (length ds) (suc (length ds)) (digits_complete (in_digits 10) exponent_test ds r h any)
+    (omega arith)
 
 -- behind other bytes
 exponent_behind : (a s : List ℕ) → with_exponent (length a) (a ++ s) ≡ after (length a) (with_exponent 0 s)

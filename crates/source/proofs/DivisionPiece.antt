@@ -12,7 +12,7 @@ use Rattle.token_list.specs.Layout.{LITERAL, OPEN, CLOSE, PUNCT}
 use Rattle.token_list.specs.Text.{all, member, digit, name_start, punctuation}
 use Rattle.token_list.proofs.Texts.{and_parts, and_fails, chosen, passed_over}
 use Rattle.source.specs.Bytes.{SLASH, STAR, BANG, DOUBLE_QUOTE, blank, in_line, in_doc, opens, closes}
-use Rattle.source.specs.Taken.{Taken, takes, after, run}
+use Rattle.source.specs.Taken.{Taken, takes, run}
 use Rattle.source.specs.Comment.{outer_line, doc_line, block_comment}
 use Rattle.source.specs.Quoted.{character, string}
 use Rattle.source.specs.Number.{number}

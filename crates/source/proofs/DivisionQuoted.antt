@@ -8,7 +8,7 @@ use lib.Dec.{ltb, eqb}
 use borrow.Author.Tests.{eqb-true, ltb-true, lt-ltb, not-true}
 use lib.ListN.{length, get_or, drop, length-append}
 use Rattle.token_list.specs.Byte.{code, bytes, UNDERSCORE, QUOTE}
-use Rattle.token_list.specs.Text.{all, member, printable, digit_worth}
+use Rattle.token_list.specs.Text.{member, printable, digit_worth}
 use Rattle.token_list.proofs.Texts.{and_parts, and_both, and_fails, chosen, passed_over}
 use Rattle.source.specs.Bytes.{BACKSLASH, DOUBLE_QUOTE, hex_digit}
 use Rattle.source.specs.Taken.{Taken, takes, fault, after, onward}
@@ -34,7 +34,7 @@ digits_sound (b ∷ s) count v some few =
     (λ e. choice (ltb 0 count && scalar v)
     (λ f. at_byte (code "}") e (cut (bytes "}") s (record {
       digits = [];
-      form = Hex_digits.close;
+      form = HexDigits.close;
       few = omega (arith, few);
       worth = (and_parts (ltb 0 count) _ f).1;
     }) refl)) (λ f. none))
@@ -42,7 +42,7 @@ digits_sound (b ∷ s) count v some few =
     (λ f. at_byte UNDERSCORE (and_parts (eqb b UNDERSCORE) _ f).0
     (before (UNDERSCORE ∷ []) 1 refl (digits_sound s count v some few) (λ p r h. record {
       digits = h.digits;
-      form = Hex_digits.line h.form;
+      form = HexDigits.line h.form;
       few = h.few;
       worth = h.worth;
     })))
@@ -52,7 +52,7 @@ digits_sound (b ∷ s) count v some few =
     before (b ∷ []) 1 refl (digits_sound s (count + 1) (v * 16 + digit_worth b) (omega arith) (omega (arith, lower)))
     (λ p r h. record {
       digits = b ∷ h.digits;
-      form = Hex_digits.more more.0 h.form;
+      form = HexDigits.more more.0 h.form;
       few = omega (arith, h.few);
       worth = h.worth;
     })) (λ g. none)))
@@ -60,11 +60,11 @@ digits_sound (b ∷ s) count v some few =
 digits_complete : {ds p : List ℕ} → HexDigits ds p → (r : List ℕ) (count v : ℕ) → 0 < count → count + length ds ≤ 6
     → scalar (hex_worth v ds) ≡ true → hex_digits count v (p ++ r) ≡ takes (length p)
 unfolding digit_worth
-digits_complete Hex_digits.close r count v some few worth = chosen _ _ _ (and_both _ _ (lt-ltb 0 count some) worth)
-digits_complete (Hex_digits.line {p = p} h) r count v some few worth =
+digits_complete HexDigits.close r count v some few worth = chosen _ _ _ (and_both _ _ (lt-ltb 0 count some) worth)
+digits_complete (HexDigits.line {p = p} h) r count v some few worth =
     chosen _ _ _ (lt-ltb 0 count some)
     ∙ after_takes 1 (length p) (suc (length p)) (digits_complete h r count v some few worth) (omega arith)
-digits_complete (Hex_digits.more {d} {ds} {p} e h) r count v some few worth =
+digits_complete (HexDigits.more {d} {ds} {p} e h) r count v some few worth =
     passed_over _ _ _ (apart hex_digit d (code "}") e refl)
     ∙ passed_over _ _ _ (and_fails _ _ (apart hex_digit d UNDERSCORE e refl))
     ∙ chosen _ _ _ (and_both _ _ e (lt-ltb count 6 (omega (arith, few))))

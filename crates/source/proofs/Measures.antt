@@ -77,7 +77,8 @@ more_append m [] us = refl
 more_append m (r ∷ rs) us = more_append (row_more m r.kind (length r.text)) rs us
 
 module _ (s : List ℕ) (i : ℕ) {p : code.Piece} (here : i < length s) (h : PieceAs s i (piece (drop i s)) p) where
-  pub measured_piece : (m : Measured) {n : Measured} {e : ℕ} → n ≡ rows_more_lem m (piece_rows s i p) → e ≡ piece_end s p
+  pub measured_piece : (m : Measured) {n : Measured} {e : ℕ} → n ≡ rows_more_lem m (piece_rows s i p)
+      → e ≡ piece_end s p
       → rows_more_lem n (rows_of (rest s e)) ≡ rows_more_lem m (rows_of (rest s i))
   measured_piece m q l =
       (λ j. rows_more_lem (q j) (rows_of (rest s (l j))))

@@ -120,7 +120,8 @@ module _ (s : List ℕ) (i : ℕ) where
   lifetime_none q = passed_over _ _ _ (and_fails _ _ (ap name_start (byte_behind s i 1) ∙ q))
 
   pub lifetime_at : {e : ℕ} → RunEnd name_part s (i + 1) e
-      → lifetime_at_lem ≡ cond (name_start (get_or s (i + 1) 0) && not (eqb (get_or s e 0) QUOTE)) (lifetime (e - i)) fault
+      → lifetime_at_lem ≡ cond (name_start (get_or s (i + 1) 0) && not (eqb (get_or s e 0) QUOTE))
+      (lifetime (e - i)) fault
   unfolding lifetime_of
   lifetime_at {e} h =
       let count = ap (run name_part) (drop_behind s i 1) in

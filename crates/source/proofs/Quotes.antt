@@ -68,7 +68,8 @@ module _ (count v : ℕ) (s : List ℕ) (i : ℕ) (h : i < length s) where
   digits_no_gap e k = ap (hex_digits count v) (drop_next s i h) ∙ simp (e, k)
 
   -- a digit worth d
-  pub digits_next : {d : ℕ} → d ≡ digit_worth (get_or s i 0) → (get_or s i 0 ≡ code "}" → ⊥) → (get_or s i 0 ≡ UNDERSCORE → ⊥)
+  pub digits_next : {d : ℕ} → d ≡ digit_worth (get_or s i 0) → (get_or s i 0 ≡ code "}" → ⊥)
+      → (get_or s i 0 ≡ UNDERSCORE → ⊥)
       → hex_digits count v (drop i s)
       ≡ cond (ltb d 16 && ltb count 6) (after 1 (hex_digits (count + 1) (v * 16 + d) (drop (i + 1) s))) fault
   digits_next p d e =

@@ -8,7 +8,7 @@ use borrow.Author.Tests.{leb-true}
 use lib.Dec.{eqb, ltb, leb}
 use lib.ListN.{length, take, length-take, length-append}
 use lib.Seq.{length-take-le}
-use Rattle.token_list.specs.Byte.{bytes, LF}
+use Rattle.token_list.specs.Byte.{LF}
 use Rattle.token_list.specs.Layout.{MAX_BYTES, MAX_ROWS}
 use Rattle.token_list.specs.Row.{Row}
 use Rattle.token_list.specs.Rows.{list_of}
@@ -98,7 +98,8 @@ answer_few n s t e = go (brackets [] (lex s)) e
     rs : List Row
     rs = rows_of (lex s)
 
-    fit : (b : Bool) → length (list_of false rs) ≤ MAX_BYTES → cond b (refused 8 END) (wrote (list_of false rs)) ≡ wrote t
+    fit : (b : Bool) → length (list_of false rs) ≤ MAX_BYTES
+        → cond b (refused 8 END) (wrote (list_of false rs)) ≡ wrote t
         → length t ≤ MAX_BYTES
     fit true h q = let z : ◌≡◌ {A = ℕ} 0 1 = cc in absurd (omega arith)
     fit false h q = let same : list_of false rs ≡ t = cc in omega (arith, ap length same, h)

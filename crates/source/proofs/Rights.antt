@@ -92,9 +92,9 @@ digits-shown radix few =
 -- ## Quotes
 
 hex_shown : {ds p : List ℕ} → HexDigits ds p → all printable p ≡ true
-hex_shown Hex_digits.close = refl
-hex_shown (Hex_digits.line h) = hex_shown h
-hex_shown (Hex_digits.more {d} e h) = and_both _ _ (worth-shown 16 d (omega arith) e) (hex_shown h)
+hex_shown HexDigits.close = refl
+hex_shown (HexDigits.line h) = hex_shown h
+hex_shown (HexDigits.more {d} e h) = and_both _ _ (worth-shown 16 d (omega arith) e) (hex_shown h)
 
 escape-shown : {p : List ℕ} (byte : Bool) → Escape byte p → all printable p ≡ true
 escape-shown byte (Escape.plain {b} e) = and_both _ _ (member_holds printable b (bytes "nrt\\0'\"") e refl) refl
@@ -110,7 +110,7 @@ unit-shown : {p : List ℕ} (byte : Bool) (quote : ℕ) → Unit byte quote p �
 unit-shown byte quote (Unit.plain e f g) = and_both _ _ e refl
 unit-shown byte quote (Unit.escape h) = escape-shown byte h
 
-body_shown : {p : List ℕ} (byte : Bool) → Body byte p → all printable p ≡ true
+body_shown : (byte : Bool) {p : List ℕ} → Body byte p → all printable p ≡ true
 body_shown byte Body.close = refl
 body_shown byte (Body.more {u} {p} h k) =
     all_both printable u p (unit-shown byte DOUBLE_QUOTE h) (body_shown byte k)
@@ -189,7 +189,8 @@ own_mark true = refl
 own_mark false = refl
 
 -- a row alone, with its own mark
-one_fits : (at k : ℕ) (t : List ℕ) → is_row (form_of k t) ≡ true → all_fit (accepted (tokens_at at (Part.row k t))) ≡ true
+one_fits : (at k : ℕ) (t : List ℕ) → is_row (form_of k t) ≡ true
+    → all_fit (accepted (tokens_at at (Part.row k t))) ≡ true
 one_fits at k t e = and_both _ _ (and_both _ _ e (own_mark (own_mark_lem k t))) refl
 
 ident-form : (t : List ℕ) → name t ≡ true → is_row (form_of IDENT t) ≡ true
@@ -225,7 +226,8 @@ stands_fit at (Stands.closer {b} e) =
 stands_fit at (Stands.mark {b} e f g) =
     one_fits at PUNCT (b ∷ []) (ap (λ (x : Bool). is_row (cond x plain wrong)) e)
 
-pub division_fits : {s : List ℕ} {ps : List Part} → Division s ps → (at : ℕ) → all_fit (accepted (tokens_of at ps)) ≡ true
+pub division_fits : {s : List ℕ} {ps : List Part} → Division s ps → (at : ℕ)
+    → all_fit (accepted (tokens_of at ps)) ≡ true
 division_fits Division.none at = refl
 division_fits (Division.more {p} {ps = ps} h d) at =
     fit_both (tokens_at at p) _ (stands_fit at h) (division_fits d (at + length (bytes_of p)))

@@ -75,7 +75,8 @@ unfolding row_span
 counted_start s row = record { within = omega arith; same = ap (span_of (length s) row) (sym (rest_all s)) }
 
 module _ {s : List ℕ} {row i n : ℕ} (h : Counted s row i n) (here : i < length s) where
-  pub counted_here : {p : code.Piece} → PieceAs s i (piece (drop i s)) p → n < row_count p → span_in i p n ≡ row_span s row
+  pub counted_here : {p : code.Piece} → PieceAs s i (piece (drop i s)) p → n < row_count p
+      → span_in i p n ≡ row_span s row
   counted_here {p} a l =
       let m = length s in
       sym (span_here s i m (rest s (piece_end s p)) n a l) ∙ sym (ap (span_of m n) (rest-piece s i here a)) ∙ h.same

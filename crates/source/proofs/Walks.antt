@@ -193,7 +193,8 @@ module _ {s cells : List ℕ} {i depth : ℕ} where
             told.found (eqb-true held 0 q) o os (h.stack i (omega arith) ∙ stack_here s i i (o ∷ os) (omega arith))
         go false q = let other = eqb-false held 0 q in told.kept other ∙ out.told other
 
-    pub reached_closes : Within s i e → closer d ≡ get_or s i 0 → Reached s cells i depth → Reached s cells₁ e (depth - 1)
+    pub reached_closes : Within s i e → closer d ≡ get_or s i 0 → Reached s cells i depth
+        → Reached s cells₁ e (depth - 1)
     reached_closes w c ([], h) = absurd (omega (arith, some, h.count))
     reached_closes w c (o ∷ os, h) =
         let fits = eq-eqb _ _ (ap closer (sym (delimiter h)) ∙ c) in (

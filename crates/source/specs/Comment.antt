@@ -1,5 +1,6 @@
 -- Comments (Reference 1.63, "Comments").
-use Rattle.std.specs.Prelude.{Bool, true, not, cond, ◌&&◌, ◌||◌, List, [], ◌∷◌, ℕ, zero, suc, ◌+◌, ◌-◌, eqb, drop, get_or}
+use Rattle.std.specs.Prelude.{Bool, true, not, cond, ◌&&◌, ◌||◌, List, [], ◌∷◌, ℕ, zero, suc, ◌+◌, ◌-◌, eqb, drop}
+use Rattle.std.specs.Prelude.{get_or}
 use Rattle.token_list.specs.Byte.{LF}
 use Rattle.source.specs.Bytes.{CR, SLASH, STAR, BANG, in_doc}
 use Rattle.source.specs.Taken.{Taken, takes, fault, after, run}

@@ -2,7 +2,8 @@
 -- 1), as relations written without `lex`. A production is said of its own bytes, and of those that follow where they
 -- decide whether it ends there. So what can be longer is as long as it can be, and what begins as a literal or a
 -- reserved prefix and is none is no part: no shorter one stands there.
-use Rattle.std.specs.Prelude.{◌≡◌, Bool, true, false, not, cond, ◌&&◌, ◌||◌, List, [], ◌∷◌, ◌++◌, ℕ, ◌+◌, ◌*◌, ltb, eqb, length}
+use Rattle.std.specs.Prelude.{◌≡◌, Bool, true, false, not, cond, ◌&&◌, ◌||◌, List, [], ◌∷◌, ◌++◌, ℕ, ◌+◌, ◌*◌, ltb, eqb}
+use Rattle.std.specs.Prelude.{length}
 use Rattle.token_list.specs.Byte.{code, bytes, LF, UNDERSCORE, ZERO, HASH, QUOTE, DOT, EQUALS, BRACKET}
 use Rattle.token_list.specs.Layout.{IDENT, LITERAL, PUNCT, OPEN, CLOSE}
 use Rattle.token_list.specs.Text.{all, member, same, digit, name_start, name_part, printable, punctuation, plain_name}
@@ -175,7 +176,8 @@ pub data Stands : Part → List ℕ → Type 0 where
   block : {p after : List ℕ} → no_doc STAR (λ b. eqb b STAR || eqb b SLASH) p ≡ true → Block p
       → Stands (gap (SLASH ∷ STAR ∷ p)) after
   -- OUTER_LINE_DOC
-  doc_line : {p after : List ℕ} → begins (is SLASH) p ≡ false → all in_doc p ≡ true → LineEnd after → Stands (doc p) after
+  doc_line : {p after : List ℕ} → begins (is SLASH) p ≡ false → all in_doc p ≡ true → LineEnd after
+      → Stands (doc p) after
   -- IDENTIFIER_OR_KEYWORD or `_`; before `"`, `'` or `#` RESERVED_TOKEN_DOUBLE_QUOTE, _SINGLE_QUOTE, _POUND
   name : {p after : List ℕ} → Name p after → begins (λ b. member b (bytes "\"'#")) after ≡ false
       → Stands (row IDENT p) after

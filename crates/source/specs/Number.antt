@@ -1,6 +1,5 @@
 -- Numbers without their suffix (Reference 1.63, "Tokens": INTEGER_LITERAL, FLOAT_LITERAL, NUMBER_PSEUDOLITERAL), and
--- the
--- forms that are reserved (RESERVED_NUMBER).
+-- the forms that are reserved (RESERVED_NUMBER).
 use Rattle.std.specs.Prelude.{Bool, not, cond, ◌&&◌, ◌||◌, List, ℕ, ◌+◌, eqb, take, drop, get_or}
 use Rattle.token_list.specs.Byte.{code, bytes, ZERO, UNDERSCORE, DOT}
 use Rattle.token_list.specs.Text.{all, member, digit, name_start}

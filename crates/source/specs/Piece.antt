@@ -78,7 +78,8 @@ doc_of_lem taken.fault = fault
 
 -- LINE_COMMENT and OUTER_LINE_DOC; INNER_LINE_DOC is postponed
 unfoldable pub line_comment : List ℕ → Piece
-line_comment s = cond (eqb (get_or s 2 0) BANG) fault (cond (outer_line s) (doc_of_lem (doc_line s)) (gap (run in_line s)))
+line_comment s =
+    cond (eqb (get_or s 2 0) BANG) fault (cond (outer_line s) (doc_of_lem (doc_line s)) (gap (run in_line s)))
 
 -- a comment, or the punctuation `/`
 unfoldable pub slash : List ℕ → Piece

@@ -1,7 +1,8 @@
 -- What stands in quotes (Reference 1.63, "Tokens": CHAR_LITERAL, STRING_LITERAL, BYTE_LITERAL, BYTE_STRING_LITERAL),
--- each
--- from behind its first quote on. STRING_CONTINUE holds an LF, and such a literal is postponed (document 02, card 1).
-use Rattle.std.specs.Prelude.{Bool, not, cond, ◌&&◌, ◌||◌, List, [], ◌∷◌, ℕ, zero, suc, ◌+◌, ◌-◌, ◌*◌, ltb, eqb, drop, get_or}
+-- each from behind its first quote on. STRING_CONTINUE holds an LF, and such a literal is postponed (document 02,
+-- card 1).
+use Rattle.std.specs.Prelude.{Bool, not, cond, ◌&&◌, ◌||◌, List, [], ◌∷◌, ℕ, zero, suc, ◌+◌, ◌-◌, ◌*◌, ltb, eqb, drop}
+use Rattle.std.specs.Prelude.{get_or}
 use Rattle.token_list.specs.Byte.{code, bytes, UNDERSCORE, QUOTE}
 use Rattle.token_list.specs.Text.{member, between, printable, digit_worth}
 use Rattle.source.specs.Bytes.{BACKSLASH, DOUBLE_QUOTE, hex_digit}
@@ -18,7 +19,7 @@ hex_escape byte s =
 unfoldable pub scalar : ℕ → Bool
 scalar v = ltb v 0xD800 || between 0xE000 0x10FFFF v
 
--- `( HEX_DIGIT ◌* )` 1 to 6 times and `}`, after so many digits that are worth v
+-- `( HEX_DIGIT _* )` 1 to 6 times and `}`, after so many digits that are worth v
 abbrev pub hex_digits : ℕ → ℕ → List ℕ → Taken
 hex_digits count v [] = fault
 hex_digits count v (b ∷ bs) =

@@ -1,6 +1,7 @@
 -- What ties the code's brackets to the meaning: the groups that are open at an offset, and the cells that hold their
 -- kinds.
-use Rattle.std.specs.Prelude.{◌≡◌, true, cond, List, [], ◌∷◌, ℕ, zero, suc, ◌-◌, ◌*◌, ◌/◌, ◌%◌, ◌≤◌, ◌<◌, min, ltb, eqb, length, get_or, set, drop}
+use Rattle.std.specs.Prelude.{◌≡◌, true, cond, List, [], ◌∷◌, ℕ, zero, suc, ◌-◌, ◌*◌, ◌/◌, ◌%◌, ◌≤◌, ◌<◌, min, ltb, eqb}
+use Rattle.std.specs.Prelude.{length, get_or, set, drop}
 use Rattle.token_list.specs.Byte.{PARENTHESIS, BRACKET, BRACE}
 use Rattle.token_list.specs.Layout.{OPEN, CLOSE}
 use Rattle.token_list.specs.Text.{closer}

@@ -1,5 +1,6 @@
 -- What ties the writer of token lists to the meaning.
-use Rattle.std.specs.Prelude.{◌≡◌, false, cond, ◌&&◌, ◌||◌, List, [], ◌∷◌, ◌++◌, ℕ, ◌+◌, ◌-◌, ◌≤◌, leb, ltb, eqb, length, take}
+use Rattle.std.specs.Prelude.{◌≡◌, false, cond, ◌&&◌, ◌||◌, List, [], ◌∷◌, ◌++◌, ℕ, ◌+◌, ◌-◌, ◌≤◌, leb, ltb, eqb}
+use Rattle.std.specs.Prelude.{length, take}
 use Rattle.std.proofs.Math.Seq.{slice}
 use Rattle.token_list.specs.Byte.{bytes, HASH, EQUALS, BRACKET}
 use Rattle.token_list.specs.Layout.{LITERAL, OPEN, CLOSE, names, MAX_BYTES, MAX_ROWS, MAX_TEXT, MAX_DEPTH}

@@ -4,7 +4,8 @@ ghost use Rattle.std.specs.Prelude.{◌≡◌, true, List, [], ◌∷◌, ℕ, �
 ghost use Rattle.source.specs.Bytes.{opens};
 ghost use Rattle.source.specs.Lex.{lex};
 ghost use Rattle.source.specs.Brackets.{Open, brackets};
-ghost use Rattle.source.specs.Stack.{stack_to, StepAs, row_step_lem, step_end, InnermostAt, bits_of, delimiter_of, Held};
+ghost use Rattle.source.specs.Stack.{stack_to, StepAs, row_step_lem, step_end, InnermostAt, bits_of, delimiter_of};
+ghost use Rattle.source.specs.Stack.{Held};
 ghost use Rattle.source.specs.Stack.{Popped, DelimiterAt, Reached, TurnedAs, matched_of};
 
 use crate::piece::{Piece, piece_at};

@@ -9,7 +9,8 @@ ghost use Rattle.source.specs.Lex.{row_at, lex};
 ghost use Rattle.source.specs.Brackets.{sound};
 ghost use Rattle.source.specs.Answer.{rows_of, matched_answer, answer};
 ghost use Rattle.source.specs.Contract.{PieceAs};
-ghost use Rattle.source.specs.Tokens.{doc_line_rows, piece_rows, depth_after, row_more, rows_more_lem, NO_ROWS, TokensAs};
+ghost use Rattle.source.specs.Tokens.{doc_line_rows, piece_rows, depth_after, row_more, rows_more_lem, NO_ROWS};
+ghost use Rattle.source.specs.Tokens.{TokensAs};
 
 use crate::brackets::{Matched, match_brackets};
 use crate::piece::{Piece, piece_at, piece_end};

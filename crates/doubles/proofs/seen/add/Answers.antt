@@ -19,4 +19,5 @@ pub offset_bounds-words-bucket-2 : goal.offset_bounds-words-bucket-2
 offset_bounds-words-bucket-2 c = omega (arith, mod-lt c.args.key.number {m = length c.args.numbers.now} (omega arith))
 
 pub bounds-words-bucket-2 : goal.bounds-words-bucket-2
-bounds-words-bucket-2 c = simp length-set (omega (arith, mod-lt c.args.key.number {m = length c.args.numbers.now} (omega arith)))
+bounds-words-bucket-2 c =
+    simp length-set (omega (arith, mod-lt c.args.key.number {m = length c.args.numbers.now} (omega arith)))

@@ -11,10 +11,10 @@ returns-then-number-numbers c = other-number (key_of c.args.bytes.now c.args.key
     (key_at c.args.bytes.now c.args.words.now c.args.numbers.now c.args.k) c.if-number-numbers.true
 
 pub overflow_cast-from : goal.overflow_cast-from
-overflow_cast-from c = omega (arith, c.shared_slice_known-5-1.given (words_at (length c.args.numbers.now) c.args.k))
+overflow_cast-from c = omega (arith, c.type_inv.words (words_at (length c.args.numbers.now) c.args.k))
 
 pub overflow_cast-to : goal.overflow_cast-to
-overflow_cast-to c = omega (arith, c.shared_slice_known-6-1.given (words_at (length c.args.numbers.now) c.args.k + 1))
+overflow_cast-to c = omega (arith, c.type_inv.words (words_at (length c.args.numbers.now) c.args.k + 1))
 
 pub returns : goal.returns
 returns c = let key = key_at c.args.bytes.now c.args.words.now c.args.numbers.now c.args.k in

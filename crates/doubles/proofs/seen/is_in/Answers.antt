@@ -15,13 +15,21 @@ pub bounds-words-bucket : goal.bounds-words-bucket
 bounds-words-bucket c = omega (arith, mod-lt c.args.key.number {m = length c.args.numbers.now} (omega arith))
 
 pub overflow_cast-link : goal.overflow_cast-link
-overflow_cast-link c = omega (arith, c.shared_slice_known-4-1.given (c.args.key.number % length c.args.numbers.now))
+overflow_cast-link c = omega (arith, c.type_inv.words (c.args.key.number % length c.args.numbers.now))
 
 pub loop-link-init : goal.loop-link-init
 loop-link-init c = λ ks t. look_first _ t (omega arith)
 
 pub is_at-requires : goal.is_at-requires
-is_at-requires c = record { holds = (c.requires.holds.0, c.requires.holds.1, omega (arith, (c.loop-link.invariant c.requires.holds.0 c.requires.holds.1).low)); standing = c.requires.standing }
+is_at-requires c =
+    record {
+      holds = (
+        c.requires.holds.0,
+        c.requires.holds.1,
+        omega (arith, (c.loop-link.invariant c.requires.holds.0 c.requires.holds.1).low),
+      );
+      standing = c.requires.standing;
+    }
 
 pub returns-then-is_at : goal.returns-then-is_at
 returns-then-is_at c = let same = sym c.is_at.ensures ∙ c.if-is_at.true in
@@ -44,10 +52,12 @@ bounds-words-at c = omega (arith, (c.loop-link.invariant c.requires.holds.0 c.re
 
 pub overflow_cast-link-in-loop-link : goal.overflow_cast-link-in-loop-link
 overflow_cast-link-in-loop-link c = let k = c.loop-link.link - 1 in
-    omega (arith, c.shared_slice_known-in-loop-link-1.given (words_at (length c.args.numbers.now) k + 2))
+    omega (arith, c.type_inv.words (words_at (length c.args.numbers.now) k + 2))
 
 pub loop-link-smaller : goal.loop-link-smaller
-loop-link-smaller c = next_less _ c.requires.holds.1 (c.loop-link.invariant c.requires.holds.0 c.requires.holds.1) (c.loop-link.link - 1) (omega arith)
+loop-link-smaller c =
+    next_less _ c.requires.holds.1 (c.loop-link.invariant c.requires.holds.0 c.requires.holds.1) (c.loop-link.link - 1)
+    (omega arith)
 
 pub loop-link-preserved : goal.loop-link-preserved
 loop-link-preserved c = let other = sym c.is_at.ensures ∙ c.if-is_at.false in

@@ -1,0 +1,26 @@
+use mathlib.Core.Path.{sym, ap, ◌∙◌}
+use native.Mathlib.Omega.{arith}
+use Rattle.token_list.proofs.Texts.{chosen, passed_over}
+use Rattle.source.specs.Taken.{after}
+use Rattle.source.specs.Contract.{ends, none}
+use Rattle.source.proofs.Offsets.{ends_from}
+use Rattle.source.proofs.Numbers.{exponent_at, exponent-digits, any_forth}
+use Rattle.source.proofs.number.exponent_end.Goals as goal
+
+pub any_digit-requires : goal.any_digit-requires
+any_digit-requires c = c.run_end-end.ensures.within c.sign_end-start.ensures.within
+
+pub returns-then-any_digit : goal.returns-then-any_digit
+returns-then-any_digit c = let some = sym c.any_digit.ensures ∙ c.if-any_digit.true in
+    let from = c.sign_end-start.result in
+    ends_from from (omega (arith, c.sign_end-start.ensures.told)) (exponent_at c.sign_end-start.ensures) (ends (record {
+      taken = exponent-digits c.run_end-end.ensures ∙ chosen _ _ _ some;
+      forth = any_forth c.args.s.now from _ some;
+      within = c.run_end-end.ensures.within c.sign_end-start.ensures.within;
+    }))
+
+pub returns : goal.returns
+returns c = let no = sym c.any_digit.ensures ∙ c.if-any_digit.false in
+    none
+    (exponent_at c.sign_end-start.ensures ∙ ap (after _)
+    (exponent-digits c.run_end-end.ensures ∙ passed_over _ _ _ no))
