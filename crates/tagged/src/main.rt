@@ -4,7 +4,13 @@
 
 ghost use Rattle.std.specs.Prelude.{◌≡◌, length};
 
-use libc::{STDERR_FILENO, STDIN_FILENO, STDOUT_FILENO};
+use std::env::{Env, FillError};
+
+const STDIN: i32 = 0;
+
+const STDOUT: i32 = 1;
+
+const STDERR: i32 = 2;
 
 // One byte more than a list may have: enough to see that it has too many.
 fn list_buffer() -> [u8; 65537]
@@ -37,19 +43,22 @@ fn prefix_buffer() -> [u8; 256]
 
 fn report(prefix: &[u8]) {
     let mut list = list_buffer();
-    let n = io::read_full(STDIN_FILENO, &mut list);
+    let n = io::read_full(STDIN, &mut list);
     let mut roles = role_buffer();
     let mut out = output();
     let k = tagged_attribute::listing::report_tagged(&list[..n], prefix, &mut roles, &mut out);
-    io::write_all(STDOUT_FILENO, &out[..k]);
+    io::write_all(STDOUT, &out[..k]);
 }
 
-fn main() {
-    if os::arg_count() < 2 {
-        io::write_all(STDERR_FILENO, b"usage: tagged PREFIX < LIST\n");
-        return;
-    }
+fn main(rt: HostRuntime) {
     let mut prefix = prefix_buffer();
-    let n = os::arg(1, &mut prefix);
+    let n = match rt.arg(1, &mut prefix) {
+        Ok(n) => n,
+        Err(FillError::TooLong) => 0,
+        Err(FillError::NotPresent) => {
+            io::write_all(STDERR, b"usage: tagged PREFIX < LIST\n");
+            return;
+        }
+    };
     report(&prefix[..n]);
 }

@@ -179,8 +179,8 @@ module _ (s : List ℕ) where
           text = token_text s l;
           key = text_of k c.row key;
           literal = text_of l (c.row + 2) literal;
-          key-place = key;
-          literal-place = literal;
+          key_place = key;
+          literal_place = literal;
           added = a;
         }
 

@@ -104,7 +104,8 @@ tagged_fit prefix (leaf q us) = refuses
 tagged_fit prefix (group d end us) = choice (is_end us) absent refuses
 tagged_fit prefix (group d (group e ts vs) us) = choice (is_end us) absent refuses
 tagged_fit prefix (group d (leaf q end) us) = choice (is_end us) (choice (is_word prefix q) absent absent) refuses
-tagged_fit prefix (group d (leaf q (leaf p vs)) us) = choice (is_end us) (choice (is_word prefix q) absent absent) refuses
+tagged_fit prefix (group d (leaf q (leaf p vs)) us) =
+    choice (is_end us) (choice (is_word prefix q) absent absent) refuses
 tagged_fit prefix (group d (leaf q (group e ts vs)) us) =
     choice (is_end us)
     (choice (is_word prefix q)

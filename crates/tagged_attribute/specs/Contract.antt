@@ -14,7 +14,7 @@ use Rattle.parse.specs.declared.utils.Step.{Step}
 use Rattle.parse.specs.declared.utils.Step.TheVariants as steps
 use Rattle.tagged_reading.specs.Role as role
 use Rattle.tagged_reading.specs.Role.{others}
-use Rattle.tagged_reading.specs.Entry.{Entry, tag, property}
+use Rattle.tagged_reading.specs.Entry.{Entry, property}
 use Rattle.tagged_reading.specs.Reading.{Answer, none, read, refused, adding, entries, FIRST_ENTRY, before, attribute}
 use Rattle.tagged_reading.specs.Reading.{tagged}
 use Rattle.tagged_reading.specs.Answer as answers
