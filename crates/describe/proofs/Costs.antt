@@ -13,7 +13,7 @@ use Rattle.token_list.specs.Row.{Row}
 use Rattle.token_list.specs.Stream.{Trees, end, leaf, group, size}
 use Rattle.token_list.proofs.Bounds.{texts}
 use Rattle.reading.specs.Role as role
-use Rattle.reading.specs.Declaration.{Kind, struct, enum, Parameter, lifetime, type, Visibility, UnnamedField, Field}
+use Rattle.reading.specs.Declaration.{Kind, struct, enum, Parameter, lifetime, Visibility, UnnamedField, Field}
 use Rattle.reading.specs.Declaration.{Fields, unit, named, tuple, Variant, Body}
 use Rattle.reading.specs.Declaration.{fields, variants, Declaration, parameters_of}
 use Rattle.reading.specs.Took.{Took, took, Cause, stopped, refuse, Reader, onward, after, ◌>>=◌, pure}

@@ -23,7 +23,7 @@ use Rattle.doubles.proofs.Keys.{name_equal, equal_name, integer_equal, equal_int
 use Rattle.describe.specs.Numbers.{name_again, number_again, Number, number, without, number_after, Numbers, numbers}
 use Rattle.describe.specs.Numbers.{lacking, preceding, and_then, numbers_from, BEFORE_FIRST, body_numbers, or_double}
 use Rattle.describe.specs.Numbers.{distinct, variant_names, body_names, numbers_of}
-use Rattle.describe.specs.Listing.{listing, numbered_answer, item_answer, full_answer, answer, Distinct}
+use Rattle.describe.specs.Listing.{numbered_answer, item_answer, full_answer, answer, Distinct}
 use Rattle.describe.proofs.Numbering.{numbers_same, numbers_not_lacking}
 
 -- every variant has a number, and nothing stands twice

@@ -4,7 +4,10 @@
 
 ghost use Rattle.std.specs.Prelude.{◌≡◌, length};
 
-use libc::{STDIN_FILENO, STDOUT_FILENO};
+// The descriptors of standard input and output.
+const STDIN: i32 = 0;
+
+const STDOUT: i32 = 1;
 
 // One byte more than a list may have: enough to see that it has too many.
 fn list_buffer() -> [u8; 65537]
@@ -29,9 +32,9 @@ fn output() -> [u8; 426048]
 
 fn main() {
     let mut list = list_buffer();
-    let n = io::read_full(STDIN_FILENO, &mut list);
+    let n = io::read_full(STDIN, &mut list);
     let mut roles = role_buffer();
     let mut out = output();
     let k = explanation::explain::report_explanation(&list[..n], &mut roles, &mut out);
-    io::write_all(STDOUT_FILENO, &out[..k]);
+    io::write_all(STDOUT, &out[..k]);
 }

@@ -85,7 +85,6 @@ pub fn put_meaning(out: &mut [u8], at: usize, number: u8) -> usize
           is written (176,145 bytes are enough without added names)\n\
           \n\
           \n\
-          #[derive(Clone, Copy)]
           struct or enum, the item's name or a variant's name is missing\n\
           # with a group that is not [\n\
           # followed by anything else\n\

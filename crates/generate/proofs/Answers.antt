@@ -13,7 +13,6 @@ use Rattle.token_list.specs.Row.{Row, Lines, tail, line, lines, byte}
 use Rattle.token_list.specs.Rows.{punct}
 use Rattle.token_list.specs.Check as list
 use Rattle.token_list.specs.Stream.{Trees}
-use Rattle.token_list.specs.Stream.{at}
 use Rattle.token_list.proofs.Texts.{chosen, passed_over}
 use Rattle.output.specs.Contract.{Printed}
 use Rattle.output.specs.Answer.{Answer, fitted, answer_text}
@@ -25,7 +24,8 @@ use Rattle.reading.specs.Declaration.{Parameter, Generics, without, Declaration}
 use Rattle.reading.specs.Took.{Took, took}
 use Rattle.writing.specs.Names.{line_names, names_of}
 use Rattle.writing.specs.Generics.{parted, angled_rows, sent_parameter, generics_rows, added_lifetime, added_type}
-use Rattle.writing.specs.Answer.{Writer, impl_generics_lem, type_generics_lem, with_additional_lem, text, item_answer, answer}
+use Rattle.writing.specs.Answer.{Writer, impl_generics_lem, type_generics_lem, with_additional_lem, text, item_answer}
+use Rattle.writing.specs.Answer.{answer}
 use Rattle.writing.specs.Answer.{full_answer, MOST, most_added, Fits}
 use Rattle.writing.proofs.Written.{still_first, parted_append}
 use Rattle.writing.proofs.Refusals.{write_refusal}
@@ -48,7 +48,8 @@ first_still (b ∷ bs) = go (eqb b LF) (lines bs) ∙ sym (ne_eqb (suc (length b
     go false (tail (x ∷ xs)) = refl
     go false (line l ls) = refl
 
-shaped-sent : (names : Bool) (ps : List Parameter) → map (goes_out names) ps ≡ map (shaped names) (map sent_parameter ps)
+shaped-sent : (names : Bool) (ps : List Parameter)
+    → map (goes_out names) ps ≡ map (shaped names) (map sent_parameter ps)
 shaped-sent names [] = refl
 shaped-sent names (p ∷ ps) = ap (λ (qs : List Parameter). goes_out names p ∷ qs) (shaped-sent names ps)
 
@@ -147,7 +148,8 @@ reported w {s = s} {x} f l m r h few p =
       refusal = write_refusal w s (length x);
     }
 
-pub reported_type : {n : ℕ} (s x : List ℕ) {y z : List ℕ} (r : Written) → Answered type_generics_lem s x z r → n ≤ at_most r
+pub reported_type : {n : ℕ} (s x : List ℕ) {y z : List ℕ} (r : Written) → Answered type_generics_lem s x z r
+    → n ≤ at_most r
     → Printed x y n (answer_text (answer type_generics_lem s (length x))) → Reported type_generics_lem MOST s x y n
 reported_type s x r h few p =
     reported type_generics_lem (type_fits s (length x)) (omega arith) (omega arith) r h.answered few p

@@ -20,7 +20,8 @@ module _ {k l : List ℕ} {b r : StreamBuilder} (ts : Trees) where
   unless_empty : {x : Bool} → x ≡ false → Appended k l b r (bounds ts) → Appended k l b r (constrained x ts)
   unless_empty e h = subst (λ (x : Bool). Appended k l b r (constrained x ts)) (sym e) h
 
-filled : {k l : List ℕ} {b r : StreamBuilder} (ts : Trees) → 0 < length (run_rows ts) → Appended k l b r (constraints ts)
+filled : {k l : List ℕ} {b r : StreamBuilder} (ts : Trees) → 0 < length (run_rows ts)
+    → Appended k l b r (constraints ts)
     → Appended k l b r (bounds ts)
 filled end n a = absurd (omega arith)
 filled (leaf q us) n a = a

@@ -6,8 +6,3 @@ pub mod Constrained
 pub mod Parameters
 pub mod Answers
 pub mod Arguments
-pub mod LentBuilder
-pub mod LentByte
-pub mod LentName
-pub mod LentToken
-pub mod LentPart

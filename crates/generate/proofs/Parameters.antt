@@ -2,14 +2,14 @@
 use mathlib.Core.Path.{◌≡◌, refl, ap, ◌∙◌, sym, subst}
 use mathlib.Core.Bool.{Bool, true, false, false≢true}
 use mathlib.Core.List.{List, [], ◌∷◌, ◌++◌, map}
-use Prim.Native.Nat.{ℕ, ◌+◌, ◌-◌, ◌<◌}
+use Prim.Native.Nat.{ℕ, ◌-◌, ◌<◌}
 use native.Mathlib.Omega.{arith}
 use lib.ListN.{length}
 use lib.Seq.{slice}
 use Rattle.token_list.specs.Row.{Row}
 use Rattle.token_list.specs.Rows.{ident, lifetime_rows}
 use Rattle.token_list.specs.Check.{check, passed}
-use Rattle.token_list.specs.Stream.{Trees, end, at}
+use Rattle.token_list.specs.Stream.{Trees, end}
 use Rattle.token_list.specs.Contract.{InList}
 use Rattle.token_list.specs.declared.check.Cursor.{Cursor}
 use Rattle.token_list.specs.declared.stream.Token.{Token}
@@ -181,7 +181,8 @@ module _ {f : Parameter → Parameter} {extra : List Parameter} {angle : ℕ} {s
       abbrev Told : Parameter → Type 0
       Told a =
           ParameterOf s p.kind p.name a × TokenIn s (parameter_name_at (point s c)).row p.name
-          × ParameterRunAt s (past_token_lem (parameter_name_at (point s c))) (bound_of_lem a) (default_of a) p.part p.run
+          × ParameterRunAt s (past_token_lem (parameter_name_at (point s c))) (bound_of_lem a)
+          (default_of a) p.part p.run
 
       told : (v : Maybe Parameter) → parameter_shown s (parameter_name_at (point s c)) (steps.One p) v
           → (a : Parameter) × (v ≡ one a) × Told a

@@ -1,5 +1,6 @@
 -- What ties a StreamBuilder's counts and the output to the rows that were added.
-use Rattle.std.specs.Prelude.{◌≡◌, List, [], ◌∷◌, ◌++◌, map, Bool, true, false, cond, ◌&&◌, ◌||◌, ℕ, ◌+◌, ◌-◌, ◌≤◌, ◌<◌, eqb, length, take, drop}
+use Rattle.std.specs.Prelude.{◌≡◌, List, [], ◌∷◌, ◌++◌, map, Bool, true, false, cond, ◌&&◌, ◌||◌, ℕ, ◌+◌, ◌-◌, ◌≤◌, ◌<◌}
+use Rattle.std.specs.Prelude.{eqb, length, take, drop}
 use Rattle.std.proofs.Math.Seq.{slice}
 use Rattle.token_list.specs.Byte.{QUOTE}
 use Rattle.token_list.specs.Layout.{PUNCT, NAMES_DIFFER, marked}

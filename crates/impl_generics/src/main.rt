@@ -5,7 +5,14 @@
 ghost use Rattle.std.specs.Prelude.{◌≡◌, ◌≤◌, length};
 
 use generate::names::{Gathered, add_argument};
-use libc::{STDERR_FILENO, STDIN_FILENO, STDOUT_FILENO};
+use std::env::{Env, FillError};
+
+// The descriptors of standard input, output and error.
+const STDIN: i32 = 0;
+
+const STDOUT: i32 = 1;
+
+const STDERR: i32 = 2;
 
 // One byte more than a list may have: enough to see that it has too many.
 fn list_buffer() -> [u8; 65537]
@@ -38,24 +45,33 @@ fn argument_buffer() -> [u8; 257]
     [0; 257]
 }
 
-// Adds argument i to the names.
-fn gather(i: usize, lifetimes: &mut [u8], types: &mut [u8], at: Gathered) -> Gathered {
+// Adds argument i to the names; None past the last.
+fn gather<R: Env>(
+    rt: &R,
+    i: usize,
+    lifetimes: &mut [u8],
+    types: &mut [u8],
+    at: Gathered,
+) -> Option<Gathered> {
     let mut argument = argument_buffer();
-    let n = os::arg(i, &mut argument);
-    add_argument(&argument[..n], lifetimes, types, at)
+    match rt.arg(i, &mut argument) {
+        Ok(n) => Some(add_argument(&argument[..n], lifetimes, types, at)),
+        Err(FillError::TooLong) => Some(add_argument(b"", lifetimes, types, at)),
+        Err(FillError::NotPresent) => None,
+    }
 }
 
 // All of them.
-fn gather_all(lifetimes: &mut [u8], types: &mut [u8]) -> Gathered {
+fn gather_all<R: Env>(rt: &R, lifetimes: &mut [u8], types: &mut [u8]) -> Gathered {
     let mut at = Gathered {
         lifetimes: 0,
         types: 0,
     };
-    let count = os::arg_count();
-    let mut i = 1;
-    while i < count {
-        at = gather(i, lifetimes, types, at);
-        i += 1;
+    for i in 1..usize::MAX {
+        match gather(rt, i, lifetimes, types, at) {
+            Some(next) => at = next,
+            None => break,
+        }
     }
     at
 }
@@ -64,28 +80,28 @@ fn report(lifetimes: &[u8], types: &[u8])
     requires { (length lifetimes.now ≤ 4096) × (length types.now ≤ 4096) }
 {
     let mut list = list_buffer();
-    let n = io::read_full(STDIN_FILENO, &mut list);
+    let n = io::read_full(STDIN, &mut list);
     let mut out = output();
     let k = generate::generics::report_impl_generics(&list[..n], lifetimes, types, &mut out);
-    io::write_all(STDOUT_FILENO, &out[..k]);
+    io::write_all(STDOUT, &out[..k]);
 }
 
-fn main() {
+fn main(rt: HostRuntime) {
     let mut lifetimes = name_buffer();
     let mut types = name_buffer();
-    let at = gather_all(&mut lifetimes, &mut types);
+    let at = gather_all(&rt, &mut lifetimes, &mut types);
     let l = at.lifetimes;
     let t = at.types;
     if NAMES < l {
         io::write_all(
-            STDERR_FILENO,
+            STDERR,
             b"impl_generics: more than 4096 bytes of added lifetimes\n",
         );
         return;
     }
     if NAMES < t {
         io::write_all(
-            STDERR_FILENO,
+            STDERR,
             b"impl_generics: more than 4096 bytes of added types\n",
         );
         return;

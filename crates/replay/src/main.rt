@@ -16,8 +16,10 @@ use crate::answers::is_right;
 use crate::header::{Header, Section, Topic, put_topic, read_header};
 use crate::state::{Counts, State, count, counted, moved, passed, start};
 use crate::window::{Window, advanced, ready};
-use libc::STDOUT_FILENO;
 use output::put::{put_byte, put_bytes, put_number};
+
+// The descriptor of standard output.
+const STDOUT: i32 = 1;
 
 // What follows a turn: the next one, the end of the input, or a stop at what is no section.
 #[derive(Clone, Copy)]
@@ -68,7 +70,7 @@ fn name_difference(case: usize, topic: Topic) {
     let middle = put_bytes(&mut out, number, b" section ");
     let name = put_topic(&mut out, middle, topic);
     let end = put_byte(&mut out, name, b'\n');
-    io::write_all(STDOUT_FILENO, &out[..end]);
+    io::write_all(STDOUT, &out[..end]);
 }
 
 // Names a case whose answer is not right, for the first ten differences.
@@ -182,7 +184,7 @@ fn print_count(name: &[u8], count: usize)
     let word = put_bytes(&mut out, 0, name);
     let number = put_number(&mut out, word, count);
     let end = put_byte(&mut out, number, b'\n');
-    io::write_all(STDOUT_FILENO, &out[..end]);
+    io::write_all(STDOUT, &out[..end]);
 }
 
 fn print_counts(counts: Counts) {
@@ -209,7 +211,7 @@ fn replay(buf: &mut [u8], list: &mut [u8]) {
                 return;
             }
             Turn::Malformed => {
-                io::write_all(STDOUT_FILENO, b"malformed\n");
+                io::write_all(STDOUT, b"malformed\n");
                 return;
             }
         }

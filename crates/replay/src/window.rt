@@ -3,7 +3,8 @@ ghost use Rattle.std.specs.Prelude.{◌≡◌, ◌++◌, ◌+◌, ◌-◌, ◌�
 ghost use Rattle.std.proofs.Math.Seq.{slice};
 ghost use Rattle.replay.specs.Window.{Within, advanced, Ready};
 
-use libc::STDIN_FILENO;
+// The descriptor of standard input.
+const STDIN: i32 = 0;
 
 // Where they start and end.
 #[derive(Clone, Copy)]
@@ -49,7 +50,7 @@ pub fn ready(buf: &mut [u8], at: Window, need: usize) -> Window
         return at;
     }
     let n = slide(buf, from, to);
-    let more = io::read_full(STDIN_FILENO, &mut buf[n..]);
+    let more = io::read_full(STDIN, &mut buf[n..]);
     Window {
         from: 0,
         to: n + more,

@@ -3,7 +3,10 @@
 
 ghost use Rattle.std.specs.Prelude.{◌≡◌, length};
 
-use libc::{STDIN_FILENO, STDOUT_FILENO};
+// The descriptors of standard input and output.
+const STDIN: i32 = 0;
+
+const STDOUT: i32 = 1;
 
 // One byte more than a list may have: enough to see that it has too many.
 fn buffer() -> [u8; 65537]
@@ -14,8 +17,8 @@ fn buffer() -> [u8; 65537]
 
 fn main() {
     let mut list = buffer();
-    let n = io::read_full(STDIN_FILENO, &mut list);
+    let n = io::read_full(STDIN, &mut list);
     let mut out = [0u8; 64];
     let k = report::check::report_check(&list[..n], &mut out);
-    io::write_all(STDOUT_FILENO, &out[..k]);
+    io::write_all(STDOUT, &out[..k]);
 }

@@ -10,7 +10,7 @@ use lib.ListN.{length, get_or, drop, drop_of_length-le}
 use Rattle.token_list.specs.Text.{LF, closer}
 use Rattle.token_list.specs.Layout.{marked, first_row, MAX_DEPTH}
 use Rattle.token_list.specs.Row.{Lines, tail, line, lines, byte, Form, form, closed, wrong, plain}
-use Rattle.token_list.specs.Check.{refused, END, named, Open, close, step, walk, check}
+use Rattle.token_list.specs.Check.{refused, END, named, Open, step, walk, check}
 use Rattle.token_list.specs.Contract.{formed, shape, RowShaped, resumed, closed_in, Walked}
 use Rattle.token_list.specs.declared.check.Cursor.{Cursor}
 use Rattle.token_list.specs.declared.check.Refusal.{Refusal}

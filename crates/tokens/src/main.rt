@@ -3,7 +3,12 @@
 
 ghost use Rattle.std.specs.Prelude.{◌≡◌, length};
 
-use libc::{STDERR_FILENO, STDIN_FILENO, STDOUT_FILENO};
+// The descriptors of standard input, output and error.
+const STDIN: i32 = 0;
+
+const STDOUT: i32 = 1;
+
+const STDERR: i32 = 2;
 
 // The longest text that is read, and one byte more: enough to see that a text is longer.
 const MOST: usize = 1048576;
@@ -21,15 +26,15 @@ fn output() -> [u8; 65536]
 
 fn main() {
     let mut text = text_buffer();
-    let n = io::read_full(STDIN_FILENO, &mut text);
+    let n = io::read_full(STDIN, &mut text);
     if MOST < n {
         io::write_all(
-            STDERR_FILENO,
+            STDERR,
             b"tokens: a source text of more than 1048576 bytes is not read\n",
         );
         return;
     }
     let mut out = output();
     let k = source::report::report_tokens(&text[..n], &mut out);
-    io::write_all(STDOUT_FILENO, &out[..k]);
+    io::write_all(STDOUT, &out[..k]);
 }

@@ -1,19 +1,7 @@
 use Rattle.token_list.proofs.Walks as walks
-use borrow.Author.Rules.{rules}
 use native.Mathlib.Omega.{arith}
 use mathlib.Core.Path.{refl, sym, ◌∙◌}
 use Rattle.token_list.proofs.Walks.{Reached}
-use Prim.Native.Nat.{◌-◌}
-use lib.ListN.{length}
-use Prim.Native.Nat.{ℕ, ◌<◌}
-use borrow.Fn.Kinds.{In}
-use borrow.Fn.PlainCycle.{Measures, is, falls, and}
-use Rattle.token_list.proofs.check.walk.Reads as walk
-use Rattle.token_list.proofs.check.walk.Kinds as walk-kinds
-use Rattle.token_list.proofs.check.+walk.Lts-walk as walk-lts
-use Rattle.token_list.proofs.row.closer.Reads as closer-reads
-use Rattle.token_list.proofs.row.line_shape.Reads as line-shape-reads
-use Rattle.token_list.proofs.check.+walk.{statement}
 use Rattle.token_list.proofs.check.+walk.Goals as goal
 
 -- src/check.rt:48:5
@@ -106,13 +94,13 @@ returns-then-closer-e t c = walks.mismatched c.args.marked c.args.s.now c.args.l
 -- src/check.rt:84:31
 pub overflow_add-row : goal.overflow_add-row
 overflow_add-row t c = omega (
-      arith,
-      walks.closed-past c.args.marked c.args.s.now c.args.levels c.args.from c.loop-at.at c.loop-at.row c.loop-at.invariant c.line_shape-line.result
-          c.line_shape-line.ensures c.loop-at-test.true
-          c.if-row-ge-MAX_ROWS.false c.in-Opens.d c.in-Opens.is
-          c.if-levels-eq0.false c.walk-inside.result c.walk-inside.ensures c.in-Close.e c.in-Close.close
-          c.in-Close.past c.in-Close.is,
-    )
+  arith,
+  walks.closed-past c.args.marked c.args.s.now c.args.levels c.args.from c.loop-at.at c.loop-at.row c.loop-at.invariant c.line_shape-line.result
+      c.line_shape-line.ensures c.loop-at-test.true
+      c.if-row-ge-MAX_ROWS.false c.in-Opens.d c.in-Opens.is
+      c.if-levels-eq0.false c.walk-inside.result c.walk-inside.ensures c.in-Close.e c.in-Close.close
+      c.in-Close.past c.in-Close.is,
+)
 
 -- src/check.rt:48:5
 pub loop-at-smaller : goal.loop-at-smaller

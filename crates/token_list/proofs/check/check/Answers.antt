@@ -15,7 +15,6 @@ use Rattle.token_list.specs.declared.check.LevelEnd.{LevelEnd}
 use Rattle.token_list.proofs.Columns.{names-within}
 use Rattle.token_list.proofs.Walks as walks
 use Rattle.token_list.proofs.Bounds.{checked_as}
-use borrow.Author.Rules.{rules}
 -- the answer of the walk over all rows
 use Rattle.token_list.proofs.check.check.Goals as goal
 

@@ -1,7 +1,6 @@
 use mathlib.Core.Path.{sym, ◌∙◌}
 use mathlib.Core.Bool.{true, false}
 use Rattle.token_list.proofs.Columns.{first-row_by}
-use borrow.Author.Rules.{rules}
 use Rattle.token_list.proofs.layout.first_row.Goals as goal
 
 pub returns-then-is_marked : goal.returns-then-is_marked

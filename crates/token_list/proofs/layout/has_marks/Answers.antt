@@ -1,5 +1,4 @@
 use Rattle.token_list.proofs.Columns.{marked-byte}
-use borrow.Author.Rules.{rules}
 use Rattle.token_list.proofs.layout.has_marks.Goals as goal
 
 pub returns : goal.returns

@@ -4,7 +4,6 @@ use Prim.Native.Nat.{ℕ}
 use lib.ListN.{take}
 use Rattle.token_list.specs.Layout.{names, first_row}
 use Rattle.token_list.specs.Text.{same}
-use borrow.Author.Rules.{rules}
 use Rattle.token_list.proofs.layout.has_names.Goals as goal
 
 pub returns-then-is_marked : goal.returns-then-is_marked

@@ -1,7 +1,6 @@
 use mathlib.Core.Path.{sym}
 use native.Mathlib.Omega.{arith}
 use Rattle.token_list.proofs.Columns.{marked-short}
-use borrow.Author.Rules.{rules}
 use Rattle.token_list.proofs.layout.is_marked.Goals as goal
 
 pub returns-then-s-le-NAMES_DIFFER : goal.returns-then-s-le-NAMES_DIFFER

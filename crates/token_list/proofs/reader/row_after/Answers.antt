@@ -1,5 +1,4 @@
 use borrow.Author.Rules.{rules}
-use native.Mathlib.Omega.{arith}
 use Rattle.token_list.proofs.Readers.{stays, on_last, on_line}
 use Rattle.token_list.proofs.reader.row_after.Goals as goal
 

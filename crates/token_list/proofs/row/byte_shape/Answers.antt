@@ -2,7 +2,6 @@ use mathlib.Core.Path.{sym, ◌∙◌, ap}
 use mathlib.Core.Bool.{Bool, cond}
 use Rattle.token_list.specs.Row.{plain, wrong}
 use Rattle.token_list.proofs.Forms.{ident-form, literal-form, single-form, name-byte, literal-byte}
-use borrow.Author.Rules.{rules}
 use Rattle.token_list.proofs.row.byte_shape.Goals as goal
 
 pub returns-then-is_name_start : goal.returns-then-is_name_start

@@ -6,7 +6,6 @@ use Rattle.token_list.specs.Check.{is_row}
 use Rattle.token_list.specs.Contract.{shape}
 use Rattle.token_list.specs.declared.row.Shape.{Shape}
 use Rattle.token_list.proofs.Forms.{no_wrong, one_byte_parts, quick_byte, behind_space}
-use borrow.Author.Rules.{rules}
 use Rattle.token_list.proofs.row.column_line.Goals as goal
 
 same_row : {x y : Shape} → x ≡ y → is_row (shape x) ≡ is_row (shape y)

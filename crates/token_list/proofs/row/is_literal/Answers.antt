@@ -4,7 +4,6 @@ use Rattle.token_list.specs.Text.{literal}
 use borrow.Author.Tests.{not-true, not-false}
 use mathlib.Core.Path.{sym, ◌∙◌, ap}
 use native.Mathlib.Omega.{arith}
-use borrow.Author.Rules.{rules}
 use Rattle.token_list.proofs.row.is_literal.Goals as goal
 
 pub returns-then-end-start : goal.returns-then-end-start

@@ -1,6 +1,5 @@
 use Rattle.token_list.proofs.Texts.{or_last, or_holds}
 use mathlib.Core.Path.{sym, ◌∙◌}
-use borrow.Author.Rules.{rules}
 use Rattle.token_list.proofs.row.is_name.Goals as goal
 
 pub returns-then-is_plain_name : goal.returns-then-is_plain_name

@@ -1,6 +1,5 @@
 use mathlib.Core.Path.{sym, ◌∙◌}
 use Rattle.token_list.proofs.Texts.{or_last, or_holds}
-use borrow.Author.Rules.{rules}
 use Rattle.token_list.proofs.row.is_never_raw.Goals as goal
 
 pub returns-then-text_is : goal.returns-then-text_is

@@ -4,7 +4,6 @@ use Rattle.token_list.proofs.Texts.{slice-none, slice_next, and_last, and_fails}
 use Rattle.token_list.specs.Text.{plain_name}
 use mathlib.Core.Path.{sym, ◌∙◌, ap}
 use native.Mathlib.Omega.{arith}
-use borrow.Author.Rules.{rules}
 use Rattle.token_list.proofs.row.is_plain_name.Goals as goal
 
 pub returns-then-end-start : goal.returns-then-end-start

@@ -3,7 +3,6 @@ use borrow.Author.Tests.{eq-eqb, ne_eqb, not-true, not-false}
 use native.Mathlib.Omega.{arith}
 use mathlib.Core.Bool.{not}
 use mathlib.Core.Path.{sym, ◌∙◌, ap}
-use borrow.Author.Rules.{rules}
 use Rattle.token_list.proofs.row.is_raw_name.Goals as goal
 
 pub returns-then-end-start : goal.returns-then-end-start

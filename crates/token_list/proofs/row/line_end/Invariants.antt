@@ -1,7 +1,6 @@
-use Rattle.token_list.proofs.Lines.{Scanned, scan_start, scan_more, scan_found, scan_none}
+use Rattle.token_list.proofs.Lines.{Scanned}
 use lib.ListN.{length}
 use Prim.Native.Nat.{◌-◌}
-use native.Mathlib.Omega.{arith}
 use Rattle.token_list.proofs.row.line_end.Given as goal
 
 abbrev pub invariant-loop-i : goal.invariant-loop-i

@@ -1,6 +1,4 @@
-use mathlib.Core.Path.{refl, sym, ap, ◌∙◌, subst}
-use mathlib.Core.Bool.{not}
-use borrow.Author.Tests.{not-true, not-false}
+use mathlib.Core.Path.{refl, sym, ◌∙◌, subst}
 use Rattle.token_list.proofs.Columns.{LastColumn, plain_column, marked-column, no_mark, row-column}
 use Rattle.token_list.proofs.row.line_shape.Goals as goal
 use Rattle.token_list.proofs.row.line_shape.Goals.{then-marked+else-not-mark_stands, else-marked}
@@ -15,11 +13,11 @@ pub returns : goal.returns
 returns c =
     let a = c.args in
     let column : LastColumn a.marked a.s.now a.at c.if-marked.column = elim c.if-marked.branch [
-        then-marked+else-not-mark_stands w ↦
-            subst (LastColumn a.marked a.s.now a.at) (sym w.column-is)
-            (marked-column a.marked a.s.now a.at w.if-marked.true (sym w.mark_stands.ensures ∙ w.if-not-mark_stands.false))
+      | then-marked+else-not-mark_stands w ↦
+          subst (LastColumn a.marked a.s.now a.at) (sym w.column-is)
+          (marked-column a.marked a.s.now a.at w.if-marked.true (sym w.mark_stands.ensures ∙ w.if-not-mark_stands.false))
       | else-marked w ↦
-            subst (LastColumn a.marked a.s.now a.at) (sym w.column-is)
-            (plain_column a.marked a.s.now a.at w.if-marked.false c.requires)
+          subst (LastColumn a.marked a.s.now a.at) (sym w.column-is)
+          (plain_column a.marked a.s.now a.at w.if-marked.false c.requires)
     ] in
     row-column a.marked a.s.now a.at _ _ column c.column_line.ensures

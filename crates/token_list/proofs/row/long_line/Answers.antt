@@ -5,7 +5,6 @@ use lib.Seq.{slice, length-slice}
 use Rattle.token_list.specs.Row.{text_form}
 use Rattle.token_list.specs.Contract.{formed}
 use Rattle.token_list.proofs.Forms.{no_row, quick_row, not_one_byte, text_long, behind_space, no_space}
-use borrow.Author.Rules.{rules}
 use Rattle.token_list.proofs.row.long_line.Goals as goal
 
 pub returns-then-s-start : goal.returns-then-s-start

@@ -4,7 +4,6 @@ use native.Mathlib.Omega.{arith}
 use lib.ListN.{length}
 use borrow.Author.Tests.{le-ltb, lt-ltb, eq-eqb, ne_eqb}
 use Rattle.token_list.proofs.Texts.{and_last, and_fails}
-use borrow.Author.Rules.{rules}
 use Rattle.token_list.proofs.row.mark_stands.Goals as goal
 
 pub returns-then-s-at-lt-MARKED_TEXT : goal.returns-then-s-at-lt-MARKED_TEXT

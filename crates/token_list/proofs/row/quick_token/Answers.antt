@@ -5,7 +5,6 @@ use native.Mathlib.Omega.{arith}
 use lib.ListN.{get_or}
 use Rattle.token_list.proofs.Texts.{or_holds}
 use Rattle.token_list.proofs.Forms.{quick_token, behind_space, name_fits, literal_fits, literal-shown}
-use borrow.Author.Rules.{rules}
 use Rattle.token_list.proofs.row.quick_token.Goals as goal
 
 pub returns-then-s-past : goal.returns-then-s-past

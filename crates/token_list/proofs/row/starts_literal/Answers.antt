@@ -1,6 +1,5 @@
 use Rattle.token_list.proofs.Texts.{or_last, or_holds}
 use mathlib.Core.Path.{sym, ◌∙◌}
-use borrow.Author.Rules.{rules}
 use Rattle.token_list.proofs.row.starts_literal.Goals as goal
 
 pub returns-then-is_digit : goal.returns-then-is_digit

@@ -1,7 +1,6 @@
 use Rattle.token_list.proofs.Forms.{ident-form, literal-form, single-wrong}
 use Rattle.token_list.proofs.Texts.{chosen, passed_over, not_one}
 use mathlib.Core.Path.{sym, ◌∙◌}
-use borrow.Author.Rules.{rules}
 use Rattle.token_list.proofs.row.text_shape.Goals as goal
 
 pub returns-then-is_name : goal.returns-then-is_name

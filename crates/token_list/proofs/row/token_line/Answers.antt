@@ -4,7 +4,6 @@ use mathlib.Core.List.{List}
 use Prim.Native.Nat.{ℕ}
 use Rattle.token_list.specs.Contract.{TokenLine}
 use Rattle.token_list.specs.declared.row.Shape.TheVariants.{Wrong}
-use borrow.Author.Rules.{rules}
 use Rattle.token_list.proofs.row.token_line.Goals as goal
 
 untold : {s : List ℕ} {names : Bool} {start next : ℕ} → TokenLine s names start (record { shape = Wrong; next = next })

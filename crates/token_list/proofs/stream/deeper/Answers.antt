@@ -1,7 +1,6 @@
 use Rattle.token_list.proofs.Texts.{chosen, passed_over}
 use borrow.Author.Tests.{eq-eqb, ne_eqb}
 use mathlib.Core.Path.{sym, ◌∙◌}
-use borrow.Author.Rules.{rules}
 use Rattle.token_list.proofs.stream.deeper.Goals as goal
 
 pub returns-then-kind-eq111 : goal.returns-then-kind-eq111

@@ -9,7 +9,6 @@ use Rattle.token_list.proofs.Columns.{offset_low}
 use Rattle.token_list.proofs.Starts.{list_long}
 use Rattle.token_list.proofs.Rows.{first-row, text-within}
 use Rattle.token_list.proofs.Streams.{punct-none, punct_look, punct_by, no_marks}
-use borrow.Author.Rules.{rules}
 use Rattle.token_list.proofs.stream.has_punct.Goals as goal
 
 pub returns-then-s-at : goal.returns-then-s-at

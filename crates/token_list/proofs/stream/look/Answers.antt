@@ -7,7 +7,6 @@ use Rattle.token_list.specs.Layout.{text_offset}
 use Rattle.token_list.specs.Contract.{Looked}
 use Rattle.token_list.proofs.Rows.{first-row, text-within}
 use Rattle.token_list.proofs.Streams as laws
-use borrow.Author.Rules.{rules}
 use Rattle.token_list.proofs.stream.look.Goals as goal
 
 pub returns-then-s-at : goal.returns-then-s-at

@@ -5,7 +5,6 @@ use borrow.Author.Tests.{eq-eqb, ne_eqb}
 use Rattle.token_list.specs.Row.{mark_of}
 use Rattle.token_list.proofs.Texts.{and_fails, and_last}
 use Rattle.token_list.proofs.Columns.{mark_column, own_mark}
-use borrow.Author.Rules.{rules}
 use Rattle.token_list.proofs.stream.mark.Goals as goal
 
 pub returns-then-marked : goal.returns-then-marked

@@ -2,7 +2,6 @@ use native.Mathlib.Omega.{arith}
 use Rattle.token_list.proofs.Starts.{list_long}
 use Rattle.token_list.proofs.Streams as laws
 use mathlib.Core.Path.{sym, ◌∙◌}
-use borrow.Author.Rules.{rules}
 use Rattle.token_list.proofs.stream.peek.Goals as goal
 
 pub returns-then-s-at : goal.returns-then-s-at

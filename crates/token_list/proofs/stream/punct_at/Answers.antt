@@ -1,8 +1,8 @@
 use mathlib.Core.Path.{◌≡◌, refl, ap, ◌∙◌}
 use mathlib.Core.Bool.{Bool}
-use Prim.Native.Nat.{◌+◌, ◌≤◌}
+use Prim.Native.Nat.{◌+◌}
 use native.Mathlib.Omega.{arith}
-use lib.ListN.{length, drop}
+use lib.ListN.{drop}
 use Rattle.token_list.specs.Layout.{marked, text_offset}
 use Rattle.token_list.specs.Row.{mark_of}
 use Rattle.token_list.proofs.Columns.{offset_low}
@@ -44,10 +44,10 @@ overflow_sub-end c =
     let s = c.args.s.now in
     let p = c.requires in
     elim c.if-s-plain.branch [
-        then-s-plain w ↦
-            let o = marked_offset s c.args.c p.in_list c.args.b p.b_value p.at_value w.if-s-plain.true in omega arith
+      | then-s-plain w ↦
+          let o = marked_offset s c.args.c p.in_list c.args.b p.b_value p.at_value w.if-s-plain.true in omega arith
       | else-s-plain w ↦
-            let o = plain_offset s c.args.c p.in_list c.args.b p.b_value p.at_value w.if-s-plain.false in omega arith
+          let o = plain_offset s c.args.c p.in_list c.args.b p.b_value p.at_value w.if-s-plain.false in omega arith
     ]
 
 pub overflow_sub-start : goal.overflow_sub-start
@@ -55,10 +55,10 @@ overflow_sub-start c =
     let s = c.args.s.now in
     let p = c.requires in
     elim c.if-s-plain.branch [
-        then-s-plain w ↦
-            let o = marked_offset s c.args.c p.in_list c.args.b p.b_value p.at_value w.if-s-plain.true in omega arith
+      | then-s-plain w ↦
+          let o = marked_offset s c.args.c p.in_list c.args.b p.b_value p.at_value w.if-s-plain.true in omega arith
       | else-s-plain w ↦
-            let o = plain_offset s c.args.c p.in_list c.args.b p.b_value p.at_value w.if-s-plain.false in omega arith
+          let o = plain_offset s c.args.c p.in_list c.args.b p.b_value p.at_value w.if-s-plain.false in omega arith
     ]
 
 pub has_marks-requires : goal.has_marks-requires
@@ -77,10 +77,10 @@ returns c =
     let a = c.args in
     let p = c.requires in
     let next : c.if-s-plain.next ≡ a.c.at + text_offset (marked s) + 2 = elim c.if-s-plain.branch [
-        then-s-plain w ↦
-            let o = marked_offset s a.c p.in_list a.b p.b_value p.at_value w.if-s-plain.true in omega arith
+      | then-s-plain w ↦
+          let o = marked_offset s a.c p.in_list a.b p.b_value p.at_value w.if-s-plain.true in omega arith
       | else-s-plain w ↦
-            let o = plain_offset s a.c p.in_list a.b p.b_value p.at_value w.if-s-plain.false in omega arith
+          let o = plain_offset s a.c p.in_list a.b p.b_value p.at_value w.if-s-plain.false in omega arith
     ] in
     let joint = c.mark-joint.ensures ∙ ap (λ (m : Bool). mark_of m (drop a.c.at s)) c.has_marks.ensures in
     punct_here s a.c p.in_list a.b p.b_value p.at_value _ joint refl refl (omega (arith, next)) (omega (arith, next))

@@ -1,10 +1,6 @@
-use native.Mathlib.Omega.{arith}
-use Prim.Native.Nat.{◌+◌, ◌-◌}
-use mathlib.Core.Path.{◌≡◌, subst}
+use Prim.Native.Nat.{◌-◌}
 use lib.ListN.{length}
-use Rattle.token_list.specs.Layout.{marked}
-use Rattle.token_list.proofs.Columns.{offset_low}
-use Rattle.token_list.proofs.Rows.{Ahead, ahead_start, ahead_more, ahead_found}
+use Rattle.token_list.proofs.Rows.{Ahead}
 use Rattle.token_list.proofs.stream.row_end.Given as goal
 
 abbrev pub invariant-loop-i : goal.invariant-loop-i

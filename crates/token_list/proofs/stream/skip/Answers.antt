@@ -1,8 +1,7 @@
 use Rattle.token_list.proofs.Starts.{start_low}
 use Rattle.token_list.proofs.Streams.{Inside, inside-start, inside-none, inside-step, inside_done}
 use native.Mathlib.Omega.{arith}
-use lib.ListN.{length}
-use Prim.Native.Nat.{ℕ, ◌+◌, ◌-◌}
+use Prim.Native.Nat.{ℕ, ◌+◌}
 use mathlib.Core.Path.{sym, subst}
 use Rattle.token_list.proofs.stream.skip.Goals as goal
 

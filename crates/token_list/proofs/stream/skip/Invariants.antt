@@ -1,9 +1,6 @@
-use Rattle.token_list.proofs.Starts.{start_low}
-use Rattle.token_list.proofs.Streams.{Inside, inside-start, inside-none, inside-step, inside_done}
-use native.Mathlib.Omega.{arith}
+use Rattle.token_list.proofs.Streams.{Inside}
 use lib.ListN.{length}
-use Prim.Native.Nat.{ℕ, ◌+◌, ◌-◌}
-use mathlib.Core.Path.{sym, subst}
+use Prim.Native.Nat.{◌-◌}
 use Rattle.token_list.proofs.stream.skip.Given as goal
 
 abbrev pub invariant-loop-depth : goal.invariant-loop-depth

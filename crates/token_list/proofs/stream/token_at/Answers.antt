@@ -5,7 +5,6 @@ use lib.ListN.{drop}
 use Rattle.token_list.specs.Layout.{text_offset}
 use Rattle.token_list.specs.Row.{mark_of}
 use Rattle.token_list.proofs.Streams.{token_of}
-use borrow.Author.Rules.{rules}
 use Rattle.token_list.proofs.stream.token_at.Goals as goal
 
 pub has_marks-marked-requires : goal.has_marks-marked-requires

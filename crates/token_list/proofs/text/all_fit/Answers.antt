@@ -1,13 +1,9 @@
 use mathlib.Core.Path.{ap}
 use mathlib.Core.Bool.{not}
 -- `all_fit` meets its contract: the test of the part is the test of what is left of it, while each byte passed.
-use mathlib.Core.Path.{◌≡◌, refl, sym, ◌∙◌}
-use Prim.Native.Nat.{◌-◌}
+use mathlib.Core.Path.{refl, sym, ◌∙◌}
 use native.Mathlib.Omega.{arith}
-use borrow.Author.Rules.{rules}
 use borrow.Author.Tests.{not-true, not-false}
-use lib.Seq.{slice}
-use Rattle.token_list.specs.Text.{all}
 use Rattle.token_list.specs.Contract.{in_text}
 use Rattle.token_list.proofs.Texts.{all_next, all_fails, all_none}
 use Rattle.token_list.proofs.text.all_fit.Goals as goal

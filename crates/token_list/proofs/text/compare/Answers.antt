@@ -1,8 +1,8 @@
 -- `compare` meets its contract: the pairs looked at, from the last on, are equal.
-use mathlib.Core.Path.{◌≡◌, sym, ◌∙◌}
-use Prim.Native.Nat.{◌-◌, ◌≤◌}
+use mathlib.Core.Path.{sym, ◌∙◌}
+use Prim.Native.Nat.{◌-◌}
 use native.Mathlib.Omega.{arith}
-use lib.ListN.{length, drop, drop_of_length-le}
+use lib.ListN.{length, drop_of_length-le}
 use Rattle.token_list.proofs.Pairs.{compared_lengths, compared_equal, equal_from, compared_unequal}
 use Rattle.token_list.proofs.text.compare.Goals as goal
 

@@ -2,7 +2,6 @@ use native.Mathlib.Omega.{arith}
 use mathlib.Core.Path.{sym}
 use Rattle.token_list.proofs.Digits.{before-digits, digit-worth, before_upper, upper_worth, before-lower}
 use Rattle.token_list.proofs.Digits.{lower-worth, after_lower}
-use borrow.Author.Rules.{rules}
 use Rattle.token_list.proofs.text.digit_worth.Goals as goal
 
 pub returns-then-b-lt48 : goal.returns-then-b-lt48

@@ -2,7 +2,6 @@ use mathlib.Core.Path.{sym, ◌∙◌, ap}
 use mathlib.Core.Bool.{Bool}
 use Rattle.token_list.specs.Contract.{in_text}
 use Rattle.token_list.proofs.Texts.{or_last, or_holds}
-use borrow.Author.Rules.{rules}
 use Rattle.token_list.proofs.text.in_text.Goals as goal
 
 pub returns-then-is_name_start : goal.returns-then-is_name_start

@@ -1,6 +1,5 @@
 use mathlib.Core.Path.{sym, ◌∙◌}
 use Rattle.token_list.proofs.Texts.{or_last, or_holds}
-use borrow.Author.Rules.{rules}
 use Rattle.token_list.proofs.text.is_name_start.Goals as goal
 
 pub returns-then-between : goal.returns-then-between

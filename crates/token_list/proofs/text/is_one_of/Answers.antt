@@ -1,8 +1,5 @@
 use Rattle.token_list.proofs.Texts.{member_found, member_next, member-none}
-use Rattle.token_list.specs.Text.{member}
-use lib.ListN.{length, drop}
-use Prim.Native.Nat.{◌-◌}
-use mathlib.Core.Path.{◌≡◌, refl, sym, ◌∙◌}
+use mathlib.Core.Path.{refl, sym, ◌∙◌}
 use native.Mathlib.Omega.{arith}
 use Rattle.token_list.proofs.text.is_one_of.Goals as goal
 

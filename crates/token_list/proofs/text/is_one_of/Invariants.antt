@@ -1,9 +1,7 @@
-use Rattle.token_list.proofs.Texts.{member_found, member_next, member-none}
 use Rattle.token_list.specs.Text.{member}
 use lib.ListN.{length, drop}
 use Prim.Native.Nat.{◌-◌}
-use mathlib.Core.Path.{◌≡◌, refl, sym, ◌∙◌}
-use native.Mathlib.Omega.{arith}
+use mathlib.Core.Path.{◌≡◌}
 use Rattle.token_list.proofs.text.is_one_of.Given as goal
 
 abbrev pub invariant-loop-i : goal.invariant-loop-i

@@ -1,16 +1,10 @@
 use mathlib.Core.Path.{ap}
 use mathlib.Core.Bool.{not}
 use Rattle.token_list.proofs.Texts.{all_none, all_more}
-use Rattle.token_list.proofs.Lines.{Scanned, scan_start, scan_more, scan_found, in_text_no_lf}
-use Rattle.token_list.specs.Text.{all}
+use Rattle.token_list.proofs.Lines.{scan_start, scan_more, scan_found, in_text_no_lf}
 use Rattle.token_list.specs.Contract.{in_text}
-use lib.Seq.{slice}
-use lib.ListN.{length}
-use Prim.Native.Nat.{◌-◌}
-use mathlib.Core.Path.{◌≡◌, sym, ◌∙◌}
-use mathlib.Core.Bool.{true}
+use mathlib.Core.Path.{sym, ◌∙◌}
 use native.Mathlib.Omega.{arith}
-use borrow.Author.Rules.{rules}
 use borrow.Author.Tests.{not-true, not-false}
 use Rattle.token_list.proofs.text.text_end.Goals as goal
 
@@ -19,24 +13,24 @@ loop-i-init c = (scan_start c.args.s.now c.args.from, all_none (in_text c.args.n
 
 pub returns-then-not-in_text : goal.returns-then-not-in_text
 returns-then-not-in_text c = record {
-      start = c.loop-i.invariant.0.start;
-      fits = c.loop-i.invariant.1;
-      stops = λ h. sym c.in_text.ensures ∙ not-true _ (ap not c.if-not-in_text.true);
-      line = λ h q. scan_found c.args.s.now c.args.from c.loop-i.i h q c.loop-i.invariant.0;
-    }
+  start = c.loop-i.invariant.0.start;
+  fits = c.loop-i.invariant.1;
+  stops = λ h. sym c.in_text.ensures ∙ not-true _ (ap not c.if-not-in_text.true);
+  line = λ h q. scan_found c.args.s.now c.args.from c.loop-i.i h q c.loop-i.invariant.0;
+}
 
 pub loop-i-preserved : goal.loop-i-preserved
 loop-i-preserved c = let fits = sym c.in_text.ensures ∙ not-false _ (ap not c.if-not-in_text.false) in (
-      scan_more c.args.s.now c.args.from c.loop-i.i (omega arith) (in_text_no_lf c.args.names _ fits) c.loop-i.invariant.0,
-      all_more (in_text c.args.names) c.args.s.now c.args.from c.loop-i.i c.loop-i.invariant.0.start (omega arith)
-          c.loop-i.invariant.1 fits,
-    )
+  scan_more c.args.s.now c.args.from c.loop-i.i (omega arith) (in_text_no_lf c.args.names _ fits) c.loop-i.invariant.0,
+  all_more (in_text c.args.names) c.args.s.now c.args.from c.loop-i.i c.loop-i.invariant.0.start (omega arith)
+      c.loop-i.invariant.1 fits,
+)
 
 pub returns : goal.returns
 returns c = record {
-      start = c.loop-i.invariant.0.start;
-      fits =
-          c.loop-i.invariant.1;
-      stops = λ h. absurd (omega arith);
-      line = λ h. absurd (omega arith);
-    }
+  start = c.loop-i.invariant.0.start;
+  fits =
+      c.loop-i.invariant.1;
+  stops = λ h. absurd (omega arith);
+  line = λ h. absurd (omega arith);
+}

@@ -2,7 +2,6 @@ use mathlib.Core.Path.{◌∙◌, ap}
 use mathlib.Core.List.{List}
 use Prim.Native.Nat.{ℕ}
 use native.Mathlib.Omega.{arith}
-use borrow.Author.Rules.{rules}
 use Rattle.token_list.specs.Text.{same}
 use Rattle.token_list.proofs.Texts.{slice_cut}
 use Rattle.token_list.proofs.text.text_is.Goals as goal

@@ -1,0 +1,16 @@
+use lib.Seq.{slice}
+use mathlib.Core.Path.{sym}
+use Rattle.parse.specs.Contract as contract
+use Rattle.output.proofs.Texts.{joined, put_as}
+use Rattle.output.specs.Text.{decimal}
+use Rattle.describe.proofs.Lined.{put_line}
+use Rattle.describe.specs.Listing.{line, kind_text}
+use Rattle.describe.proofs.lines.put_item.Goals as goal
+
+pub returns : goal.returns
+returns c = let name = slice c.args.d.name.token.start c.args.d.name.token.end c.args.s.now in
+    let kind = kind_text (contract.kind_of c.args.d.kind) in
+    λ x k.
+    let named = put_line kind name (decimal c.args.d.count) c.put_kind-head.ensures c.put_position.ensures in
+    joined c.put_bytes-names.ensures
+    (put_as (λ i. line (kind_text (k.kind i)) (k.name.bytes i) (decimal (sym k.count i))) named)

@@ -1,0 +1,13 @@
+use native.Mathlib.Omega.{arith}
+use borrow.Author.Tests.{lt-ltb, le-ltb}
+use Rattle.output.proofs.Texts.{nothing}
+use Rattle.explanation.specs.Row.{blank}
+use Rattle.explanation.proofs.row.put_blank.Goals as goal
+
+pub returns-then-n-bound : goal.returns-then-n-bound
+unfolding blank
+returns-then-n-bound c = rw (lt-ltb _ _ c.if-n-bound.true) c.put_byte.ensures
+
+pub returns : goal.returns
+unfolding blank
+returns c = rw (le-ltb _ _ c.if-n-bound.false) (nothing _ _ (omega (arith, c.type_inv)))

@@ -1,0 +1,9 @@
+use Rattle.output.proofs.Texts.{joined}
+use Rattle.explanation.specs.Explanation.{near_line}
+use Rattle.explanation.proofs.rows.put_near_line.Goals as goal
+
+pub returns : goal.returns
+unfolding near_line
+returns c = joined c.put_sign-sign.ensures
+    (joined c.put_column-number.ensures
+    (joined c.put_bytes-blanks.ensures (joined c.put_row-text.ensures c.put_byte.ensures)))

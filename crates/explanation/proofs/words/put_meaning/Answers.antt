@@ -1,0 +1,6 @@
+use Rattle.explanation.specs.Words.{meaning}
+use Rattle.explanation.proofs.words.put_meaning.Goals as goal
+
+pub returns : goal.returns
+unfolding meaning
+returns c = c.put_line.ensures

@@ -1,0 +1,5 @@
+use Rattle.generate.proofs.Builds.{then}
+use Rattle.generate.proofs.stream_builder.StreamBuilder.lifetime_str.Goals as goal
+
+pub returns : goal.returns
+returns c = then c.punct-quoted.ensures c.ident_str.ensures
