@@ -6,6 +6,7 @@ ghost use Rattle.std.specs.Prelude.{◌≡◌, length};
 
 use std::env::{Env, FillError};
 
+// The descriptors of standard input, output and errors.
 const STDIN: i32 = 0;
 
 const STDOUT: i32 = 1;
