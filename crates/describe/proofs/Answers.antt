@@ -126,7 +126,12 @@ module _ {s x y : List ℕ} {r : ValuePlace} where
 pub placed_refused : {s x : List ℕ} {a : Answer} (r : Refusal) → a ≡ refused r.number r.place →
     Placed s x x a (places.Refused r)
 placed_refused {s} {x} r e =
-    record { place = sym (ap (place_of s) e); text = sym (ap value_text e); range = tt; scratch = sym (ap (scratch x) e) }
+    record {
+      place = sym (ap (place_of s) e);
+      text = sym (ap value_text e);
+      range = tt;
+      scratch = sym (ap (scratch x) e);
+    }
 
 module _ (s : List ℕ) (k n : ℕ) where
   abbrev framed_by : list.Answer → Answer

@@ -303,7 +303,8 @@ variant_covering row (group d ts us) = variant_here_covering row (group d ts us)
 
 struct_body_covering : Covering body_cost 0 r.struct_body_lem
 struct_body_covering row end = refuses
-struct_body_covering row (leaf q us) = choice (r.is_punct SEMICOLON q) (one_row role.delimiter q us (omega arith)) refuses
+struct_body_covering row (leaf q us) =
+    choice (r.is_punct SEMICOLON q) (one_row role.delimiter q us (omega arith)) refuses
 struct_body_covering row (group d ts us) =
     choice (eqb d BRACE) (enclosed_covered row d ts us (bind named_fields_covering (λ f. returned _)))
     (choice (eqb d PARENTHESIS) (enclosed_covered row d ts us (bind tuple_fields_covering (λ f. returned _))) refuses)

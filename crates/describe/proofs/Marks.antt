@@ -22,7 +22,8 @@ use Rattle.reading.specs.Marks.{unmarked_point}
 use Rattle.reading.proofs.Marks.{item-same, framed-same, body_at-unmarked, inside-unmarked, variant_at-unmarked}
 use Rattle.reading.proofs.Marks.{equals_at-unmarked, variant_name_at-unmarked}
 use Rattle.describe.specs.Marks.{ListedAlike}
-use Rattle.describe.specs.Numbers.{Fault, no_integer_lem, no_step_lem, name_again, number_again, fault_number, fault_row}
+use Rattle.describe.specs.Numbers.{Fault, no_integer_lem, no_step_lem, name_again, number_again, fault_number}
+use Rattle.describe.specs.Numbers.{fault_row}
 use Rattle.describe.specs.Numbers.{number_after, Numbers, numbers, lacking, and_then, numbers_from}
 use Rattle.describe.specs.Numbers.{BEFORE_FIRST, body_numbers, variant_names, body_names, distinct, numbers_of}
 use Rattle.describe.specs.Listing as listing
@@ -138,7 +139,8 @@ body_value-unmarked k (variants vs) = value_at-unmarked k vs
 -- the row of the variant's literal
 variant_answer-unmarked : (x : Point) (k : ℕ) (v : Value) → variant_answer (unmarked_point x) k v ≡ variant_answer x k v
 variant_answer-unmarked x k v = ap (λ (y : Point). value_answer (value_row y v) v) (variant-unmarked x k) ∙
-    ap (λ (y : Point). value_answer (literal_row (y.row + 1) v) v) (equals_at-unmarked (variant_at k (inside (body_at x))))
+    ap (λ (y : Point). value_answer (literal_row (y.row + 1) v) v)
+    (equals_at-unmarked (variant_at k (inside (body_at x))))
 
 value_made_unmarked : (x : Point) (k : ℕ) (u : Took Declaration) →
     value.item_answer (unmarked_point x) k (unmarked_took unmarked_declaration u) ≡ value.item_answer x k u

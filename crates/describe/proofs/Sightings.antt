@@ -298,7 +298,8 @@ name_standing h n =
 
 -- by the code's kind
 module _ {s : List ℕ} {c : Cursor} {b : Body} {k : DataType} where
-  pub struct_known : k ≡ kinds.Struct → InsideAt (reading.body_of (kind_of k)) s c b → InsideAt reading.struct_body_lem s c b
+  pub struct_known : k ≡ kinds.Struct → InsideAt (reading.body_of (kind_of k)) s c b
+      → InsideAt reading.struct_body_lem s c b
   struct_known e i = subst (λ (j : DataType). InsideAt (reading.body_of (kind_of j)) s c b) e i
 
   pub enum_known : k ≡ kinds.Enum → InsideAt (reading.body_of (kind_of k)) s c b → InsideAt reading.enum_body s c b

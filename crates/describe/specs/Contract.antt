@@ -1,5 +1,6 @@
 -- What ties the code's answers to the texts.
-use Rattle.std.specs.Prelude.{◌≡◌, List, [], map, ℕ, ◌+◌, ◌-◌, ◌≤◌, ◌<◌, ℤ, length, drop, leb, eqb, Bool, true, false, cond}
+use Rattle.std.specs.Prelude.{◌≡◌, List, [], map, ℕ, ◌+◌, ◌-◌, ◌≤◌, ◌<◌, ℤ, length, drop, leb, eqb, Bool, true, false}
+use Rattle.std.specs.Prelude.{cond}
 use Rattle.std.proofs.Math.Seq.{slice}
 use Rattle.token_list.specs.Byte.{BRACE}
 use Rattle.token_list.specs.Layout.{marked, first_row, text_offset, MAX_BYTES}

@@ -1,5 +1,6 @@
 -- The listing of a declaration (document 01, "The listing program"; the variants' numbers, document 02, cards 2 and 9).
-use Rattle.std.specs.Prelude.{◌≡◌, Bool, false, ◌||◌, List, [], ◌∷◌, ◌++◌, map, ℕ, suc, ◌+◌, ◌*◌, ◌≤◌, ℤ, pos, negsuc, length, get_or}
+use Rattle.std.specs.Prelude.{◌≡◌, Bool, false, ◌||◌, List, [], ◌∷◌, ◌++◌, map, ℕ, suc, ◌+◌, ◌*◌, ◌≤◌, ℤ, pos, negsuc}
+use Rattle.std.specs.Prelude.{length, get_or}
 use Rattle.token_list.specs.Byte.{bytes, SPACE, LF, QUOTE, MINUS}
 use Rattle.token_list.specs.Text.{between}
 use Rattle.token_list.specs.Layout.{MAX_BYTES, MAX_ROWS, first_row}

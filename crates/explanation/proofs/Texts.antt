@@ -11,7 +11,8 @@ use lib.Dec.{leb}
 use lib.ListN.{length, get_or, take, drop}
 use lib.Seq.{take-suc, length-take-le}
 use Rattle.token_list.specs.Check.{END}
-use Rattle.explanation.specs.Explanation.{role_line, role_of_first, role_rows, near, near_line, near_of_first, near_rows}
+use Rattle.explanation.specs.Explanation.{role_line, role_of_first, role_rows, near, near_line, near_of_first}
+use Rattle.explanation.specs.Explanation.{near_rows}
 
 -- ## Rows with their roles
 
@@ -23,7 +24,8 @@ rows_more n (q ∷ rs) r [] = refl
 rows_more n (q ∷ rs) r (b ∷ bs) =
     ap (λ (t : List ℕ). role_line n q b ++ t) (rows_more (suc n) rs r bs)
     ∙ sym
-    (append_assoc (role_line n q b) (role_rows (suc n) rs bs) (role_of_first (suc n + length rs) r (drop (length rs) bs)))
+    (append_assoc (role_line n q b) (role_rows (suc n) rs bs)
+    (role_of_first (suc n + length rs) r (drop (length rs) bs)))
     ∙ ap (λ (k : ℕ). (role_line n q b ++ role_rows (suc n) rs bs) ++ role_of_first k r (drop (length rs) bs))
     (suc-add n (length rs) ∙ sym (add-suc n (length rs)))
 

@@ -1,6 +1,7 @@
 -- What is written of a list: for one that is read, a line for each row with its role in words; for a refusal its
 -- number, its place and its meaning, and the rows near the place.
-use Rattle.std.specs.Prelude.{Bool, true, cond, ◌&&◌, List, [], ◌∷◌, ◌++◌, ℕ, suc, ◌+◌, ◌-◌, ◌*◌, leb, eqb, length, take}
+use Rattle.std.specs.Prelude.{Bool, true, cond, ◌&&◌, List, [], ◌∷◌, ◌++◌, ℕ, suc, ◌+◌, ◌-◌, ◌*◌, leb, eqb, length}
+use Rattle.std.specs.Prelude.{take}
 use Rattle.token_list.specs.Byte.{bytes, LF}
 use Rattle.token_list.specs.Layout.{names, marked, first_row, text_offset, MAX_TEXT, MAX_BYTES, MAX_ROWS}
 use Rattle.token_list.specs.Check.{END}

@@ -5,7 +5,7 @@ use mathlib.Core.List.{List, []}
 use Prim.Native.Nat.{ℕ, ◌≤◌}
 use native.Mathlib.Omega.{arith}
 use lib.Dec.{ltb}
-use lib.ListN.{length, take}
+use lib.ListN.{length}
 use lib.Seq.{length-take-le}
 use Rattle.token_list.specs.Row.{Row}
 use Rattle.token_list.specs.Rows.{list_of}
@@ -13,8 +13,8 @@ use Rattle.token_list.specs.Check.{END}
 use Rattle.token_list.specs.declared.check.Refusal.{Refusal}
 use Rattle.source.specs.Brackets.{Matched, sound, faulty, brackets}
 use Rattle.source.specs.Lex.{lex}
-use Rattle.source.specs.Answer.{Answer, wrote, fault_at, refused, rows_of, within_limits, fitted, matched_answer, answer}
-use Rattle.source.specs.Answer.{output}
+use Rattle.source.specs.Answer.{Answer, wrote, fault_at, refused, rows_of, within_limits, fitted, matched_answer}
+use Rattle.source.specs.Answer.{answer}
 use Rattle.source.specs.Tokens.{TokensAs}
 use Rattle.source.specs.declared.tokens.Tokens.{Tokens}
 use Rattle.source.specs.declared.tokens.Tokens.TheVariants as answers

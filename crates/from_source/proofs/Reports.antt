@@ -83,7 +83,8 @@ room_same n s h = go (source.answer MAX_BYTES s)
 
 pub reported : (s : List ℕ) {x y : List ℕ} {r : ℕ} → Printed x y r (listing_text s (listing_answer (length x) s))
     → r ≤ MOST
-    → ((n p : ℕ) → listing_answer (length x) s ≡ refused n p → TextRefusal listing_number s n p) → ReportedListing s x y r
+    → ((n p : ℕ) → listing_answer (length x) s ≡ refused n p → TextRefusal listing_number s n p)
+    → ReportedListing s x y r
 reported s {x} p short refusal =
     record {
       printed = p;

@@ -16,7 +16,8 @@ use Rattle.token_list.specs.declared.check.Cursor.{Cursor}
 use Rattle.token_list.specs.declared.stream.Token.{Token}
 use Rattle.reading.specs.Took.{Took, took, Cause, stopped, Reader, onward, after, ◌>>=◌, place_of, pure}
 use Rattle.reading.specs.Token.{starts}
-use Rattle.reading.specs.Reading.{copied, group_size, lone, is_punct, is_ident, is_word, first_text, Word, missing, found}
+use Rattle.reading.specs.Reading.{copied, group_size, lone, is_punct, is_ident, is_word, first_text, Word, missing}
+use Rattle.reading.specs.Reading.{found}
 use Rattle.parse.specs.Contract.{Moved, Said, on, no, Meets, stands, refuses, refusal, stream, past_of, Belonged}
 use Rattle.parse.specs.Contract.{InsideAt, point, word_shown, word_said}
 use Rattle.parse.specs.Contract.{WordAt as WordOf}

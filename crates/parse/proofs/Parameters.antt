@@ -43,7 +43,8 @@ module _ (n : List ℕ) (row : ℕ) where
   pub type_defaulted : (ts : Trees) → starts (is_punct COLON) ts ≡ false →
       type_after n row ts ≡ after row (optional_run EQUALS row ts) (λ d. pure (type n end d))
   type_defaulted ts e =
-      ap (λ t. after row t (type_runs n)) (no_punct COLON role.separator row ts e) ∙ pure_then false (type_runs n) row ts
+      ap (λ t. after row t (type_runs n)) (no_punct COLON role.separator row ts e)
+      ∙ pure_then false (type_runs n) row ts
 
 -- ## A parameter of this kind, without a default
 

@@ -15,7 +15,8 @@ use Rattle.reading.specs.Token.{starts, is_punct, is_word, CONST}
 use Rattle.reading.specs.Declaration.{Value}
 use Rattle.reading.specs.Took.{Took, took, Cause, stopped, Reader, Point, past_taken, beyond}
 use Rattle.reading.specs.Reading.{punct_if, copied, group_size, is_literal, negatable, negative_value}
-use Rattle.reading.specs.Place.{ident_row, word_row, token_end, past_token_lem, before_name, parameter_name_at, literal_row}
+use Rattle.reading.specs.Place.{ident_row, word_row, token_end, past_token_lem, before_name, parameter_name_at}
+use Rattle.reading.specs.Place.{literal_row}
 use Rattle.parse.specs.Contract.{Moved, Said, on, Meets, stands, refuses, stream, point, CursorAt, TokenIn}
 use Rattle.parse.specs.Contract.{WordAt, NameAt, past_of, ValueIn, value_shown, value_said}
 use Rattle.parse.proofs.Meeting.{past_in_of, group_stream}
@@ -81,7 +82,8 @@ group_past {s} {c} {d} t r i g m =
     }
 
 -- past a punctuation that stands at x
-pub punct_past : (b r : ℕ) (x : Point) → starts (is_punct b) x.stream ≡ true → beyond (punct_if b r) x ≡ past_token_lem x
+pub punct_past : (b r : ℕ) (x : Point) → starts (is_punct b) x.stream ≡ true
+    → beyond (punct_if b r) x ≡ past_token_lem x
 punct_past b r x e = go x.stream e
   where
     go : (ts : Trees) → starts (is_punct b) ts ≡ true →

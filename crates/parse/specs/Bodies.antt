@@ -10,7 +10,8 @@ use Rattle.reading.specs.Role as role
 use Rattle.reading.specs.Declaration as declaration
 use Rattle.reading.specs.Took.{Took, Reader, pure, ◌>>=◌, Point, beyond}
 use Rattle.reading.specs.Reading as reading
-use Rattle.reading.specs.Place.{VariantHead, visibility_at, start_at, item_name_at, generics_at, clause_at, body_at, type_at}
+use Rattle.reading.specs.Place.{VariantHead, visibility_at, start_at, item_name_at, generics_at, clause_at, body_at}
+use Rattle.reading.specs.Place.{type_at}
 use Rattle.reading.specs.Place.{variant_name_at, group_at, value_row}
 use Rattle.reading.specs.Answer as answers
 use Rattle.parse.specs.Meets.{Said, on, refusal, point, CursorAt, TokenIn, TextOf, InsideAt}
@@ -323,5 +324,6 @@ ParsedAs s (parses.Refused r) (answers.refused n p) = (r.number ≡ n) × (r.pla
 -- the whole answer for a list s, what holds of a refusal, and the whole role buffer
 pub record Answered (s : List ℕ) (r : Parse) (before after : List ℕ) : Type 0 where
   pub answer : ParsedAs s r (answers.answer s (length before))
-  pub refusal : (n p : ℕ) → answers.answer s (length before) ≡ answers.refused n p → OneRefusal answers.read_number s n p
+  pub refusal : (n p : ℕ) → answers.answer s (length before) ≡ answers.refused n p
+      → OneRefusal answers.read_number s n p
   pub buffer : after ≡ answers.buffer (length before) (answers.answer s (length before))

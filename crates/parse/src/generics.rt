@@ -9,7 +9,8 @@ ghost use Rattle.reading.specs.Reading.{parameter_name, optional_run, type_after
 ghost use Rattle.reading.specs.Reading.{clause};
 ghost use Rattle.reading.specs.Place.{past_token_lem, parameter_name_at};
 ghost use Rattle.parse.specs.Contract.{is_lifetime, Meets, stream, point, TokenIn, TextOf, name_shown, name_said};
-ghost use Rattle.parse.specs.Contract.{optional_run_shown, parameter_run_said, bound_of_lem, default_of, ParameterRunAt};
+ghost use Rattle.parse.specs.Contract.{optional_run_shown, parameter_run_said, bound_of_lem, default_of};
+ghost use Rattle.parse.specs.Contract.{ParameterRunAt};
 ghost use Rattle.parse.specs.Contract.{ParameterOf, type_shown};
 ghost use Rattle.parse.specs.Contract.{parameter_shown, parameter_said, named_parameter};
 ghost use Rattle.parse.specs.Contract.{after_name, count_shown, count_said, generics_shown, clause_shown, clause_said};

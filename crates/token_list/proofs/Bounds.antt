@@ -95,7 +95,8 @@ check_limited s =
 pub check-refusal : (s : List ℕ) (n p : ℕ) → check s ≡ refused n p → OneRefusal check_number s n p
 check-refusal s n p e = go refl (rw e at (check_limited s))
   where
-    go : {a : Answer} → a ≡ refused n p → Limited (begun (lines (drop (first_row s) s))) a → OneRefusal check_number s n p
+    go : {a : Answer} → a ≡ refused n p → Limited (begun (lines (drop (first_row s) s))) a
+        → OneRefusal check_number s n p
     go q (few h k) = let z : ◌≡◌ {A = ℕ} 0 1 = cc in absurd (omega arith)
     go q (ended {n = m} k) =
         let number : m ≡ n = cc in

@@ -13,7 +13,8 @@ use Rattle.token_list.specs.Byte.{ONE, QUOTE, SPACE, ZERO, code}
 use Rattle.token_list.specs.Text.{LF}
 use Rattle.token_list.specs.Layout.{names, marked, first_row, text_offset, PUNCT}
 use Rattle.token_list.specs.Row.{Row, Lines, tail, line, lines, front, byte, wrong, form, text_form, first}
-use Rattle.token_list.specs.Row.{mark_fits, columns_fit, own_mark_lem, mark_of, line_row_lem, row_of, mark_byte, mark_column_lem}
+use Rattle.token_list.specs.Row.{mark_fits, columns_fit, own_mark_lem, mark_of, line_row_lem, row_of, mark_byte}
+use Rattle.token_list.specs.Row.{mark_column_lem}
 use Rattle.token_list.specs.Row.{right_mark}
 use Rattle.token_list.specs.Check.{named}
 use Rattle.token_list.specs.Contract.{shape, formed, spaced, mark_stands_lem, RowShaped, TextShaped, ColumnShaped}

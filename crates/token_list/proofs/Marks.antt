@@ -35,7 +35,8 @@ chosen_unmarked : (b : Bool) (x y : Streams) {u v : Streams} → u ≡ unmarked_
 chosen_unmarked true x y p q = p
 chosen_unmarked false x y p q = q
 
-before-unmarked : (q : Row) (st : Streams) → before (unmarked_row q) (unmarked_streams st) ≡ unmarked_streams (before q st)
+before-unmarked : (q : Row) (st : Streams)
+    → before (unmarked_row q) (unmarked_streams st) ≡ unmarked_streams (before q st)
 unfolding before
 before-unmarked q st =
     chosen_unmarked (eqb q.kind OPEN) _ _

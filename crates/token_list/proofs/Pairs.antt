@@ -20,7 +20,8 @@ until_all : (xs : List ℕ) → until_unequal_lem xs xs ≡ length xs
 until_all [] = refl
 until_all (x ∷ xs) = let rest = until_all xs in chosen _ _ _ (eq-eqb x x refl) ∙ omega (arith, rest)
 
-until_unequal : (p xs ys : List ℕ) (x y : ℕ) → (x ≡ y → ⊥) → until_unequal_lem (p ++ x ∷ xs) (p ++ y ∷ ys) ≡ length p + 1
+until_unequal : (p xs ys : List ℕ) (x y : ℕ) → (x ≡ y → ⊥)
+    → until_unequal_lem (p ++ x ∷ xs) (p ++ y ∷ ys) ≡ length p + 1
 until_unequal [] xs ys x y n = passed_over _ _ _ (ne_eqb x y n)
 until_unequal (z ∷ p) xs ys x y n =
     let rest = until_unequal p xs ys x y n in chosen _ _ _ (eq-eqb z z refl) ∙ omega (arith, rest)

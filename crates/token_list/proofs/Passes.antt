@@ -13,7 +13,8 @@ use Rattle.token_list.specs.Layout.{MAX_ROWS, MAX_DEPTH}
 use Rattle.token_list.specs.Text.{all, name, plain_name, name_start, name_part, raw_name, literal, literal_start}
 use Rattle.token_list.specs.Text.{printable, single, punctuation, opening, closing, closer}
 use Rattle.token_list.specs.Row.{Row, Lines, tail, line, lines, byte, rows, written, Form, plain, opens, closed}
-use Rattle.token_list.specs.Row.{wrong, form, form_of, text_form, first, columns_fit, own_mark_lem, mark_of, line_row_lem}
+use Rattle.token_list.specs.Row.{wrong, form, form_of, text_form, first, columns_fit, own_mark_lem, mark_of}
+use Rattle.token_list.specs.Row.{line_row_lem}
 use Rattle.token_list.specs.Row.{mark_column_lem, right_mark}
 use Rattle.token_list.specs.Rows.{list_of}
 use Rattle.token_list.specs.Check.{Answer, passed, Open, step, walk, check, is_row, right, all_right, closed_by}

@@ -79,7 +79,8 @@ columns_no_lf true j k b x (suc (suc (suc (suc zero)))) p q h = q
 columns_no_lf true j k b x (suc (suc (suc (suc (suc n))))) p q h = absurd (omega arith)
 
 -- the byte at the text's offset
-text-byte : (m j : Bool) (k b : ℕ) (x : List ℕ) → get_or (k ∷ SPACE ∷ mark_column_lem m j ++ b ∷ x) (text_offset m) 0 ≡ b
+text-byte : (m j : Bool) (k b : ℕ) (x : List ℕ)
+    → get_or (k ∷ SPACE ∷ mark_column_lem m j ++ b ∷ x) (text_offset m) 0 ≡ b
 text-byte true j k b x = refl
 text-byte false j k b x = refl
 
@@ -148,7 +149,8 @@ module _ (s : List ℕ) (i : ℕ) (f : FirstRow s i) where
       omega (arith, column_length (marked s) f.row.joint, length-append column (f.first ∷ f.text)) in
       let bytes : drop i s ≡ l ++ after =
       f.bytes ∙ ap (λ (t : List ℕ). f.row.kind ∷ SPACE ∷ t) (sym (append_assoc column (f.first ∷ f.text) after)) in
-      ap (λ (k : ℕ). get_or s k 0) n ∙ sym (get_or-drop i s (length l) 0) ∙ ap (λ (t : List ℕ). get_or t (length l) 0) bytes ∙
+      ap (λ (k : ℕ). get_or s k 0) n ∙ sym (get_or-drop i s (length l) 0)
+      ∙ ap (λ (t : List ℕ). get_or t (length l) 0) bytes ∙
       get_or-append_seam l LF (written (marked s) f.rest) 0
 
   -- the text is one byte, but that of a name or a literal

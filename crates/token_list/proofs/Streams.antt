@@ -11,7 +11,8 @@ use lib.Seq.{slice, drop-nil}
 use Rattle.token_list.specs.Layout.{marked, text_offset, CLOSE, OPEN, PUNCT}
 use Rattle.token_list.specs.Row.{Row, first, mark_fits, mark_of}
 use Rattle.token_list.specs.Stream.{Trees, end, leaf, group, Streams, head, others, before, streams, size}
-use Rattle.token_list.specs.Stream.{first_kind_lem, first_byte_lem, starts_punct, follows, all_closed, rows_at, at, row_start}
+use Rattle.token_list.specs.Stream.{first_kind_lem, first_byte_lem, starts_punct, follows, all_closed, rows_at, at}
+use Rattle.token_list.specs.Stream.{row_start}
 use Rattle.token_list.specs.Contract.{RowEnd, RightRows, InList, Looked, TokenAt, LeafAt, GroupAt, Skipped}
 use Rattle.token_list.specs.Contract.{skipped, deeper, row_of}
 use Rattle.token_list.specs.declared.check.Cursor.{Cursor}

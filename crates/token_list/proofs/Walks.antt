@@ -29,7 +29,8 @@ begun-byte false b (line l ls) e = let z : ◌≡◌ {A = ℕ} 0 1 = cc in omega
 
 begun : (s : List ℕ) (at : ℕ) → at < length s → lines (drop at s) ≡ tail [] → ⊥
 begun s at h e =
-    begun-byte (eqb (get_or s at 0) LF) (get_or s at 0) (lines (drop (at + 1) s)) (sym (ap lines (drop_next s at h)) ∙ e)
+    begun-byte (eqb (get_or s at 0) LF) (get_or s at 0) (lines (drop (at + 1) s)) (sym (ap lines (drop_next s at h))
+    ∙ e)
 
 -- ## One row
 

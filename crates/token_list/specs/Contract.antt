@@ -1,5 +1,6 @@
 -- What ties the code's answers to the meaning.
-use Rattle.std.specs.Prelude.{◌≡◌, Bool, true, false, cond, ◌&&◌, List, [], ◌∷◌, ℕ, ◌+◌, ◌-◌, ◌≤◌, ◌<◌, ltb, eqb, length, get_or, take, drop}
+use Rattle.std.specs.Prelude.{◌≡◌, Bool, true, false, cond, ◌&&◌, List, [], ◌∷◌, ℕ, ◌+◌, ◌-◌, ◌≤◌, ◌<◌, ltb, eqb}
+use Rattle.std.specs.Prelude.{length, get_or, take, drop}
 use Rattle.std.proofs.Math.Seq.{slice}
 use Rattle.token_list.specs.Byte.{LF, SPACE}
 use Rattle.token_list.specs.Layout.{PUNCT, OPEN, CLOSE, names, marked, first_row, text_offset, MAX_TEXT, MAX_DEPTH}
@@ -67,7 +68,8 @@ one_byte_lem s i = ltb (i + 3) (length s) && (eqb (get_or s (i + 1) 0) SPACE && 
 
 -- a kind, a space and a mark that fits at i, before another byte
 abbrev pub mark_stands_lem : List ℕ → ℕ → Bool
-mark_stands_lem s i = ltb (i + 3) (length s) && (eqb (get_or s (i + 1) 0) SPACE && mark_fits (get_or s i 0) (get_or s (i + 2) 0))
+mark_stands_lem s i =
+    ltb (i + 3) (length s) && (eqb (get_or s (i + 1) 0) SPACE && mark_fits (get_or s i 0) (get_or s (i + 2) 0))
 
 -- the form of a row of kind p, o or c whose text is the one byte b
 abbrev pub single_form : ℕ → ℕ → Form

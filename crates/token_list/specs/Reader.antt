@@ -46,7 +46,8 @@ shown_bytes s (Row a e) = slice a e s ∷ []
 pub record Shows (s : List ℕ) (i : ℕ) (r : Shown) : Type 0 where
   pub answer : r ≡ shown_of i (lines (drop i s))
   pub bytes : shown_bytes s r ≡ take 1 (bytes_from s i)
-  pub row : (n : ℕ) → AtRow s (record { at = i; row = n }) → shown_bytes s r ≡ take 1 (drop n (bytes_from s (first_row s)))
+  pub row : (n : ℕ) → AtRow s (record { at = i; row = n })
+      → shown_bytes s r ≡ take 1 (drop n (bytes_from s (first_row s)))
 
 -- from c to the next row, or to the end
 pub record GoesOn (s : List ℕ) (c d : Cursor) : Type 0 where

@@ -1,5 +1,6 @@
 -- The lines of a text and the rows that they are (document 01, "The token list"; document 02, card 6).
-use Rattle.std.specs.Prelude.{Bool, true, false, cond, not, ◌&&◌, ◌||◌, List, [], ◌∷◌, ◌++◌, ℕ, zero, suc, ◌+◌, leb, eqb, length, get_or, drop}
+use Rattle.std.specs.Prelude.{Bool, true, false, cond, not, ◌&&◌, ◌||◌, List, [], ◌∷◌, ◌++◌, ℕ, zero, suc, ◌+◌, leb}
+use Rattle.std.specs.Prelude.{eqb, length, get_or, drop}
 use Rattle.std.specs.Bool.{beq}
 use Rattle.token_list.specs.Byte.{SPACE, ZERO, ONE, QUOTE}
 use Rattle.token_list.specs.Layout.{IDENT, LITERAL, PUNCT, OPEN, CLOSE, text_offset, MAX_TEXT}

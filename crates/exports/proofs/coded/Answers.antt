@@ -1,6 +1,5 @@
 use Prim.Native.Nat.{ℕ, ◌+◌, ◌*◌}
 use mathlib.Core.Path.{ap}
-use borrow.Author.Rules.{rules}
 use Rattle.exports.specs.Code.{REFUSED}
 use Rattle.exports.proofs.coded.Goals as goal
 

@@ -2,7 +2,6 @@ use mathlib.Core.Path.{sym, ◌∙◌, ap}
 use Rattle.token_list.specs.Contract.{checked}
 use Rattle.exports.specs.Code.{code, check_case}
 use Rattle.exports.proofs.Codes.{coded_as, checked_told, check_small}
-use borrow.Author.Rules.{rules}
 use Rattle.exports.proofs.kusthrila_check.Goals as goal
 
 pub coded-requires : goal.coded-requires

@@ -1,6 +1,5 @@
 use Rattle.writing.specs.Answer.{impl_generics_lem}
 use Rattle.exports.proofs.GeneratedCodes.{used_length, generated_low, generated_into}
-use borrow.Author.Rules.{rules}
 use Rattle.exports.proofs.kusthrila_impl_generics.Goals as goal
 
 pub slice_bounds-impl_generics-end-2 : goal.slice_bounds-impl_generics-end-2

@@ -1,7 +1,6 @@
 use mathlib.Core.Path.{refl}
 use mathlib.Core.Bool.{true, false}
 use native.Mathlib.Omega.{arith}
-use borrow.Author.Rules.{rules}
 use Rattle.token_list.proofs.Pairs.{pairs_most}
 use Rattle.exports.proofs.Codes.{names-compared}
 use Rattle.exports.proofs.kusthrila_same_name.Goals as goal

@@ -1,4 +1,3 @@
-use borrow.Author.Rules.{rules}
 use Rattle.exports.proofs.SourceCodes.{tokens_low, list_into, fault_into, refusal_into}
 use Rattle.exports.proofs.kusthrila_tokens.Goals as goal
 

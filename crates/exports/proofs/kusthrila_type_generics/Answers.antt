@@ -1,6 +1,5 @@
 use Rattle.writing.specs.Answer.{type_generics_lem}
 use Rattle.exports.proofs.GeneratedCodes.{used_length, generated_low, generated_into}
-use borrow.Author.Rules.{rules}
 use Rattle.exports.proofs.kusthrila_type_generics.Goals as goal
 
 pub slice_bounds-type_generics-end-2 : goal.slice_bounds-type_generics-end-2

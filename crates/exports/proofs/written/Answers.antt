@@ -1,5 +1,4 @@
 use mathlib.Core.Path.{sym, ◌∙◌, ap}
-use borrow.Author.Rules.{rules}
 use Rattle.exports.specs.Code.{written_code}
 use Rattle.exports.proofs.written.Goals as goal
 

@@ -5,7 +5,11 @@ use Rattle.describe.proofs.Sightings.{enum_faults, counted_variants}
 use Rattle.describe.proofs.faults.body_faults.Goals as goal
 
 pub past-inside-requires : goal.past-inside-requires
-past-inside-requires c = record { in_list = c.requires.inside_at.1.in_list; token_at = (meeting.peeked _ _ c.peek.ensures c.in-Group.is).token }
+past-inside-requires c =
+    record {
+      in_list = c.requires.inside_at.1.in_list;
+      token_at = (meeting.peeked _ _ c.peek.ensures c.in-Group.is).token;
+    }
 
 pub enum_faults-requires : goal.enum_faults-requires
 enum_faults-requires c = let body = enum_known c.in-Enum.is c.requires.inside_at.1 in
@@ -27,7 +31,8 @@ returns-in-Leaf c = let leaf = meeting.peeked _ _ c.peek.ensures c.in-Leaf.is in
 
 pub returns-in-Group : goal.returns-in-Group
 returns-in-Group c = let group = meeting.peeked _ _ c.peek.ensures c.in-Group.is in
-    let inside = inside-point c.args.s.now c.args.d.body c.past-inside.result c.in-Group.t group c.past-inside.ensures in
+    let inside =
+    inside-point c.args.s.now c.args.d.body c.past-inside.result c.in-Group.t group c.past-inside.ensures in
     λ b k.
     let vs = enum_group (enum_known c.in-Enum.is k) _ _ group c.past-inside.ensures in
     enum_faults inside vs.1 (c.enum_faults.ensures vs.0 vs.2)

@@ -9,7 +9,12 @@ use Rattle.describe.proofs.faults.see_name.Goals as goal
 
 pub seen-again-requires : goal.seen-again-requires
 seen-again-requires c = record {
-  holds = (map name_key c.requires.by_index.0, c.requires.by_index.1, length-map c.requires.by_index.0 name_key ∙ c.requires.by_index.2);
+  holds = (
+    map name_key c.requires.by_index.0,
+    c.requires.by_index.1,
+    length-map c.requires.by_index.0 name_key
+        ∙ c.requires.by_index.2,
+  );
   count_in_bounds = c.requires.count_in_bounds;
   standing = record {
     order = c.name_key-key.ensures.order;

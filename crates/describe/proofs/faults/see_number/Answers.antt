@@ -10,7 +10,12 @@ use Rattle.describe.proofs.faults.see_number.Goals as goal
 
 pub seen-again-requires : goal.seen-again-requires
 seen-again-requires c = record {
-  holds = (map integer_key c.requires.holds.0, c.requires.holds.1, length-map c.requires.holds.0 integer_key ∙ c.requires.holds.2);
+  holds = (
+    map integer_key c.requires.holds.0,
+    c.requires.holds.1,
+    length-map c.requires.holds.0 integer_key
+        ∙ c.requires.holds.2,
+  );
   count_in_bounds = c.requires.count_in_bounds;
   standing = record {
     order = c.integer_key-key.ensures.order;

@@ -19,5 +19,6 @@ returns-then-is_lifetime c = let name = slice c.args.p.name.start c.args.p.name.
 pub returns : goal.returns
 returns c = let name = slice c.args.p.name.start c.args.p.name.end c.args.s.now in
     λ a k.
-    let same = unquoted a (sym (ap is_lifetime k.kind) ∙ sym c.is_lifetime.ensures ∙ c.if-is_lifetime.false) ∙ k.text.bytes in
+    let same = unquoted a (sym (ap is_lifetime k.kind) ∙ sym c.is_lifetime.ensures ∙ c.if-is_lifetime.false)
+    ∙ k.text.bytes in
     put_as (ap (λ n. line PARAM n DASH) same) (put_line PARAM name DASH c.put_head-head.ensures c.put_bytes-2.ensures)

@@ -10,13 +10,16 @@ use Rattle.describe.proofs.Parts.{struct_group, enum_group, body_leaf, body_end}
 use Rattle.describe.proofs.listing.body_lines.Goals as goal
 
 pub past-inside-requires : goal.past-inside-requires
-past-inside-requires c = record { in_list = c.requires; token_at = (meeting.peeked _ _ c.peek.ensures c.in-Group.is).token }
+past-inside-requires c =
+    record { in_list = c.requires; token_at = (meeting.peeked _ _ c.peek.ensures c.in-Group.is).token }
 
 pub struct_lines-requires : goal.struct_lines-requires
-struct_lines-requires c = meeting.past_in_of _ _ _ _ c.past-inside.ensures c.requires (meeting.peeked _ _ c.peek.ensures c.in-Group.is).token
+struct_lines-requires c =
+    meeting.past_in_of _ _ _ _ c.past-inside.ensures c.requires (meeting.peeked _ _ c.peek.ensures c.in-Group.is).token
 
 pub variant_lines-requires : goal.variant_lines-requires
-variant_lines-requires c = meeting.past_in_of _ _ _ _ c.past-inside.ensures c.requires (meeting.peeked _ _ c.peek.ensures c.in-Group.is).token
+variant_lines-requires c =
+    meeting.past_in_of _ _ _ _ c.past-inside.ensures c.requires (meeting.peeked _ _ c.peek.ensures c.in-Group.is).token
 
 pub returns-in-Nothing : goal.returns-in-Nothing
 returns-in-Nothing c = λ b zs k q. body_end (contract.kind_of c.args.d.kind) k

@@ -22,7 +22,8 @@ none : {l : List ℕ} {i : ℕ} {g : Generics} → length l < FAR → g ≡ with
 none h e = put_as (ap (λ (g : Generics). numbered parameter_line 0 (parameters_of g)) e) (nothing _ _ h)
 
 pub returns-then-not-stands_punct : goal.returns-then-not-stands_punct
-returns-then-not-stands_punct c = let other = sym c.stands_punct.ensures ∙ not-true _ (ap not c.if-not-stands_punct.true) in
+returns-then-not-stands_punct c =
+    let other = sym c.stands_punct.ensures ∙ not-true _ (ap not c.if-not-stands_punct.true) in
     λ g k. none (omega (arith, c.type_inv)) (generics-none k other)
 
 pub punct_at-t-requires : goal.punct_at-t-requires
@@ -34,4 +35,5 @@ parameter_lines-requires c = past_in_of _ _ _ _ c.past-inside.ensures c.requires
 
 pub returns : goal.returns
 returns c = let angle = sym c.stands_punct.ensures ∙ not-false _ (ap not c.if-not-stands_punct.false) in
-    λ g k. c.parameter_lines.ensures (parameters_of g) (generics-angle k _ _ c.punct_at-t.ensures c.past-inside.ensures angle).1
+    λ g k. c.parameter_lines.ensures (parameters_of g)
+    (generics-angle k _ _ c.punct_at-t.ensures c.past-inside.ensures angle).1

@@ -21,15 +21,19 @@ pub overflow_add-count : goal.overflow_add-count
 overflow_add-count c = omega (arith, c.loop-name.invariant.few, c.loop-name.invariant.in_list.within, c.type_inv)
 
 pub loop-name-smaller : goal.loop-name-smaller
-loop-name-smaller c = lined-less named c.loop-name.invariant (turn named c.in-One.is c.named_field.ensures) (λ v h. (h.0, h.1, h.2))
+loop-name-smaller c =
+    lined-less named c.loop-name.invariant (turn named c.in-One.is c.named_field.ensures) (λ v h. (h.0, h.1, h.2))
 
 pub loop-name-preserved : goal.loop-name-preserved
-loop-name-preserved c = lined-more named c.loop-name.invariant (turn named c.in-One.is c.named_field.ensures) (λ v h. (h.0, h.1, h.2))
+loop-name-preserved c =
+    lined-more named c.loop-name.invariant (turn named c.in-One.is c.named_field.ensures) (λ v h. (h.0, h.1, h.2))
     (λ a t. put_as (ap (λ n. line FIELD n (decimal c.loop-name.count)) t.bytes) c.put_named-at.ensures)
     c.named_field.auto.roles c.put_named-at.auto.out
 
 pub returns-in-Done : goal.returns-in-Done
-returns-in-Done c = λ xs k. lined_done named c.loop-name.invariant (turn named c.in-Done.is c.named_field.ensures) (λ v h. h) xs k
+returns-in-Done c =
+    λ xs k. lined_done named c.loop-name.invariant (turn named c.in-Done.is c.named_field.ensures) (λ v h. h) xs k
 
 pub returns-in-Refused : goal.returns-in-Refused
-returns-in-Refused c = λ xs k. lined_refused named c.loop-name.invariant (turn named c.in-Refused.is c.named_field.ensures) xs k
+returns-in-Refused c =
+    λ xs k. lined_refused named c.loop-name.invariant (turn named c.in-Refused.is c.named_field.ensures) xs k

@@ -21,15 +21,23 @@ item-requires c = subst⁻¹ (InList c.args.s.now) c.start-c.ensures c.requires.
 pub fit_listing-requires : goal.fit_listing-requires
 fit_listing-requires c = let m = meets_tells (meeting.say (item_shown c.args.s.now (start_of c.args.s.now)) item_said
     c.in-At.is (from_start c.item.result c.start-c.ensures c.item.ensures)) in
-    record { item_of = (m.0, m.4.0, few_names (at c.args.s.now (first_row c.args.s.now)).here m.3 c.requires.s_bound); s_len_bound = c.requires.s_len_bound }
+    record {
+      item_of = (m.0, m.4.0, few_names (at c.args.s.now (first_row c.args.s.now)).here m.3 c.requires.s_bound);
+      s_len_bound = c.requires.s_len_bound;
+    }
 
 pub returns-in-Refused : goal.returns-in-Refused
 returns-in-Refused c = let e = (meets_refusal (meeting.say (item_shown c.args.s.now (start_of c.args.s.now)) item_said
     c.in-Refused.is
-    (from_start c.item.result c.start-c.ensures c.item.ensures))).1 in record { written_as = written_refused (ap (λ t. fitted (length c.args.out.now) (item_answer (place.start c.args.s.now) t)) e); item_faults_in = subst⁻¹ (ItemFaultsIn c.args.s.now) e tt }
+    (from_start c.item.result c.start-c.ensures c.item.ensures))).1 in record {
+      written_as =
+          written_refused (ap (λ t. fitted (length c.args.out.now) (item_answer (place.start c.args.s.now) t)) e);
+      item_faults_in = subst⁻¹ (ItemFaultsIn c.args.s.now) e tt;
+    }
 
 pub returns-in-At : goal.returns-in-At
-returns-in-At c = let m = meets_tells (meeting.say (item_shown c.args.s.now (start_of c.args.s.now)) item_said c.in-At.is
+returns-in-At c =
+    let m = meets_tells (meeting.say (item_shown c.args.s.now (start_of c.args.s.now)) item_said c.in-At.is
     (from_start c.item.result c.start-c.ensures c.item.ensures)) in
     let p = place.start c.args.s.now in
     let body = m.4.1.body in record {

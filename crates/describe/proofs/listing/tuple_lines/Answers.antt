@@ -13,14 +13,18 @@ pub overflow_add-count : goal.overflow_add-count
 overflow_add-count c = omega (arith, c.loop-next.invariant.few, c.loop-next.invariant.in_list.within, c.type_inv)
 
 pub loop-next-smaller : goal.loop-next-smaller
-loop-next-smaller c = lined-less tuple c.loop-next.invariant (turn tuple c.in-One.is c.tuple_field.ensures) (λ v h. (h.0, h.1, tt {0}))
+loop-next-smaller c =
+    lined-less tuple c.loop-next.invariant (turn tuple c.in-One.is c.tuple_field.ensures) (λ v h. (h.0, h.1, tt {0}))
 
 pub loop-next-preserved : goal.loop-next-preserved
-loop-next-preserved c = lined-more tuple c.loop-next.invariant (turn tuple c.in-One.is c.tuple_field.ensures) (λ v h. (h.0, h.1, tt {0}))
+loop-next-preserved c =
+    lined-more tuple c.loop-next.invariant (turn tuple c.in-One.is c.tuple_field.ensures) (λ v h. (h.0, h.1, tt {0}))
     (λ a t. c.put_unnamed-at.ensures) c.tuple_field.auto.roles c.put_unnamed-at.auto.out
 
 pub returns-in-Done : goal.returns-in-Done
-returns-in-Done c = λ xs k. lined_done tuple c.loop-next.invariant (turn tuple c.in-Done.is c.tuple_field.ensures) (λ v h. h) xs k
+returns-in-Done c =
+    λ xs k. lined_done tuple c.loop-next.invariant (turn tuple c.in-Done.is c.tuple_field.ensures) (λ v h. h) xs k
 
 pub returns-in-Refused : goal.returns-in-Refused
-returns-in-Refused c = λ xs k. lined_refused tuple c.loop-next.invariant (turn tuple c.in-Refused.is c.tuple_field.ensures) xs k
+returns-in-Refused c =
+    λ xs k. lined_refused tuple c.loop-next.invariant (turn tuple c.in-Refused.is c.tuple_field.ensures) xs k

@@ -20,7 +20,8 @@ number_after-requires c = let m = meets_tells (variant_turn c.in-One.is c.varian
 pub returns-in-Refused-number_after : goal.returns-in-Refused-number_after
 returns-in-Refused-number_after c = let read = variant_turn c.in-One.is c.variant.ensures in
     λ vs zs k q.
-    numbering-lacks c.loop-v.invariant c.in-One.v read (c.number_after.ensures.number_as c.loop-v.c) c.in-Refused-number_after.is
+    numbering-lacks c.loop-v.invariant c.in-One.v read (c.number_after.ensures.number_as c.loop-v.c)
+    c.in-Refused-number_after.is
     vs k zs q
 
 pub put_variant-line-requires : goal.put_variant-line-requires
@@ -47,4 +48,5 @@ returns-in-Done c = λ vs zs k q.
     numbering_done c.loop-v.invariant (variant_turn c.in-Done.is c.variant.ensures) (λ v h. h) vs k zs q
 
 pub returns-in-Refused : goal.returns-in-Refused
-returns-in-Refused c = λ vs zs k q. numbering_refused c.loop-v.invariant (variant_turn c.in-Refused.is c.variant.ensures) vs k
+returns-in-Refused c =
+    λ vs zs k q. numbering_refused c.loop-v.invariant (variant_turn c.in-Refused.is c.variant.ensures) vs k

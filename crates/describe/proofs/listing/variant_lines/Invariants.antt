@@ -5,7 +5,8 @@ use Rattle.describe.proofs.Numbering.{Numbering}
 use Rattle.describe.proofs.listing.variant_lines.Given as goal
 
 abbrev pub invariant-loop-v : goal.invariant-loop-v
-invariant-loop-v l = Numbering l.s l.initial.c l.c l.initial.roles l.roles l.initial.out l.out l.start l.at (number_of l.before)
+invariant-loop-v l =
+    Numbering l.s l.initial.c l.c l.initial.roles l.roles l.initial.out l.out l.start l.at (number_of l.before)
 
 abbrev pub decreases-loop-v : goal.decreases-loop-v
 decreases-loop-v l = length l.s - l.c.at

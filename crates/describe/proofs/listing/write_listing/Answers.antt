@@ -12,10 +12,19 @@ use Rattle.describe.proofs.listing.write_listing.Goals as goal
 pub read_listing-requires : goal.read_listing-requires
 read_listing-requires c = let passed = sym c.check.ensures.answer ∙ ap checked c.in-Passed.is in
     let b = bounds _ passed in
-    record { in_list = first_in _ _ passed; s_len_bound = b.bytes; s_bound = omega (arith, (passed_list _ _ passed).size, b.rows) }
+    record {
+      in_list = first_in _ _ passed;
+      s_len_bound = b.bytes;
+      s_bound = omega (arith, (passed_list _ _ passed).size, b.rows);
+    }
 
 pub returns-in-Refused : goal.returns-in-Refused
-returns-in-Refused c = let refused = sym c.check.ensures.answer ∙ ap checked c.in-Refused.is in record { written_as = written_refused (listing-checked c.args.list.now (length c.args.out.now) refused); by_index = listing-refusal c.args.list.now (length c.args.out.now) (λ rows p. absurd (never _ _ rows (sym refused ∙ p))) }
+returns-in-Refused c =
+    let refused = sym c.check.ensures.answer ∙ ap checked c.in-Refused.is in record {
+      written_as = written_refused (listing-checked c.args.list.now (length c.args.out.now) refused);
+      by_index =
+          listing-refusal c.args.list.now (length c.args.out.now) (λ rows p. absurd (never _ _ rows (sym refused ∙ p)));
+    }
 
 pub returns-in-Passed : goal.returns-in-Passed
 returns-in-Passed c = record {

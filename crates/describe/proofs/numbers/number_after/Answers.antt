@@ -11,17 +11,20 @@ use Rattle.describe.proofs.Numbering.{name-begins, literal-number, negative_numb
 use Rattle.describe.proofs.numbers.number_after.Goals as goal
 
 pub integer-requires : goal.integer-requires
-integer-requires c = (subst (λ v. ValueOf c.args.s.now v c.requires.0.value) c.in-Literal.is c.requires.1.value).1.within
+integer-requires c =
+    (subst (λ v. ValueOf c.args.s.now v c.requires.0.value) c.in-Literal.is c.requires.1.value).1.within
 
 pub worth-size-requires : goal.worth-size-requires
-worth-size-requires c = let h = subst (λ v. ValueOf c.args.s.now v c.requires.0.value) c.in-Negative.is c.requires.1.value in
+worth-size-requires c =
+    let h = subst (λ v. ValueOf c.args.s.now v c.requires.0.value) c.in-Negative.is c.requires.1.value in
     record { end_in_bounds = h.1.within; s_value = ap negatable (sym h.1.bytes) ∙ h.2 }
 
 pub returns-in-Absent : goal.returns-in-Absent
 returns-in-Absent c = let z = number_of c.args.before in record {
   number_as = λ d a k p.
       let absent = subst (λ v. ValueOf c.args.s.now v a.value) c.in-Absent.is k.value in
-      number_as (ap (number_after z) absent) (following_placed z (point c.args.s.now d) p.name.place c.following.ensures);
+      number_as (ap (number_after z) absent)
+      (following_placed z (point c.args.s.now d) p.name.place c.following.ensures);
   number_in = λ d a p. number_in c.args.s.now c.following.ensures (name-begins p.name);
 }
 
@@ -55,6 +58,7 @@ pub returns-in-Negative : goal.returns-in-Negative
 returns-in-Negative c = let z = number_of c.args.before in record {
   number_as = λ d a k p.
       let negative = subst (λ v. ValueOf c.args.s.now v a.value) c.in-Negative.is k.value in
-      number_is (negative_number z c.in-Negative.t negative c.worth-size.ensures.value c.worth-size.ensures.upper_bound);
+      number_is (negative_number z c.in-Negative.t negative c.worth-size.ensures.value
+      c.worth-size.ensures.upper_bound);
   number_in = λ d a p. tt;
 }

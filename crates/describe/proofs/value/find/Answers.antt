@@ -28,7 +28,8 @@ pub variant-requires : goal.variant-requires
 variant-requires c = c.loop-v.invariant.0
 
 pub returns-then-left-eq0 : goal.returns-then-left-eq0
-returns-then-left-eq0 c = let read = meeting.say (contract.variant_shown c.args.s.now c.loop-v.c) contract.variant_said c.in-One.is
+returns-then-left-eq0 c =
+    let read = meeting.say (contract.variant_shown c.args.s.now c.loop-v.c) contract.variant_said c.in-One.is
     c.variant.ensures in
     λ vs i.
     let o = c.loop-v.invariant.3 vs i in
@@ -38,7 +39,8 @@ returns-then-left-eq0 c = let read = meeting.say (contract.variant_shown c.args.
     let m = inside-more reading.variant conserved.variant_round {told = told} o.1 read
     (λ v h. (h.0, h.1, (h.2, h.3))) in
     let value = o.2 ∙ value-first {k = c.loop-v.left} (omega arith) m.split in
-    let point = c.loop-v.invariant.2 ∙ variant-first {k = c.loop-v.left} (contract.point c.args.s.now c.loop-v.c) (omega arith) in
+    let point = c.loop-v.invariant.2 ∙ variant-first {k =
+    c.loop-v.left} (contract.point c.args.s.now c.loop-v.c) (omega arith) in
     record {
       value = subst⁻¹ (contract.ValueOf c.args.s.now c.in-One.v.value) value m.shown.0.value;
       place = transport-row c.args.s.now c.in-One.v.value (sym point) (sym value) m.shown.1.value;
@@ -51,11 +53,13 @@ loop-v-smaller c = let f = forward reading.variant conserved.variant_round
     (λ v h. (h.0, h.1, h.2)) in omega (arith, f.0, f.1.within)
 
 pub loop-v-preserved : goal.loop-v-preserved
-loop-v-preserved c = let read = meeting.say (contract.variant_shown c.args.s.now c.loop-v.c) contract.variant_said c.in-One.is
+loop-v-preserved c =
+    let read = meeting.say (contract.variant_shown c.args.s.now c.loop-v.c) contract.variant_said c.in-One.is
     c.variant.ensures in (
       (forward reading.variant conserved.variant_round read (λ v h. (h.0, h.1, h.2))).1,
       c.variant.auto.roles ∙ c.loop-v.invariant.1,
-      c.loop-v.invariant.2 ∙ variant_later c.loop-v.left _ _ (λ e. omega arith) (meets_beyond reading.variant read).here,
+      c.loop-v.invariant.2
+          ∙ variant_later c.loop-v.left _ _ (λ e. omega arith) (meets_beyond reading.variant read).here,
       λ vs i.
           let o = c.loop-v.invariant.3 vs i in
           let m = inside-more reading.variant conserved.variant_round o.1 read (λ v h. (h.0, h.1, h.2)) in

@@ -11,7 +11,9 @@ use Rattle.reading.specs.Place.{variant_at}
 use Rattle.describe.proofs.value.find.Given as goal
 
 abbrev pub invariant-loop-v : goal.invariant-loop-v
-invariant-loop-v l = InList l.s l.c × (length l.roles ≡ length l.initial.roles) × (variant_at l.position (contract.point l.s l.initial.c) ≡
+invariant-loop-v l =
+    InList l.s l.c × (length l.roles ≡ length l.initial.roles)
+    × (variant_at l.position (contract.point l.s l.initial.c) ≡
     variant_at l.left (contract.point l.s l.c))
     × ((vs : List declaration.Variant) → contract.InsideAt (reading.every reading.variant) l.s l.initial.c vs
     → (ws : List declaration.Variant) × contract.InsideAt (reading.every reading.variant) l.s l.c ws ×

@@ -5,7 +5,8 @@ use Rattle.describe.proofs.Answers.{placed_absent, placed_literal, placed_negati
 use Rattle.describe.proofs.value.put_value.Goals as goal
 
 pub worth-n-requires : goal.worth-n-requires
-worth-n-requires c = let h = subst (λ v. contract.ValueOf c.args.s.now v c.requires.value_of.0) c.in-Negative.is c.requires.value_of.1 in
+worth-n-requires c =
+    let h = subst (λ v. contract.ValueOf c.args.s.now v c.requires.value_of.0) c.in-Negative.is c.requires.value_of.1 in
     record { end_in_bounds = h.1.within; s_value = ap negatable (sym h.1.bytes) ∙ h.2 }
 
 pub returns-in-Absent : goal.returns-in-Absent
@@ -17,4 +18,5 @@ returns-in-Literal c = λ x w k room. placed_literal x w k _ _ _ c.in-Literal.is
 
 pub returns-in-Negative : goal.returns-in-Negative
 returns-in-Negative c = λ x w k room.
-    placed_negative x w k _ c.in-Negative.is c.worth-n.ensures.value c.worth-n.ensures.upper_bound c.put_negative-len.ensures room
+    placed_negative x w k _ c.in-Negative.is c.worth-n.ensures.value c.worth-n.ensures.upper_bound
+    c.put_negative-len.ensures room

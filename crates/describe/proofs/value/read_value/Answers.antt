@@ -20,7 +20,8 @@ value-v-requires c = (meets_tells
     (from_start c.item.result c.start-c.ensures c.item.ensures))).4.0.body.in_list
 
 pub put_value-requires : goal.put_value-requires
-put_value-requires c = let m = meets_tells (meeting.say (item_shown c.args.s.now (start_of c.args.s.now)) item_said c.in-At.is
+put_value-requires c =
+    let m = meets_tells (meeting.say (item_shown c.args.s.now (start_of c.args.s.now)) item_said c.in-At.is
     (from_start c.item.result c.start-c.ensures c.item.ensures)) in
     record { value_of = (_, (c.value-v.ensures _ m.4.0.body).value); s_len_bound = c.requires.s_len_bound }
 
@@ -31,7 +32,8 @@ returns-in-Refused c = let e = (meets_refusal (meeting.say (item_shown c.args.s.
     placed_refused _ (ap (item_answer (start c.args.s.now) c.args.position) e)
 
 pub returns-in-At : goal.returns-in-At
-returns-in-At c = let m = meets_tells (meeting.say (item_shown c.args.s.now (start_of c.args.s.now)) item_said c.in-At.is
+returns-in-At c =
+    let m = meets_tells (meeting.say (item_shown c.args.s.now (start_of c.args.s.now)) item_said c.in-At.is
     (from_start c.item.result c.start-c.ensures c.item.ensures)) in
     let there = ap (λ (x : Point). variant_at c.args.position (inside x)) m.4.1.body.here in
     let v = subst (λ (x : Point). ValueAs c.args.s.now x c.value-v.result (body_value c.args.position m.0.body))

@@ -9,7 +9,8 @@ use Rattle.describe.specs.Value.{body_value}
 use Rattle.describe.proofs.value.value.Goals as goal
 
 pub past-inside-requires : goal.past-inside-requires
-past-inside-requires c = record { in_list = c.requires; token_at = (meeting.peeked _ _ c.peek.ensures c.in-Group.is).token }
+past-inside-requires c =
+    record { in_list = c.requires; token_at = (meeting.peeked _ _ c.peek.ensures c.in-Group.is).token }
 
 pub find-requires : goal.find-requires
 find-requires c = meeting.past_in_of _ _ _ _ c.past-inside.ensures c.requires
@@ -42,6 +43,7 @@ returns-in-Group c = let group = meeting.peeked _ _ c.peek.ensures c.in-Group.is
     let g = enum_group body _ _ group c.past-inside.ensures in
     let there = inside-point c.args.s.now c.args.d.body c.past-inside.result _ group c.past-inside.ensures in
     subst (λ x. ValueAs c.args.s.now (variant_at c.args.position x) c.find.result (body_value c.args.position b)) there
-    (subst⁻¹ (λ x. ValueAs c.args.s.now (variant_at c.args.position (contract.point c.args.s.now c.past-inside.result)) c.find.result
+    (subst⁻¹ (λ x. ValueAs c.args.s.now (variant_at c.args.position (contract.point c.args.s.now c.past-inside.result))
+    c.find.result
     (body_value c.args.position x)) g.1
     (c.find.ensures g.0 g.2))

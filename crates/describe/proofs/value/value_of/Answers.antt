@@ -9,23 +9,35 @@ use Rattle.token_list.proofs.Bounds.{bounds}
 use Rattle.describe.proofs.value.value_of.Goals as goal
 
 pub returns-then-scratch-lt-SCRATCH_BYTES : goal.returns-then-scratch-lt-SCRATCH_BYTES
-returns-then-scratch-lt-SCRATCH_BYTES c = let e = value-short c.args.list.now c.args.position (length c.args.scratch.now)
+returns-then-scratch-lt-SCRATCH_BYTES c =
+    let e = value-short c.args.list.now c.args.position (length c.args.scratch.now)
     (sym c.check.ensures.answer ∙ ap checked c.in-Passed.is)
     (omega arith) in
-    record { placed = placed_refused _ e; by_index = value-refusal c.args.list.now c.args.position (length c.args.scratch.now) }
+    record {
+      placed = placed_refused _ e;
+      by_index = value-refusal c.args.list.now c.args.position (length c.args.scratch.now);
+    }
 
 pub read_value-requires : goal.read_value-requires
 read_value-requires c = let passed = sym c.check.ensures.answer ∙ ap checked c.in-Passed.is in
-    record { in_list = first_in _ _ passed; in_bounds = omega arith; s_len_bound = (bounds c.args.list.now passed).bytes }
+    record {
+      in_list = first_in _ _ passed;
+      in_bounds = omega arith;
+      s_len_bound = (bounds c.args.list.now passed).bytes;
+    }
 
 pub returns-in-Refused : goal.returns-in-Refused
 returns-in-Refused c = let e = value-checked c.args.list.now c.args.position (length c.args.scratch.now)
     (sym c.check.ensures.answer ∙ ap checked c.in-Refused.is) in
-    record { placed = placed_refused _ e; by_index = value-refusal c.args.list.now c.args.position (length c.args.scratch.now) }
+    record {
+      placed = placed_refused _ e;
+      by_index = value-refusal c.args.list.now c.args.position (length c.args.scratch.now);
+    }
 
 pub returns-else-scratch-lt-SCRATCH_BYTES : goal.returns-else-scratch-lt-SCRATCH_BYTES
-returns-else-scratch-lt-SCRATCH_BYTES c = let passed = sym c.check.ensures.answer ∙ ap checked c.in-Passed.is in record {
-  placed = placed_as (value_read c.args.list.now c.args.position (length c.args.scratch.now) passed (omega arith))
-      c.read_value.ensures;
-  by_index = value-refusal c.args.list.now c.args.position (length c.args.scratch.now);
-}
+returns-else-scratch-lt-SCRATCH_BYTES c =
+    let passed = sym c.check.ensures.answer ∙ ap checked c.in-Passed.is in record {
+      placed = placed_as (value_read c.args.list.now c.args.position (length c.args.scratch.now) passed (omega arith))
+          c.read_value.ensures;
+      by_index = value-refusal c.args.list.now c.args.position (length c.args.scratch.now);
+    }

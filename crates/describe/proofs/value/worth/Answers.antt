@@ -9,16 +9,20 @@ pub bounds-s-i : goal.bounds-s-i
 bounds-s-i c = omega (arith, c.requires.end_in_bounds)
 
 pub overflow_sub-digit : goal.overflow_sub-digit
-overflow_sub-digit c = omega (arith, (counting_next _ _ c.requires.end_in_bounds c.loop-i.i (omega arith) c.loop-i.invariant).0)
+overflow_sub-digit c =
+    omega (arith, (counting_next _ _ c.requires.end_in_bounds c.loop-i.i (omega arith) c.loop-i.invariant).0)
 
 pub overflow_mul-tens : goal.overflow_mul-tens
-overflow_mul-tens c = omega (arith, (counting_next _ _ c.requires.end_in_bounds c.loop-i.i (omega arith) c.loop-i.invariant).2)
+overflow_mul-tens c =
+    omega (arith, (counting_next _ _ c.requires.end_in_bounds c.loop-i.i (omega arith) c.loop-i.invariant).2)
 
 pub overflow_cast-n : goal.overflow_cast-n
-overflow_cast-n c = omega (arith, (counting_next _ _ c.requires.end_in_bounds c.loop-i.i (omega arith) c.loop-i.invariant).1)
+overflow_cast-n c =
+    omega (arith, (counting_next _ _ c.requires.end_in_bounds c.loop-i.i (omega arith) c.loop-i.invariant).1)
 
 pub overflow_add-n : goal.overflow_add-n
-overflow_add-n c = omega (arith, (counting_next _ _ c.requires.end_in_bounds c.loop-i.i (omega arith) c.loop-i.invariant).2)
+overflow_add-n c =
+    omega (arith, (counting_next _ _ c.requires.end_in_bounds c.loop-i.i (omega arith) c.loop-i.invariant).2)
 
 pub loop-i-preserved : goal.loop-i-preserved
 loop-i-preserved c = (counting_next _ _ c.requires.end_in_bounds c.loop-i.i (omega arith) c.loop-i.invariant).3

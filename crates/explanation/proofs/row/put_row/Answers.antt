@@ -24,6 +24,7 @@ loop-i-preserved c = let more : c.loop-i.i < length c.args.row.now = omega arith
 
 pub returns : goal.returns
 returns c = let at-end : length c.args.row.now ≤ c.loop-i.i = omega arith in
-    let all : take c.loop-i.i c.args.row.now ≡ take c.args.most c.args.row.now = take_all c.loop-i.i c.args.row.now at-end ∙ sym (take_all c.args.most c.args.row.now
+    let all : take c.loop-i.i c.args.row.now ≡ take c.args.most c.args.row.now =
+    take_all c.loop-i.i c.args.row.now at-end ∙ sym (take_all c.args.most c.args.row.now
     (omega arith)) in
     retold (ap shown all) c.loop-i.invariant.2

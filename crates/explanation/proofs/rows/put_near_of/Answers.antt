@@ -10,7 +10,8 @@ use Rattle.explanation.proofs.Texts.{not_near, near_here, near_none}
 use Rattle.explanation.proofs.rows.put_near_of.Goals as goal
 
 pub returns-then-not-is_near : goal.returns-then-not-is_near
-returns-then-not-is_near c = let none = not_near c.args.place c.args.count c.args.n (bytes_from c.args.list.now c.args.from)
+returns-then-not-is_near c =
+    let none = not_near c.args.place c.args.count c.args.n (bytes_from c.args.list.now c.args.from)
     (sym c.is_near.ensures ∙ not-true _ (ap not c.if-not-is_near.true)) in
     retold none (nothing _ _ (omega (arith, c.type_inv)))
 

@@ -33,7 +33,8 @@ loop-i-preserved c = let all = bytes_from c.args.list.now (first_row c.args.list
     )
 
 pub returns : goal.returns
-returns c = retold (ap (λ (rs : List ℕ). role_rows 0 rs (bytes_from c.args.list.now (first_row c.args.list.now))) (take_all
+returns c =
+    retold (ap (λ (rs : List ℕ). role_rows 0 rs (bytes_from c.args.list.now (first_row c.args.list.now))) (take_all
     c.loop-i.i c.args.roles.now
     (omega arith)))
     c.loop-i.invariant.3

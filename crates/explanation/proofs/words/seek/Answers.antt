@@ -13,7 +13,11 @@ pub next_at-c-requires : goal.next_at-c-requires
 next_at-c-requires c = c.loop-i.invariant.1
 
 pub loop-i-preserved : goal.loop-i-preserved
-loop-i-preserved c = (omega arith, counted_on c.next_at-c.ensures c.loop-i.invariant.1, dropped_more c.args.text.now 0 c.loop-i.i c.next_at-c.ensures c.loop-i.invariant.2)
+loop-i-preserved c = (
+  omega arith,
+  counted_on c.next_at-c.ensures c.loop-i.invariant.1,
+  dropped_more c.args.text.now 0 c.loop-i.i c.next_at-c.ensures c.loop-i.invariant.2,
+)
 
 pub returns : goal.returns
 returns c = let done : c.loop-i.i ≡ c.args.k = omega arith in

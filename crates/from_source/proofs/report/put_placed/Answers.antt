@@ -9,7 +9,9 @@ use Rattle.from_source.proofs.report.put_placed.Goals as goal
 
 pub returns : goal.returns
 unfolding placed_text
-returns c = let few = placed_few c.args.s.now c.args.refusal.number c.args.refusal.place (omega (arith, c.type_inv)) (omega (arith, c.type_inv))
+returns c =
+    let few = placed_few c.args.s.now c.args.refusal.number c.args.refusal.place (omega (arith, c.type_inv))
+    (omega (arith, c.type_inv))
     (omega (arith, c.type_inv)) in
     let stands = retold (ap (position_text c.args.s.now) c.place_offset-offset.ensures) c.put_position-end.ensures in
     let text = joined c.put_bytes-names.ensures

@@ -5,4 +5,5 @@ use Rattle.from_source.proofs.report.report_listing.Goals as goal
 
 pub returns : goal.returns
 returns c = let few = report_short c.args.text.now _ c.write_listing-answer.ensures.source_written_as in
-    reported c.args.text.now (c.put_listing.ensures.by_index _ _ c.write_listing-answer.ensures.source_written_as) (omega (arith, c.put_listing.ensures.upper_bound, few)) c.write_listing-answer.ensures.by_index
+    reported c.args.text.now (c.put_listing.ensures.by_index _ _ c.write_listing-answer.ensures.source_written_as)
+    (omega (arith, c.put_listing.ensures.upper_bound, few)) c.write_listing-answer.ensures.by_index

@@ -47,6 +47,7 @@ pub shape_of-out-then-n-room : goal.shape_of-out-then-n-room
 shape_of-out-then-n-room c = simp length-set (simp (length-sets, length-set) at (ap length c.copy_bytes.ensures))
 
 pub returns-then-n-room : goal.returns-then-n-room
-returns-then-n-room c = let stored = row-stored c.args.out.now c.args.at c.args.kind c.args.text.now c.copy_bytes.ensures in
+returns-then-n-room c =
+    let stored = row-stored c.args.out.now c.args.at c.args.kind c.args.text.now c.copy_bytes.ensures in
     let long = row-long c.args.kind c.args.text.now in
     appended_stored (omega (arith, long)) stored

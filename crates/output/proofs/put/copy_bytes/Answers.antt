@@ -24,7 +24,9 @@ pub bounds-out-to : goal.bounds-out-to
 bounds-out-to c = omega (arith, simp length-sets at (ap length c.loop-i.invariant.1))
 
 pub loop-i-preserved : goal.loop-i-preserved
-loop-i-preserved c = let stored = ap (λ (x : List ℕ). set x (c.args.at + c.loop-i.i) (get_or c.args.text.now c.loop-i.i 0)) c.loop-i.invariant.1 in
+loop-i-preserved c =
+    let stored =
+    ap (λ (x : List ℕ). set x (c.args.at + c.loop-i.i) (get_or c.args.text.now c.loop-i.i 0)) c.loop-i.invariant.1 in
     let more : c.loop-i.i < length c.args.text.now = omega arith in
     (omega arith, stored ∙ rw add-one (sym (one_more c.args.out.now c.args.at c.args.text.now c.loop-i.i more)))
 

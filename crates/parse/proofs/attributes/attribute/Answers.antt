@@ -14,4 +14,8 @@ returns-then-not-stands_punct c = (
 )
 
 pub after_hash-requires : goal.after_hash-requires
-after_hash-requires c = record { in_list = c.requires; c_value = sym c.stands_punct.ensures ∙ not-false _ (ap not c.if-not-stands_punct.false) }
+after_hash-requires c =
+    record {
+      in_list = c.requires;
+      c_value = sym c.stands_punct.ensures ∙ not-false _ (ap not c.if-not-stands_punct.false);
+    }

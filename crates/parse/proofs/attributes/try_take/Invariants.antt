@@ -6,7 +6,9 @@ use Rattle.reading.specs.Reading as reading
 use Rattle.parse.proofs.attributes.try_take.Given as goal
 
 abbrev pub invariant-loop-a : goal.invariant-loop-a
-invariant-loop-a l = Gathering l.s l.initial.c l.initial.roles l.c l.roles (reading.attributes l.initial.c.row (contract.stream l.s l.initial.c))
+invariant-loop-a l =
+    Gathering l.s l.initial.c l.initial.roles l.c l.roles
+    (reading.attributes l.initial.c.row (contract.stream l.s l.initial.c))
     (reading.attributes l.c.row (contract.stream l.s l.c))
 
 abbrev pub decreases-loop-a : goal.decreases-loop-a

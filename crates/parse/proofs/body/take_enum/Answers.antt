@@ -18,17 +18,20 @@ returns-then-not-is_punct c = meeting.meets_refused reading.enum_body _ _ c.requ
     c.is_punct.ensures ∙ not-true _ (ap not c.if-not-is_punct.true)))
 
 pub take_token-next-requires : goal.take_token-next-requires
-take_token-next-requires c = record { in_list = c.requires; token_at = (meeting.peeked _ _ c.peek.ensures c.in-Leaf.is).token }
+take_token-next-requires c =
+    record { in_list = c.requires; token_at = (meeting.peeked _ _ c.peek.ensures c.in-Leaf.is).token }
 
 pub variants_group-requires : goal.variants_group-requires
-variants_group-requires c = record { in_list = c.requires; group_at = (meeting.peeked _ _ c.peek.ensures c.in-Group.is) }
+variants_group-requires c =
+    record { in_list = c.requires; group_at = (meeting.peeked _ _ c.peek.ensures c.in-Group.is) }
 
 pub returns-in-Nothing : goal.returns-in-Nothing
 returns-in-Nothing c = meeting.meets_refused reading.enum_body _ _ c.requires _ _ _ _ _
     (meeting.peeked _ _ c.peek.ensures c.in-Nothing.is) refl
 
 pub returns-else-not-is_punct : goal.returns-else-not-is_punct
-returns-else-not-is_punct c = meeting.meets_leaf reading.enum_body _ _ c.requires _ _ (meeting.peeked _ _ c.peek.ensures c.in-Leaf.is) _ _ _ _
+returns-else-not-is_punct c =
+    meeting.meets_leaf reading.enum_body _ _ c.requires _ _ (meeting.peeked _ _ c.peek.ensures c.in-Leaf.is) _ _ _ _
     c.take_token-next.ensures.value c.take_token-next.ensures.roles_after _
     (chosen _ _ _
     (meeting.punct_of _ _ _ _ (meeting.peeked _ _ c.peek.ensures c.in-Leaf.is).token ∙ sym

@@ -18,7 +18,8 @@ returns-then-not-is_punct c = meeting.meets_refused reading.struct_body_lem _ _ 
     c.is_punct.ensures ∙ not-true _ (ap not c.if-not-is_punct.true)))
 
 pub take_token-next-requires : goal.take_token-next-requires
-take_token-next-requires c = record { in_list = c.requires; token_at = (meeting.peeked _ _ c.peek.ensures c.in-Leaf.is).token }
+take_token-next-requires c =
+    record { in_list = c.requires; token_at = (meeting.peeked _ _ c.peek.ensures c.in-Leaf.is).token }
 
 pub named_group-requires : goal.named_group-requires
 named_group-requires c = record { in_list = c.requires; group_at = (meeting.peeked _ _ c.peek.ensures c.in-Group.is) }
@@ -55,7 +56,9 @@ returns-in-Nothing c = meeting.meets_refused reading.struct_body_lem _ _ c.requi
     (meeting.peeked _ _ c.peek.ensures c.in-Nothing.is) refl
 
 pub returns-else-not-is_punct : goal.returns-else-not-is_punct
-returns-else-not-is_punct c = meeting.meets_leaf reading.struct_body_lem _ _ c.requires _ _ (meeting.peeked _ _ c.peek.ensures c.in-Leaf.is) _ _ _ _
+returns-else-not-is_punct c =
+    meeting.meets_leaf reading.struct_body_lem _ _ c.requires _ _ (meeting.peeked _ _ c.peek.ensures c.in-Leaf.is) _ _ _
+    _
     c.take_token-next.ensures.value c.take_token-next.ensures.roles_after _
     (chosen _ _ _
     (meeting.punct_of _ _ _ _ (meeting.peeked _ _ c.peek.ensures c.in-Leaf.is).token ∙ sym

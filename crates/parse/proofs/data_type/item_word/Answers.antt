@@ -8,7 +8,8 @@ use mathlib.Core.Path.{refl, sym, ◌∙◌, ap}
 use Rattle.parse.proofs.data_type.item_word.Goals as goal
 
 pub returns-then-text_is : goal.returns-then-text_is
-returns-then-text_is c = meeting.meets_word reading.named_kind _ (meeting.say_word c.in-Found.is c.consume_ident.ensures)
+returns-then-text_is c =
+    meeting.meets_word reading.named_kind _ (meeting.say_word c.in-Found.is c.consume_ident.ensures)
     (λ text h.
     meeting.meets_as
     (heads.kind_struct text c.in-Found.w.row c.in-Found.w.next.row
@@ -17,7 +18,8 @@ returns-then-text_is c = meeting.meets_word reading.named_kind _ (meeting.say_wo
     (meeting.meets_stay _ _ _ _ _ (meeting.landed (meeting.say_word c.in-Found.is c.consume_ident.ensures)) refl))
 
 pub returns-then-text_is-2 : goal.returns-then-text_is-2
-returns-then-text_is-2 c = meeting.meets_word reading.named_kind _ (meeting.say_word c.in-Found.is c.consume_ident.ensures)
+returns-then-text_is-2 c =
+    meeting.meets_word reading.named_kind _ (meeting.say_word c.in-Found.is c.consume_ident.ensures)
     (λ text h.
     meeting.meets_as
     (heads.kind_enum text c.in-Found.w.row c.in-Found.w.next.row
@@ -33,7 +35,8 @@ returns-in-Missing c = meeting.meets_missing reading.named_kind
     (meeting.meets_wrong _ _ c.wrong_token.ensures)
 
 pub returns-else-text_is-2 : goal.returns-else-text_is-2
-returns-else-text_is-2 c = meeting.meets_word reading.named_kind _ (meeting.say_word c.in-Found.is c.consume_ident.ensures)
+returns-else-text_is-2 c =
+    meeting.meets_word reading.named_kind _ (meeting.say_word c.in-Found.is c.consume_ident.ensures)
     (λ text h.
     meeting.meets_as
     (heads.kind_other text c.in-Found.w.row c.in-Found.w.next.row

@@ -25,10 +25,12 @@ split : (row : ℕ) (ts : Trees) → reading.data_type row ts ≡ after row (con
 split row ts = sym (meeting.after_assoc row (reading.word role.item-word row ts) reading.named_kind rest)
 
 pub consume_ident-requires : goal.consume_ident-requires
-consume_ident-requires c = meeting.landed (meeting.say contract.kind_shown contract.kind_said c.in-At.is c.item_word.ensures)
+consume_ident-requires c =
+    meeting.landed (meeting.say contract.kind_shown contract.kind_said c.in-At.is c.item_word.ensures)
 
 pub wrong_token-requires : goal.wrong_token-requires
-wrong_token-requires c = meeting.landed (meeting.say contract.kind_shown contract.kind_said c.in-At.is c.item_word.ensures)
+wrong_token-requires c =
+    meeting.landed (meeting.say contract.kind_shown contract.kind_said c.in-At.is c.item_word.ensures)
 
 pub returns-in-Refused : goal.returns-in-Refused
 returns-in-Refused c = meeting.meets_as (split c.args.c.row (contract.stream c.args.s.now c.args.c))

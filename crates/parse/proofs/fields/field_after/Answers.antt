@@ -32,7 +32,8 @@ pub returns-then-not-p : goal.returns-then-not-p
 returns-then-not-p c = λ p n.
     meeting.meets_then (colon p n) c.consume_punct_if-p.ensures.meets
     (λ t e. meeting.meets_as
-    (ap (λ x. colon p n x c.consume_punct_if-p.result.next.row (contract.stream c.args.s.now c.consume_punct_if-p.result.next)) (sym e ∙ not-true _ c.if-not-p.true))
+    (ap (λ x. colon p n x c.consume_punct_if-p.result.next.row
+    (contract.stream c.args.s.now c.consume_punct_if-p.result.next)) (sym e ∙ not-true _ c.if-not-p.true))
     (meeting.meets_wrong _ _ c.wrong_token.ensures))
 
 pub field_type-requires : goal.field_type-requires
@@ -45,9 +46,12 @@ returns c = let ts = contract.stream c.args.s.now c.consume_punct_if-p.result.ne
     let past = (places.meets_beyond (reading.punct_if COLON role.separator) c.consume_punct_if-p.ensures.meets).here ∙
     places.punct_past COLON role.separator (contract.point c.args.s.now c.args.c) stands in
     λ p n. meeting.meets_then (colon p n) c.consume_punct_if-p.ensures.meets
-    (λ t e. meeting.meets_as (ap (λ x. colon p n x c.consume_punct_if-p.result.next.row ts) (sym e ∙ not-false _ c.if-not-p.false) ∙
+    (λ t e. meeting.meets_as (ap (λ x. colon p n x c.consume_punct_if-p.result.next.row ts) (sym e
+    ∙ not-false _ c.if-not-p.false) ∙
     meeting.pure_then (tt {0}) (λ u. typed p n) c.consume_punct_if-p.result.next.row ts)
-    (meeting.meets_as (bodies.comma_as c.consume_punct_if-p.result.next.row (reading.run reading.field_stops role.type c.consume_punct_if-p.result.next.row ts) (made p n))
+    (meeting.meets_as
+    (bodies.comma_as c.consume_punct_if-p.result.next.row
+    (reading.run reading.field_stops role.type c.consume_punct_if-p.result.next.row ts) (made p n))
     (meeting.meets_map c.consume_punct_if-p.result.next.row (λ f. reading.one (made p n f))
     (λ f k. (f, refl, subst (λ (x : Point). contract.type_at_shown c.args.s.now x c.field_type.result f) past k))
     c.field_type.ensures)))

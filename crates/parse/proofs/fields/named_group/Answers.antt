@@ -6,23 +6,30 @@ use Rattle.reading.specs.Reading as reading
 use Rattle.parse.proofs.fields.named_group.Goals as goal
 
 pub parse_with_name-requires : goal.parse_with_name-requires
-parse_with_name-requires c = meeting.past_in_of _ _ _ _ c.take_token-inside.ensures.value c.requires.in_list c.requires.group_at.token
+parse_with_name-requires c =
+    meeting.past_in_of _ _ _ _ c.take_token-inside.ensures.value c.requires.in_list c.requires.group_at.token
 
 pub close_group-after-requires : goal.close_group-after-requires
 close_group-after-requires c = record {
   in_list = meeting.landed (meeting.say contract.count_shown contract.count_said c.in-At.is c.parse_with_name.ensures);
-  at_value = bodies.closing-follows _ _ _ _ c.requires.in_list c.requires.group_at c.args.roles.now _ c.take_token-inside.ensures.value
+  at_value =
+      bodies.closing-follows _ _ _ _ c.requires.in_list c.requires.group_at c.args.roles.now _
+      c.take_token-inside.ensures.value
       c.take_token-inside.ensures.roles_after
       (meeting.say contract.count_shown contract.count_said c.in-At.is c.parse_with_name.ensures);
 }
 
 pub returns-in-Refused : goal.returns-in-Refused
-returns-in-Refused c = bodies.group_refused _ _ _ _ c.requires.in_list c.requires.group_at c.args.roles.now _ c.take_token-inside.ensures.value
+returns-in-Refused c =
+    bodies.group_refused _ _ _ _ c.requires.in_list c.requires.group_at c.args.roles.now _
+    c.take_token-inside.ensures.value
     c.take_token-inside.ensures.roles_after (reading.every reading.named_field)
     (meeting.say contract.count_shown contract.count_said c.in-Refused.is c.parse_with_name.ensures)
 
 pub returns-in-At : goal.returns-in-At
-returns-in-At c = bodies.group_closed _ _ _ _ c.requires.in_list c.requires.group_at c.args.roles.now _ c.take_token-inside.ensures.value c.take_token-inside.ensures.roles_after
+returns-in-At c =
+    bodies.group_closed _ _ _ _ c.requires.in_list c.requires.group_at c.args.roles.now _
+    c.take_token-inside.ensures.value c.take_token-inside.ensures.roles_after
     (reading.every reading.named_field) (conserved.every-ended conserved.named_field_turning)
     (meeting.say contract.count_shown contract.count_said c.in-At.is c.parse_with_name.ensures)
     c.close_group-after.ensures.roles_after c.close_group-after.ensures.skipped

@@ -6,7 +6,9 @@ use Prim.Native.Nat.{◌-◌}
 use Rattle.parse.proofs.fields.parse_with_name.Given as goal
 
 abbrev pub invariant-loop-next : goal.invariant-loop-next
-invariant-loop-next l = Rounded l.s l.initial.c l.initial.roles l.c l.roles l.count (reading.every reading.named_field l.initial.c.row (contract.stream l.s l.initial.c))
+invariant-loop-next l =
+    Rounded l.s l.initial.c l.initial.roles l.c l.roles l.count
+    (reading.every reading.named_field l.initial.c.row (contract.stream l.s l.initial.c))
     (reading.every reading.named_field l.c.row (contract.stream l.s l.c))
 
 abbrev pub decreases-loop-next : goal.decreases-loop-next

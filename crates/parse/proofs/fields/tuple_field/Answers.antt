@@ -3,7 +3,8 @@ use Rattle.parse.specs.Contract as contract
 use Rattle.parse.proofs.fields.tuple_field.Goals as goal
 
 pub returns-in-Refused : goal.returns-in-Refused
-returns-in-Refused c = meeting.meets_none (meeting.say (contract.unnamed_shown c.args.s.now c.args.c) contract.unnamed_said c.in-Refused.is
+returns-in-Refused c =
+    meeting.meets_none (meeting.say (contract.unnamed_shown c.args.s.now c.args.c) contract.unnamed_said c.in-Refused.is
     c.tuple_field_at.ensures)
 
 pub returns-in-Done : goal.returns-in-Done

@@ -52,7 +52,8 @@ returns-in-At c = let there = sym c.consume_punct_if-p.ensures.taken_value ∙ n
     let run = meeting.say (contract.run_shown c.args.s.now reading.parameter_stops role.bound
     c.consume_punct_if-p.result.next) contract.run_said c.in-At.is
     c.read_tokens_until_punct.ensures in
-    let past = (places.meets_beyond (reading.punct_if c.args.punct role.separator) c.consume_punct_if-p.ensures.meets).here ∙
+    let past = (places.meets_beyond (reading.punct_if c.args.punct role.separator)
+    c.consume_punct_if-p.ensures.meets).here ∙
     places.punct_past c.args.punct role.separator (contract.point c.args.s.now c.args.c) there in
     meeting.meets_then run_or c.consume_punct_if-p.ensures.meets
     (λ t e. meeting.meets_as

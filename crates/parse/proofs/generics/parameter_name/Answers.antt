@@ -12,7 +12,8 @@ returns-then-t-ne105 c = meeting.meets_refused (reading.parameter_name c.args.nu
     (passed_over _ _ _ (ne_eqb _ _ c.if-t-ne105.true))
 
 pub take_token-next-requires : goal.take_token-next-requires
-take_token-next-requires c = record { in_list = c.requires; token_at = (meeting.peeked _ _ c.peek.ensures c.in-Leaf.is).token }
+take_token-next-requires c =
+    record { in_list = c.requires; token_at = (meeting.peeked _ _ c.peek.ensures c.in-Leaf.is).token }
 
 pub returns-in-Nothing : goal.returns-in-Nothing
 returns-in-Nothing c = meeting.meets_refused (reading.parameter_name c.args.number c.args.or) _ _ c.requires _ _ _ _ _
@@ -24,7 +25,8 @@ returns-in-Group c = meeting.meets_refused (reading.parameter_name c.args.number
 
 pub returns-else-t-ne105 : goal.returns-else-t-ne105
 returns-else-t-ne105 c = meeting.meets_leaf (reading.parameter_name c.args.number c.args.or) _ _ c.requires _ _
-    (meeting.peeked _ _ c.peek.ensures c.in-Leaf.is) _ _ _ _ c.take_token-next.ensures.value c.take_token-next.ensures.roles_after _
+    (meeting.peeked _ _ c.peek.ensures c.in-Leaf.is) _ _ _ _ c.take_token-next.ensures.value
+    c.take_token-next.ensures.roles_after _
     (chosen _ _ _ (eq-eqb _ _ c.if-t-ne105.false)) (
       record {
         bytes = refl;
@@ -32,5 +34,6 @@ returns-else-t-ne105 c = meeting.meets_leaf (reading.parameter_name c.args.numbe
             c.in-Leaf.is).token;
       },
       places.token_in _ _ _ c.requires (meeting.peeked _ _ c.peek.ensures c.in-Leaf.is).token,
-      places.token_past _ _ _ _ c.requires (meeting.peeked _ _ c.peek.ensures c.in-Leaf.is) c.take_token-next.ensures.value,
+      places.token_past _ _ _ _ c.requires (meeting.peeked _ _ c.peek.ensures c.in-Leaf.is)
+          c.take_token-next.ensures.value,
     )

@@ -7,7 +7,8 @@ use mathlib.Core.Path.{subst, subst⁻¹}
 use Rattle.parse.proofs.generics.simple_generic.Goals as goal
 
 pub parameter_end-requires : goal.parameter_end-requires
-parameter_end-requires c = meeting.landed (meeting.say (contract.type_shown c.args.s.now (contract.point c.args.s.now c.args.c) [])
+parameter_end-requires c =
+    meeting.landed (meeting.say (contract.type_shown c.args.s.now (contract.point c.args.s.now c.args.c) [])
     contract.parameter_run_said c.in-At.is (c.bounds_or_default.ensures []))
 
 pub returns-in-Refused : goal.returns-in-Refused
@@ -23,5 +24,6 @@ returns-in-At c = λ n x h place past.
     contract.parameter_run_said c.in-At.is (c.bounds_or_default.ensures n))
     (λ a k. c.parameter_end.ensures a x
     (record { kind = k.0; text = subst⁻¹ (contract.TextOf c.args.s.now c.args.name) k.1 h }) place
-    (subst (λ (p : Point). contract.ParameterRunAt c.args.s.now p (contract.bound_of_lem a) (contract.default_of a) c.in-At.part c.in-At.run')
+    (subst (λ (p : Point). contract.ParameterRunAt c.args.s.now p (contract.bound_of_lem a) (contract.default_of a)
+    c.in-At.part c.in-At.run')
     past k.2))

@@ -12,7 +12,8 @@ use Rattle.parse.proofs.Meeting.{stands-row, meets_same, meets_from, meets_map, 
 use Rattle.parse.proofs.generics.try_take.Goals as goal
 
 pub returns-then-not-stands_punct : goal.returns-then-not-stands_punct
-returns-then-not-stands_punct c = let none = sym c.stands_punct.ensures ∙ not-true _ (ap not c.if-not-stands_punct.true) in
+returns-then-not-stands_punct c =
+    let none = sym c.stands_punct.ensures ∙ not-true _ (ap not c.if-not-stands_punct.true) in
     meets_same generics _ _ c.requires _ _ _ _ refl
     (no_generics c.args.c.row (stream c.args.s.now c.args.c) none) refl
 
@@ -25,6 +26,7 @@ parameters-requires c = past_in_of _ _ _ _ c.take_token-next.ensures.value c.req
 
 pub returns : goal.returns
 returns c = let stands = sym c.stands_punct.ensures ∙ not-false _ (ap not c.if-not-stands_punct.false) in
-    meets_from generics _ _ c.requires _ _ c.punct_at-t.ensures _ _ _ _ c.take_token-next.ensures.value c.take_token-next.ensures.roles_after _ _
+    meets_from generics _ _ c.requires _ _ c.punct_at-t.ensures _ _ _ _ c.take_token-next.ensures.value
+    c.take_token-next.ensures.roles_after _ _
     (generics_after c.args.c.row) (chosen _ _ _ (stands-row LESS c.punct_at-t.ensures stands))
     (meets_map _ angled (λ ps h. h) c.parameters.ensures)

@@ -28,17 +28,22 @@ returns-then-not-ident_eq c = let l = meeting.peeked _ _ c.peek.ensures c.in-Lea
     (passed_over _ _ _ (sym c.ident_eq.ensures ∙ not-true _ (ap not c.if-not-ident_eq.true))) refl
 
 pub take_token-next-requires : goal.take_token-next-requires
-take_token-next-requires c = record { in_list = c.requires; token_at = (meeting.peeked _ _ c.peek.ensures c.in-Leaf.is).token }
+take_token-next-requires c =
+    record { in_list = c.requires; token_at = (meeting.peeked _ _ c.peek.ensures c.in-Leaf.is).token }
 
 pub read_tokens_until_punct-requires : goal.read_tokens_until_punct-requires
-read_tokens_until_punct-requires c = meeting.past_in_of _ _ _ _ c.take_token-next.ensures.value c.requires (meeting.peeked _ _ c.peek.ensures c.in-Leaf.is).token
+read_tokens_until_punct-requires c =
+    meeting.past_in_of _ _ _ _ c.take_token-next.ensures.value c.requires
+    (meeting.peeked _ _ c.peek.ensures c.in-Leaf.is).token
 
 pub returns-in-Nothing : goal.returns-in-Nothing
-returns-in-Nothing c = meeting.meets_same reading.clause _ _ c.requires _ _ _ _ (meeting.peeked _ _ c.peek.ensures c.in-Nothing.is) refl
+returns-in-Nothing c =
+    meeting.meets_same reading.clause _ _ c.requires _ _ _ _ (meeting.peeked _ _ c.peek.ensures c.in-Nothing.is) refl
     refl
 
 pub returns-in-Group : goal.returns-in-Group
-returns-in-Group c = meeting.meets_same reading.clause _ _ c.requires _ _ _ _ (meeting.peeked _ _ c.peek.ensures c.in-Group.is).here
+returns-in-Group c =
+    meeting.meets_same reading.clause _ _ c.requires _ _ _ _ (meeting.peeked _ _ c.peek.ensures c.in-Group.is).here
     refl refl
 
 pub returns-in-Refused : goal.returns-in-Refused
@@ -46,7 +51,8 @@ returns-in-Refused c = let l = meeting.peeked _ _ c.peek.ensures c.in-Leaf.is in
     let run = meeting.say (contract.run_shown c.args.s.now reading.clause_stops role.where_run c.take_token-next.result)
     contract.run_said
     c.in-Refused.is c.read_tokens_until_punct.ensures in
-    meeting.meets_from reading.clause _ _ c.requires _ _ l _ _ _ _ c.take_token-next.ensures.value c.take_token-next.ensures.roles_after _ _
+    meeting.meets_from reading.clause _ _ c.requires _ _ l _ _ _ _ c.take_token-next.ensures.value
+    c.take_token-next.ensures.roles_after _ _
     reading.clause_after (chosen _ _ _ (sym c.ident_eq.ensures ∙ not-false _ (ap not c.if-not-ident_eq.false)))
     (meeting.meets_no _ run)
 
@@ -58,7 +64,8 @@ returns-in-At c = let l = meeting.peeked _ _ c.peek.ensures c.in-Leaf.is in
     let run = meeting.say (contract.run_shown c.args.s.now reading.clause_stops role.where_run c.take_token-next.result)
     contract.run_said
     c.in-At.is c.read_tokens_until_punct.ensures in
-    meeting.meets_from reading.clause _ _ c.requires _ _ l _ _ _ _ c.take_token-next.ensures.value c.take_token-next.ensures.roles_after _ _
+    meeting.meets_from reading.clause _ _ c.requires _ _ l _ _ _ _ c.take_token-next.ensures.value
+    c.take_token-next.ensures.roles_after _ _
     reading.clause_after (chosen _ _ _ is)
     (meeting.meets_map _ constrained
     (λ v h. (

@@ -15,7 +15,8 @@ abbrev head-then : List Trees → Visibility → Reader Declaration
 head-then a v = reading.data_type >>= contract.parts_after (record { attributes = a; visibility = v })
 
 pub try_take-e-requires : goal.try_take-e-requires
-try_take-e-requires c = let attributes = meeting.say (λ x. contract.any) contract.step_said c.in-At.is c.try_take.ensures in
+try_take-e-requires c =
+    let attributes = meeting.say (λ x. contract.any) contract.step_said c.in-At.is c.try_take.ensures in
     meeting.landed attributes
 
 pub take-requires : goal.take-requires
@@ -29,12 +30,14 @@ parts-requires c = let headed = meeting.say (contract.head_shown c.args.s.now c.
     meeting.landed headed
 
 pub returns-in-Refused : goal.returns-in-Refused
-returns-in-Refused c = let attributes = meeting.say (λ x. contract.any) contract.step_said c.in-Refused.is c.try_take.ensures in
+returns-in-Refused c =
+    let attributes = meeting.say (λ x. contract.any) contract.step_said c.in-Refused.is c.try_take.ensures in
     meeting.meets_as (bodies.prefix_then c.args.c.row (contract.stream c.args.s.now c.args.c) head-then)
     (meeting.meets_no _ (bodies.prefix_refused attributes))
 
 pub returns-in-Refused-take : goal.returns-in-Refused-take
-returns-in-Refused-take c = let attributes = meeting.say (λ x. contract.any) contract.step_said c.in-At.is c.try_take.ensures in
+returns-in-Refused-take c =
+    let attributes = meeting.say (λ x. contract.any) contract.step_said c.in-At.is c.try_take.ensures in
     let prefixed = bodies.meets_prefix c.requires attributes c.try_take-e.ensures in
     let headed = meeting.say (contract.head_shown c.args.s.now c.try_take-e.result) contract.head_said
     c.in-Refused-take.is c.take.ensures in
@@ -42,7 +45,8 @@ returns-in-Refused-take c = let attributes = meeting.say (λ x. contract.any) co
     (meeting.meets_then _ prefixed (λ p k. meeting.meets_no _ headed))
 
 pub returns-in-At-take : goal.returns-in-At-take
-returns-in-At-take c = let attributes = meeting.say (λ x. contract.any) contract.step_said c.in-At.is c.try_take.ensures in
+returns-in-At-take c =
+    let attributes = meeting.say (λ x. contract.any) contract.step_said c.in-At.is c.try_take.ensures in
     let prefixed = bodies.meets_prefix c.requires attributes c.try_take-e.ensures in
     let headed = meeting.say (contract.head_shown c.args.s.now c.try_take-e.result) contract.head_said
     c.in-At-take.is c.take.ensures in

@@ -27,7 +27,8 @@ abbrev body-then : contract.Prefix → reading.Head → declaration.Generics →
 body-then p h g l row ts k = (reading.body_of k >>= λ b. pure (made p h g l b)) row ts
 
 pub try_take_constraints-requires : goal.try_take_constraints-requires
-try_take_constraints-requires c = let generics = meeting.say contract.generics_shown contract.count_said c.in-At.is c.try_take.ensures in
+try_take_constraints-requires c =
+    let generics = meeting.say contract.generics_shown contract.count_said c.in-At.is c.try_take.ensures in
     meeting.landed generics
 
 pub body-requires : goal.body-requires
@@ -36,17 +37,20 @@ body-requires c = let clauses = meeting.say (contract.clause_shown c.args.s.now 
     meeting.landed clauses
 
 pub returns-in-Refused : goal.returns-in-Refused
-returns-in-Refused c = let generics = meeting.say contract.generics_shown contract.count_said c.in-Refused.is c.try_take.ensures in
+returns-in-Refused c =
+    let generics = meeting.say contract.generics_shown contract.count_said c.in-Refused.is c.try_take.ensures in
     λ x p h w. meeting.meets_no _ generics
 
 pub returns-in-Refused-try_take_constraints : goal.returns-in-Refused-try_take_constraints
-returns-in-Refused-try_take_constraints c = let generics = meeting.say contract.generics_shown contract.count_said c.in-At.is c.try_take.ensures in
+returns-in-Refused-try_take_constraints c =
+    let generics = meeting.say contract.generics_shown contract.count_said c.in-At.is c.try_take.ensures in
     let clauses = meeting.say (contract.clause_shown c.args.s.now (contract.point c.args.s.now c.in-At.d))
     contract.clause_said c.in-Refused-try_take_constraints.is c.try_take_constraints.ensures in
     λ x p h w. meeting.meets_then _ generics (λ g _. meeting.meets_no _ clauses)
 
 pub returns-in-Refused-body : goal.returns-in-Refused-body
-returns-in-Refused-body c = let generics = meeting.say contract.generics_shown contract.count_said c.in-At.is c.try_take.ensures in
+returns-in-Refused-body c =
+    let generics = meeting.say contract.generics_shown contract.count_said c.in-At.is c.try_take.ensures in
     let clauses = meeting.say (contract.clause_shown c.args.s.now (contract.point c.args.s.now c.in-At.d))
     contract.clause_said c.in-At-try_take_constraints.is c.try_take_constraints.ensures in
     let bodied = meeting.say contract.body_shown_lem contract.count_said c.in-Refused-body.is c.body.ensures in
@@ -54,7 +58,8 @@ returns-in-Refused-body c = let generics = meeting.say contract.generics_shown c
     (λ l _. meeting.meets_as (ap (body-then p h g l _ _) (sym w.kind)) (meeting.meets_no _ bodied)))
 
 pub returns-in-At-body : goal.returns-in-At-body
-returns-in-At-body c = let generics = meeting.say contract.generics_shown contract.count_said c.in-At.is c.try_take.ensures in
+returns-in-At-body c =
+    let generics = meeting.say contract.generics_shown contract.count_said c.in-At.is c.try_take.ensures in
     let clauses = meeting.say (contract.clause_shown c.args.s.now (contract.point c.args.s.now c.in-At.d))
     contract.clause_said c.in-At-try_take_constraints.is c.try_take_constraints.ensures in
     let bodied = meeting.say contract.body_shown_lem contract.count_said c.in-At-body.is c.body.ensures in
@@ -79,7 +84,8 @@ returns-in-At-body c = let generics = meeting.say contract.generics_shown contra
         prefix = w.prefix;
         name = w.name;
         generics = w.next;
-        clause = subst (λ (y : Point). contract.ClauseOf c.args.s.now y l c.in-At-try_take_constraints.clause) clause-at k;
+        clause =
+            subst (λ (y : Point). contract.ClauseOf c.args.s.now y l c.in-At-try_take_constraints.clause) clause-at k;
         body = places.cursor_at (ap (beyond reading.clause) clause-at) ended;
       },
     ))

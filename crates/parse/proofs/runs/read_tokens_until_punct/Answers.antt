@@ -20,7 +20,8 @@ pub loop-next-init : goal.loop-next-init
 loop-next-init c = run-start _ _ _ _ _ (c.requires)
 
 pub run_token-requires : goal.run_token-requires
-run_token-requires c = record { in_list = c.loop-next.invariant.going.moved.in_list; depth_le_at = c.loop-next.invariant.deep }
+run_token-requires c =
+    record { in_list = c.loop-next.invariant.going.moved.in_list; depth_le_at = c.loop-next.invariant.deep }
 
 pub loop-next-smaller : goal.loop-next-smaller
 loop-next-smaller c = let b = told _ _ _ _ _ _ _ _ c.run_token.ensures c.in-On.is in

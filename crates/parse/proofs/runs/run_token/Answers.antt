@@ -16,7 +16,8 @@ deeper-past : (s : List ℕ) (c d : Cursor) (t : Token) (depth e : ℕ) → InLi
 deeper-past s c d t depth e i k h q x = omega (arith, meeting.past_fits s c t i k, ap (λ (y : Cursor). y.at) q)
 
 pub take_token-next-requires : goal.take_token-next-requires
-take_token-next-requires c = record { in_list = c.requires.in_list; token_at = (meeting.peeked _ _ c.peek.ensures c.in-Leaf.is).token }
+take_token-next-requires c =
+    record { in_list = c.requires.in_list; token_at = (meeting.peeked _ _ c.peek.ensures c.in-Leaf.is).token }
 
 pub returns-then-ends_run : goal.returns-then-ends_run
 returns-then-ends_run c = let g = meeting.peeked _ _ c.peek.ensures c.in-Group.is in (
@@ -26,7 +27,8 @@ returns-then-ends_run c = let g = meeting.peeked _ _ c.peek.ensures c.in-Group.i
 )
 
 pub take_group-next-requires : goal.take_group-next-requires
-take_group-next-requires c = record { in_list = c.requires.in_list; group_at = meeting.peeked _ _ c.peek.ensures c.in-Group.is }
+take_group-next-requires c =
+    record { in_list = c.requires.in_list; group_at = meeting.peeked _ _ c.peek.ensures c.in-Group.is }
 
 pub returns-in-Nothing : goal.returns-in-Nothing
 returns-in-Nothing c = (
@@ -41,10 +43,13 @@ returns-in-Belongs c = let l = meeting.peeked _ _ c.peek.ensures c.in-Leaf.is in
     let v = turns.judge_of stops c.args.depth c.args.minus _ _ _ l.token ∙ sym c.judge.ensures ∙
     ap verdict_of c.in-Belongs.is in (
       turns.turn_leaf stops c.args.role c.args.s.now c.args.c c.requires.in_list c.args.depth c.args.minus c.in-Leaf.t l
-          c.take_token-next.result c.args.roles.now _ c.in-Belongs.e c.in-Belongs.m c.take_token-next.ensures.value c.take_token-next.ensures.roles_after v,
-      deeper-past c.args.s.now c.args.c c.take_token-next.result c.in-Leaf.t c.args.depth c.in-Belongs.e c.requires.in_list l.token
+          c.take_token-next.result c.args.roles.now _ c.in-Belongs.e c.in-Belongs.m c.take_token-next.ensures.value
+          c.take_token-next.ensures.roles_after v,
+      deeper-past c.args.s.now c.args.c c.take_token-next.result c.in-Leaf.t c.args.depth c.in-Belongs.e
+          c.requires.in_list l.token
           c.requires.depth_le_at c.take_token-next.ensures.value
-          (turns.deep_after stops c.args.depth c.in-Belongs.e c.args.minus c.in-Belongs.m (row_of c.args.s.now c.in-Leaf.t) v),
+          (turns.deep_after stops c.args.depth c.in-Belongs.e c.args.minus c.in-Belongs.m
+          (row_of c.args.s.now c.in-Leaf.t) v),
     )
 
 pub returns-in-Ends : goal.returns-in-Ends

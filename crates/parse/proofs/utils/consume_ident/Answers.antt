@@ -17,10 +17,12 @@ returns-then-t-ne105 c = let l = meeting.peeked _ _ c.peek.ensures c.in-Leaf.is 
     (passed_over _ _ _ (ne_eqb _ _ c.if-t-ne105.true)) refl
 
 pub take_token-next-requires : goal.take_token-next-requires
-take_token-next-requires c = record { in_list = c.requires; token_at = (meeting.peeked _ _ c.peek.ensures c.in-Leaf.is).token }
+take_token-next-requires c =
+    record { in_list = c.requires; token_at = (meeting.peeked _ _ c.peek.ensures c.in-Leaf.is).token }
 
 pub past-inside-requires : goal.past-inside-requires
-past-inside-requires c = record { in_list = c.requires; token_at = (meeting.peeked _ _ c.peek.ensures c.in-Group.is).token }
+past-inside-requires c =
+    record { in_list = c.requires; token_at = (meeting.peeked _ _ c.peek.ensures c.in-Group.is).token }
 
 pub lone_ident-requires : goal.lone_ident-requires
 lone_ident-requires c = let g = meeting.peeked _ _ c.peek.ensures c.in-Group.is in record {

@@ -28,5 +28,7 @@ loop-i-preserved c = (
 )
 
 pub returns : goal.returns
-returns c = let z : c.loop-i.i - c.args.from ≡ c.args.to - c.args.from = omega (arith, c.loop-i.invariant.0, c.loop-i.invariant.2) in
+returns c =
+    let z : c.loop-i.i - c.args.from ≡ c.args.to - c.args.from =
+    omega (arith, c.loop-i.invariant.0, c.loop-i.invariant.2) in
     c.loop-i.invariant.1 ∙ ap (λ (n : ℕ). sets c.args.roles.now c.args.from (replicate n c.args.role)) z

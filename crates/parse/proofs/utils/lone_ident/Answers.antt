@@ -15,10 +15,13 @@ returns-then-t-ne105 c = let l = meeting.peeked _ _ c.peek.ensures c.in-Leaf.is 
     meeting.lone-other reading.is_ident _ _ _ l.here (ne_eqb _ _ c.if-t-ne105.true)
 
 pub past-next-requires : goal.past-next-requires
-past-next-requires c = record { in_list = c.requires.in_list; token_at = (meeting.peeked _ _ c.peek.ensures c.in-Leaf.is).token }
+past-next-requires c =
+    record { in_list = c.requires.in_list; token_at = (meeting.peeked _ _ c.peek.ensures c.in-Leaf.is).token }
 
 pub peek-requires-in-Leaf : goal.peek-requires-in-Leaf
-peek-requires-in-Leaf c = meeting.past_in_of _ _ _ _ c.past-next.ensures c.requires.in_list (meeting.peeked _ _ c.peek.ensures c.in-Leaf.is).token
+peek-requires-in-Leaf c =
+    meeting.past_in_of _ _ _ _ c.past-next.ensures c.requires.in_list
+    (meeting.peeked _ _ c.peek.ensures c.in-Leaf.is).token
 
 pub skip-after-requires : goal.skip-after-requires
 skip-after-requires c = let l = meeting.peeked _ _ c.peek.ensures c.in-Leaf.is in
@@ -48,7 +51,8 @@ returns-in-Nothing-peek c = let l = meeting.peeked _ _ c.peek.ensures c.in-Leaf.
     let n = meeting.peeked _ _ c.peek-in-Leaf.ensures c.in-Nothing-peek.is in
     let within-group = subst⁻¹ (λ (d : Cursor). follows (at c.args.s.now d.at).outer ≡ true) c.past-next.ensures
     (ap follows (sym l.outer) ∙ c.requires.at_value) in (
-      ap (reading.lone reading.is_ident) (meeting.leaf_then _ _ _ _ _ l c.past-next.ensures n) ∙ eq-eqb _ _ c.if-t-ne105.false,
+      ap (reading.lone reading.is_ident) (meeting.leaf_then _ _ _ _ _ l c.past-next.ensures n)
+          ∙ eq-eqb _ _ c.if-t-ne105.false,
       record { bytes = ap reading.first_text l.here; within = meeting.token_within _ _ _ l.token },
       c.if-t-ne105.false,
       refl,

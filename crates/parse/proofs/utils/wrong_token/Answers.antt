@@ -9,4 +9,5 @@ returns-then-l-eq0 c = let none = c.look-l.ensures.none c.if-l-eq0.true in
     (refl, sym (ap (place_of c.args.c.row) none))
 
 pub returns : goal.returns
-returns c = (refl, sym (placed c.args.c.row (stream c.args.s.now c.args.c) (λ e. c.if-l-eq0.false (c.look-l.ensures.kind ∙ e))))
+returns c =
+    (refl, sym (placed c.args.c.row (stream c.args.s.now c.args.c) (λ e. c.if-l-eq0.false (c.look-l.ensures.kind ∙ e))))

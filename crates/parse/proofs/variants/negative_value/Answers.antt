@@ -23,7 +23,8 @@ returns-then-not-is_negatable c = meeting.meets_refused reading.negative_value _
     (sym c.is_negatable.ensures ∙ not-true _ (ap not c.if-not-is_negatable.true)))
 
 pub take_token-next-requires : goal.take_token-next-requires
-take_token-next-requires c = record { in_list = c.requires; token_at = (meeting.peeked _ _ c.peek.ensures c.in-Leaf.is).token }
+take_token-next-requires c =
+    record { in_list = c.requires; token_at = (meeting.peeked _ _ c.peek.ensures c.in-Leaf.is).token }
 
 pub returns-in-Nothing : goal.returns-in-Nothing
 returns-in-Nothing c = meeting.meets_refused reading.negative_value _ _ c.requires _ _ _ _ _
@@ -34,9 +35,12 @@ returns-in-Group c = meeting.meets_refused reading.negative_value _ _ c.requires
     (meeting.peeked _ _ c.peek.ensures c.in-Group.is).here refl
 
 pub returns-else-not-is_negatable : goal.returns-else-not-is_negatable
-returns-else-not-is_negatable c = meeting.meets_leaf reading.negative_value _ _ c.requires _ _ (meeting.peeked _ _ c.peek.ensures c.in-Leaf.is) _ _ _ _
+returns-else-not-is_negatable c =
+    meeting.meets_leaf reading.negative_value _ _ c.requires _ _ (meeting.peeked _ _ c.peek.ensures c.in-Leaf.is) _ _ _
+    _
     c.take_token-next.ensures.value c.take_token-next.ensures.roles_after _
-    (chosen _ _ _ (eq-eqb _ _ c.if-t-ne108.false) ∙ chosen _ _ _ (sym c.is_negatable.ensures ∙ not-false _ (ap not c.if-not-is_negatable.false))) (
+    (chosen _ _ _ (eq-eqb _ _ c.if-t-ne108.false)
+    ∙ chosen _ _ _ (sym c.is_negatable.ensures ∙ not-false _ (ap not c.if-not-is_negatable.false))) (
       (
         _,
         record {

@@ -12,5 +12,6 @@ returns-then-l-eq0 c = meets_same variant c.args.s.now c.args.c c.requires _ _ _
 
 pub returns : goal.returns
 returns c = meets_as
-    (as_variant c.args.c.row (stream c.args.s.now c.args.c) (λ e. c.if-l-eq0.false (c.look-l.ensures.kind ∙ ap first_kind_lem e)))
+    (as_variant c.args.c.row (stream c.args.s.now c.args.c)
+    (λ e. c.if-l-eq0.false (c.look-l.ensures.kind ∙ ap first_kind_lem e)))
     c.variant_here.ensures

@@ -12,7 +12,8 @@ use mathlib.Core.Path.{refl, ◌∙◌, ap}
 use Rattle.parse.proofs.variants.variant_fields.Goals as goal
 
 pub past-inside-requires : goal.past-inside-requires
-past-inside-requires c = record { in_list = c.requires; token_at = (meeting.peeked _ _ c.peek.ensures c.in-Group.is).token }
+past-inside-requires c =
+    record { in_list = c.requires; token_at = (meeting.peeked _ _ c.peek.ensures c.in-Group.is).token }
 
 pub named_group-requires : goal.named_group-requires
 named_group-requires c = record { in_list = c.requires; group_at = (meeting.peeked _ _ c.peek.ensures c.in-Group.is) }

@@ -34,49 +34,67 @@ split row ts =
     rest)
 
 pub variant_fields-requires : goal.variant_fields-requires
-variant_fields-requires c = let named = meeting.say (contract.variant_name_shown c.args.s.now c.args.c) contract.placed_name_said c.in-At.is
+variant_fields-requires c =
+    let named = meeting.say (contract.variant_name_shown c.args.s.now c.args.c) contract.placed_name_said c.in-At.is
     c.variant_name.ensures in
     meeting.landed named
 
 pub variant_value-requires : goal.variant_value-requires
-variant_value-requires c = let grouped = meeting.say (contract.fields_shown c.args.s.now c.in-At.n.next) contract.fields_said c.in-At-variant_fields.is
+variant_value-requires c =
+    let grouped =
+    meeting.say (contract.fields_shown c.args.s.now c.in-At.n.next) contract.fields_said c.in-At-variant_fields.is
     c.variant_fields.ensures in
     meeting.landed grouped
 
 pub returns-in-Refused : goal.returns-in-Refused
-returns-in-Refused c = let named = meeting.say (contract.variant_name_shown c.args.s.now c.args.c) contract.placed_name_said c.in-Refused.is
+returns-in-Refused c =
+    let named = meeting.say (contract.variant_name_shown c.args.s.now c.args.c) contract.placed_name_said
+    c.in-Refused.is
     c.variant_name.ensures in
     meeting.meets_as (split c.args.c.row (contract.stream c.args.s.now c.args.c))
     (meeting.meets_no rest named)
 
 pub returns-in-Refused-variant_fields : goal.returns-in-Refused-variant_fields
-returns-in-Refused-variant_fields c = let named = meeting.say (contract.variant_name_shown c.args.s.now c.args.c) contract.placed_name_said c.in-At.is
+returns-in-Refused-variant_fields c =
+    let named = meeting.say (contract.variant_name_shown c.args.s.now c.args.c) contract.placed_name_said c.in-At.is
     c.variant_name.ensures in
-    let grouped = meeting.say (contract.fields_shown c.args.s.now c.in-At.n.next) contract.fields_said c.in-Refused-variant_fields.is
+    let grouped =
+    meeting.say (contract.fields_shown c.args.s.now c.in-At.n.next) contract.fields_said
+    c.in-Refused-variant_fields.is
     c.variant_fields.ensures in
     meeting.meets_as (split c.args.c.row (contract.stream c.args.s.now c.args.c))
     (meeting.meets_then rest named (λ h k. meeting.meets_no (value-then h) grouped))
 
 pub returns-in-Refused-variant_value : goal.returns-in-Refused-variant_value
-returns-in-Refused-variant_value c = let named = meeting.say (contract.variant_name_shown c.args.s.now c.args.c) contract.placed_name_said c.in-At.is
+returns-in-Refused-variant_value c =
+    let named = meeting.say (contract.variant_name_shown c.args.s.now c.args.c) contract.placed_name_said c.in-At.is
     c.variant_name.ensures in
-    let grouped = meeting.say (contract.fields_shown c.args.s.now c.in-At.n.next) contract.fields_said c.in-At-variant_fields.is
+    let grouped =
+    meeting.say (contract.fields_shown c.args.s.now c.in-At.n.next) contract.fields_said c.in-At-variant_fields.is
     c.variant_fields.ensures in
-    let valued = meeting.say (contract.value_shown c.args.s.now (literal_row (c.in-At-variant_fields.e.row + 1))) contract.value_said
+    let valued =
+    meeting.say (contract.value_shown c.args.s.now (literal_row (c.in-At-variant_fields.e.row + 1)))
+    contract.value_said
     c.in-Refused-variant_value.is c.variant_value.ensures in
     meeting.meets_as (split c.args.c.row (contract.stream c.args.s.now c.args.c))
     (meeting.meets_then rest named
     (λ h k. meeting.meets_then (value-then h) grouped
     (λ f g. meeting.meets_as
-    (bodies.comma_as c.in-At-variant_fields.e.row (reading.value_if c.in-At-variant_fields.e.row (contract.stream c.args.s.now c.in-At-variant_fields.e)) (made h f))
+    (bodies.comma_as c.in-At-variant_fields.e.row
+    (reading.value_if c.in-At-variant_fields.e.row (contract.stream c.args.s.now c.in-At-variant_fields.e))
+    (made h f))
     (meeting.meets_no _ valued))))
 
 pub returns-in-At-variant_value : goal.returns-in-At-variant_value
-returns-in-At-variant_value c = let named = meeting.say (contract.variant_name_shown c.args.s.now c.args.c) contract.placed_name_said c.in-At.is
+returns-in-At-variant_value c =
+    let named = meeting.say (contract.variant_name_shown c.args.s.now c.args.c) contract.placed_name_said c.in-At.is
     c.variant_name.ensures in
-    let grouped = meeting.say (contract.fields_shown c.args.s.now c.in-At.n.next) contract.fields_said c.in-At-variant_fields.is
+    let grouped =
+    meeting.say (contract.fields_shown c.args.s.now c.in-At.n.next) contract.fields_said c.in-At-variant_fields.is
     c.variant_fields.ensures in
-    let valued = meeting.say (contract.value_shown c.args.s.now (literal_row (c.in-At-variant_fields.e.row + 1))) contract.value_said
+    let valued =
+    meeting.say (contract.value_shown c.args.s.now (literal_row (c.in-At-variant_fields.e.row + 1)))
+    contract.value_said
     c.in-At-variant_value.is c.variant_value.ensures in
     let group = (places.meets_beyond variant_head named).here in
     let equals = (places.meets_beyond reading.variant_fields grouped).here ∙ ap (beyond reading.variant_fields) group in
@@ -84,7 +102,9 @@ returns-in-At-variant_value c = let named = meeting.say (contract.variant_name_s
     (meeting.meets_then rest named
     (λ h k. meeting.meets_then (value-then h) grouped
     (λ f g. meeting.meets_as
-    (bodies.comma_as c.in-At-variant_fields.e.row (reading.value_if c.in-At-variant_fields.e.row (contract.stream c.args.s.now c.in-At-variant_fields.e)) (made h f))
+    (bodies.comma_as c.in-At-variant_fields.e.row
+    (reading.value_if c.in-At-variant_fields.e.row (contract.stream c.args.s.now c.in-At-variant_fields.e))
+    (made h f))
     (meeting.meets_map c.in-At-variant_fields.e.row (λ v. reading.one (made h f v))
     (λ v w. (
       made h f v,

@@ -16,25 +16,30 @@ abbrev word-then : List Trees → Reader VariantHead
 word-then a = reading.word role.variant-name >>= name-then a
 
 pub consume_ident-requires : goal.consume_ident-requires
-consume_ident-requires c = let attributes = meeting.say (λ x. contract.any) contract.step_said c.in-At.is c.try_take.ensures in
+consume_ident-requires c =
+    let attributes = meeting.say (λ x. contract.any) contract.step_said c.in-At.is c.try_take.ensures in
     meeting.landed attributes
 
 pub wrong_token-requires : goal.wrong_token-requires
-wrong_token-requires c = let attributes = meeting.say (λ x. contract.any) contract.step_said c.in-At.is c.try_take.ensures in
+wrong_token-requires c =
+    let attributes = meeting.say (λ x. contract.any) contract.step_said c.in-At.is c.try_take.ensures in
     meeting.landed attributes
 
 pub returns-in-Refused : goal.returns-in-Refused
-returns-in-Refused c = let attributes = meeting.say (λ x. contract.any) contract.step_said c.in-Refused.is c.try_take.ensures in
+returns-in-Refused c =
+    let attributes = meeting.say (λ x. contract.any) contract.step_said c.in-Refused.is c.try_take.ensures in
     meeting.meets_no word-then attributes
 
 pub returns-in-Missing : goal.returns-in-Missing
-returns-in-Missing c = let attributes = meeting.say (λ x. contract.any) contract.step_said c.in-At.is c.try_take.ensures in
+returns-in-Missing c =
+    let attributes = meeting.say (λ x. contract.any) contract.step_said c.in-At.is c.try_take.ensures in
     let missing = meeting.say_word c.in-Missing.is c.consume_ident.ensures in
     meeting.meets_then word-then attributes
     (λ a h. meeting.meets_missing (name-then a) missing (meeting.meets_wrong _ _ c.wrong_token.ensures))
 
 pub returns-in-Found : goal.returns-in-Found
-returns-in-Found c = let attributes = meeting.say (λ x. contract.any) contract.step_said c.in-At.is c.try_take.ensures in
+returns-in-Found c =
+    let attributes = meeting.say (λ x. contract.any) contract.step_said c.in-At.is c.try_take.ensures in
     let found = meeting.say_word c.in-Found.is c.consume_ident.ensures in
     let named = (places.meets_beyond reading.attributes attributes).here in
     meeting.meets_then word-then (meeting.meets_inside reading.attributes c.requires attributes)

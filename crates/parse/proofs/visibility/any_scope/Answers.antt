@@ -15,5 +15,6 @@ returns-in-Leaf c = meeting.meets_same reading.any_scope _ _ c.requires _ _ _ _
     (meeting.peeked _ _ c.peek.ensures c.in-Leaf.is).here refl tt
 
 pub returns-in-Group : goal.returns-in-Group
-returns-in-Group c = meeting.meets_group reading.any_scope _ _ c.requires _ _ (meeting.peeked _ _ c.peek.ensures c.in-Group.is) _ _ _ _
+returns-in-Group c =
+    meeting.meets_group reading.any_scope _ _ c.requires _ _ (meeting.peeked _ _ c.peek.ensures c.in-Group.is) _ _ _ _
     c.take_group.ensures _ refl tt

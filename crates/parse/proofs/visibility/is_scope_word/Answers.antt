@@ -18,5 +18,6 @@ returns-then-ident_eq-3 c = sym
 
 pub returns : goal.returns
 returns c = c.ident_eq-4.ensures ∙ sym
-    (or_last _ _ (sym c.ident_eq.ensures ∙ c.if-ident_eq.false) ∙ or_last _ _ (sym c.ident_eq-2.ensures ∙ c.if-ident_eq-2.false) ∙ or_last
+    (or_last _ _ (sym c.ident_eq.ensures ∙ c.if-ident_eq.false)
+    ∙ or_last _ _ (sym c.ident_eq-2.ensures ∙ c.if-ident_eq-2.false) ∙ or_last
     _ _ (sym c.ident_eq-3.ensures ∙ c.if-ident_eq-3.false))

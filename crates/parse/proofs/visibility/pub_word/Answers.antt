@@ -31,13 +31,19 @@ returns-then-not-ident_eq c = let l = meeting.peeked _ _ c.peek.ensures c.in-Lea
     (ap (reading.visibility c.args.c.row) l.here ∙ passed_over _ _ _ other ∙ ap (took default []) (sym l.here), refl)
 
 pub take_token-next-requires : goal.take_token-next-requires
-take_token-next-requires c = record { in_list = c.requires; token_at = (meeting.peeked _ _ c.peek.ensures c.in-Leaf.is).token }
+take_token-next-requires c =
+    record { in_list = c.requires; token_at = (meeting.peeked _ _ c.peek.ensures c.in-Leaf.is).token }
 
 pub past-inside-requires : goal.past-inside-requires
-past-inside-requires c = record { in_list = c.requires; token_at = (meeting.peeked _ _ c.peek.ensures c.in-Group.is).token }
+past-inside-requires c =
+    record { in_list = c.requires; token_at = (meeting.peeked _ _ c.peek.ensures c.in-Group.is).token }
 
 pub lone_ident-requires : goal.lone_ident-requires
-lone_ident-requires c = let g = meeting.peeked _ _ c.peek.ensures c.in-Group.is in record { in_list = meeting.past_in_of _ _ _ _ c.past-inside.ensures c.requires g.token; at_value = meeting.follows_of _ _ _ _ c.past-inside.ensures c.requires g }
+lone_ident-requires c =
+    let g = meeting.peeked _ _ c.peek.ensures c.in-Group.is in record {
+      in_list = meeting.past_in_of _ _ _ _ c.past-inside.ensures c.requires g.token;
+      at_value = meeting.follows_of _ _ _ _ c.past-inside.ensures c.requires g;
+    }
 
 pub ident_eq-requires-in-Found : goal.ident_eq-requires-in-Found
 ident_eq-requires-in-Found c = (subst (contract.lone_shown _ _) c.in-Found.is c.lone_ident.ensures).1.within
@@ -47,7 +53,8 @@ returns-then-not-ident_eq-2 c = let g = meeting.peeked _ _ c.peek.ensures c.in-G
     let ins = (at c.args.s.now c.in-Group.t.next).here in
     let lone = lone-shown _ _ _ _ _ c.past-inside.ensures c.in-Found.is c.lone_ident.ensures in
     let other = meeting.lone-word reading.PUB ins lone.0 ∙ ap (λ x. same x reading.PUB) lone.1.bytes ∙
-    sym (and_last _ _ (eq-eqb _ _ lone.2)) ∙ sym c.ident_eq-in-Found.ensures ∙ not-true _ (ap not c.if-not-ident_eq-2.true) in
+    sym (and_last _ _ (eq-eqb _ _ lone.2)) ∙ sym c.ident_eq-in-Found.ensures
+    ∙ not-true _ (ap not c.if-not-ident_eq-2.true) in
     let here = meeting.group_stream _ _ _ c.requires g in
     (ap (reading.visibility c.args.c.row) here ∙ passed_over _ _ _ other ∙ ap (took default []) (sym here), refl)
 
@@ -63,7 +70,8 @@ returns-else-not-ident_eq c = let l = meeting.peeked _ _ c.peek.ensures c.in-Lea
     let is = sym c.ident_eq.ensures ∙ not-false _ (ap not c.if-not-ident_eq.false) in (
       ap (starts (reading.is_word reading.PUB)) l.here ∙ is,
       places.token_past _ _ _ _ c.requires l c.take_token-next.ensures.value,
-      meeting.leaf_belonged reading.visibility _ _ c.requires contract.any _ l _ _ _ role.visibility c.take_token-next.ensures.value
+      meeting.leaf_belonged reading.visibility _ _ c.requires contract.any _ l _ _ _ role.visibility
+          c.take_token-next.ensures.value
           c.take_token-next.ensures.roles_after reading.scope_after (chosen _ _ _ is),
     )
 
@@ -82,9 +90,11 @@ returns-else-not-ident_eq-2 c = let g = meeting.peeked _ _ c.peek.ensures c.in-G
     let ins = (at c.args.s.now c.in-Group.t.next).here in
     let lone = lone-shown _ _ _ _ _ c.past-inside.ensures c.in-Found.is c.lone_ident.ensures in
     let is = meeting.lone-word reading.PUB ins lone.0 ∙ ap (λ x. same x reading.PUB) lone.1.bytes ∙
-    sym (and_last _ _ (eq-eqb _ _ lone.2)) ∙ sym c.ident_eq-in-Found.ensures ∙ not-false _ (ap not c.if-not-ident_eq-2.false) in (
+    sym (and_last _ _ (eq-eqb _ _ lone.2)) ∙ sym c.ident_eq-in-Found.ensures
+    ∙ not-false _ (ap not c.if-not-ident_eq-2.false) in (
       ap is_group g.here,
       places.group_past _ role.visibility c.requires g c.take_group-next.ensures,
-      meeting.group_belonged reading.visibility reading.any_scope _ role.visibility c.requires g c.take_group-next.ensures
+      meeting.group_belonged reading.visibility reading.any_scope _ role.visibility c.requires g
+          c.take_group-next.ensures
           (chosen _ _ _ is),
     )

@@ -14,10 +14,12 @@ returns-then-t-ne40 c = meeting.meets_same reading.scope_after _ _ c.requires _ 
     (passed_over _ _ _ (and_fails _ _ (ne_eqb _ _ c.if-t-ne40.true))) tt
 
 pub past-inside-requires : goal.past-inside-requires
-past-inside-requires c = record { in_list = c.requires; token_at = (meeting.peeked _ _ c.peek.ensures c.in-Group.is).token }
+past-inside-requires c =
+    record { in_list = c.requires; token_at = (meeting.peeked _ _ c.peek.ensures c.in-Group.is).token }
 
 pub is_scoped-requires : goal.is_scoped-requires
-is_scoped-requires c = meeting.past_in_of _ _ _ _ c.past-inside.ensures c.requires (meeting.peeked _ _ c.peek.ensures c.in-Group.is).token
+is_scoped-requires c =
+    meeting.past_in_of _ _ _ _ c.past-inside.ensures c.requires (meeting.peeked _ _ c.peek.ensures c.in-Group.is).token
 
 pub returns-then-not-is_scoped : goal.returns-then-not-is_scoped
 returns-then-not-is_scoped c = meeting.meets_same reading.scope_after _ _ c.requires _ _ _ _
@@ -39,7 +41,8 @@ returns-in-Leaf c = meeting.meets_same reading.scope_after _ _ c.requires _ _ _ 
     (meeting.peeked _ _ c.peek.ensures c.in-Leaf.is).here refl tt
 
 pub returns-else-not-is_scoped : goal.returns-else-not-is_scoped
-returns-else-not-is_scoped c = meeting.meets_group reading.scope_after _ _ c.requires _ _ (meeting.peeked _ _ c.peek.ensures c.in-Group.is) _ _ _ _
+returns-else-not-is_scoped c =
+    meeting.meets_group reading.scope_after _ _ c.requires _ _ (meeting.peeked _ _ c.peek.ensures c.in-Group.is) _ _ _ _
     c.take_group.ensures _ (chosen _ _ _
     (and_last _ _ (eq-eqb _ _ c.if-t-ne40.false) ∙ sym (ap
     (λ (d : Cursor). reading.scoped (contract.stream c.args.s.now d)) c.past-inside.ensures) ∙

@@ -10,4 +10,8 @@ returns-in-Passed c = let few = rows_few c.in-Passed.rows (omega arith) in
     record { printed = rw c.in-Passed.is p; upper_bound = omega (arith, p.counted, few) }
 
 pub returns-in-Refused : goal.returns-in-Refused
-returns-in-Refused c = record { printed = rw c.in-Refused.is c.put_refusal.ensures.printed; upper_bound = c.put_refusal.ensures.upper_bound }
+returns-in-Refused c =
+    record {
+      printed = rw c.in-Refused.is c.put_refusal.ensures.printed;
+      upper_bound = c.put_refusal.ensures.upper_bound;
+    }

@@ -6,7 +6,8 @@ pub loop-i-init : goal.loop-i-init
 loop-i-init c = (omega arith, omega arith)
 
 pub returns-then-roles-i : goal.returns-then-roles-i
-returns-then-roles-i c = omega (arith, c.loop-i.invariant.1, assigned_here c.args.roles.now c.loop-i.i (omega arith) c.if-roles-i.true)
+returns-then-roles-i c =
+    omega (arith, c.loop-i.invariant.1, assigned_here c.args.roles.now c.loop-i.i (omega arith) c.if-roles-i.true)
 
 pub loop-i-preserved : goal.loop-i-preserved
 loop-i-preserved c = (

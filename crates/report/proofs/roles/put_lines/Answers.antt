@@ -15,11 +15,15 @@ loop-i-init c = (omega arith, nothing _ _ (omega (arith, c.type_inv)))
 
 pub loop-i-preserved : goal.loop-i-preserved
 loop-i-preserved c = let more : c.loop-i.i < length c.args.roles.now = omega arith in
-    let count : 0 + length (take c.loop-i.i c.args.roles.now) ≡ c.loop-i.i = omega (arith, length-take-le c.loop-i.i c.args.roles.now c.loop-i.invariant.0) in
-    let lines : role_lines 0 (take (c.loop-i.i + 1) c.args.roles.now) ≡ role_lines 0 (take c.loop-i.i c.args.roles.now) ++ role_line c.loop-i.i (get_or c.args.roles.now c.loop-i.i 0) =
-    ap (role_lines 0) (ap (λ (k : ℕ). take k c.args.roles.now) (add-one c.loop-i.i) ∙ take-suc c.args.roles.now c.loop-i.i 0 more) ∙
+    let count : 0 + length (take c.loop-i.i c.args.roles.now) ≡ c.loop-i.i =
+    omega (arith, length-take-le c.loop-i.i c.args.roles.now c.loop-i.invariant.0) in
+    let lines : role_lines 0 (take (c.loop-i.i + 1) c.args.roles.now) ≡ role_lines 0 (take c.loop-i.i c.args.roles.now)
+    ++ role_line c.loop-i.i (get_or c.args.roles.now c.loop-i.i 0) =
+    ap (role_lines 0) (ap (λ (k : ℕ). take k c.args.roles.now) (add-one c.loop-i.i)
+    ∙ take-suc c.args.roles.now c.loop-i.i 0 more) ∙
     lines_more 0 (take c.loop-i.i c.args.roles.now) (get_or c.args.roles.now c.loop-i.i 0) ∙
-    ap (λ (k : ℕ). role_lines 0 (take c.loop-i.i c.args.roles.now) ++ role_line k (get_or c.args.roles.now c.loop-i.i 0)) count in (
+    ap (λ (k : ℕ). role_lines 0 (take c.loop-i.i c.args.roles.now) ++ role_line k
+    (get_or c.args.roles.now c.loop-i.i 0)) count in (
       omega arith,
       rw lines (joined c.loop-i.invariant.1 c.put_line-end.ensures),
     )

@@ -6,11 +6,14 @@ use Rattle.token_list.proofs.check.+walk.Goals as goal
 
 -- src/check.rt:48:5
 pub loop-at-init : goal.loop-at-init
-loop-at-init t c = record { counted = c.requires.counted; within = c.requires.within; from = omega arith; same = λ gs e. refl }
+loop-at-init t c =
+    record { counted = c.requires.counted; within = c.requires.within; from = omega arith; same = λ gs e. refl }
 
 -- src/check.rt:50:13
 pub returns-then-row-ge-MAX_ROWS : goal.returns-then-row-ge-MAX_ROWS
-returns-then-row-ge-MAX_ROWS t c = walks.at_limit c.args.marked c.args.s.now c.args.levels c.args.from c.loop-at.at c.loop-at.row c.loop-at.invariant c.loop-at-test.true
+returns-then-row-ge-MAX_ROWS t c =
+    walks.at_limit c.args.marked c.args.s.now c.args.levels c.args.from c.loop-at.at c.loop-at.row c.loop-at.invariant
+    c.loop-at-test.true
     c.if-row-ge-MAX_ROWS.true
 
 -- src/check.rt:54:21
@@ -19,13 +22,17 @@ overflow_add-below t c = omega (arith, c.loop-at.invariant.counted, c.loop-at.in
 
 -- src/check.rt:58:17
 pub returns-in-Wrong : goal.returns-in-Wrong
-returns-in-Wrong t c = walks.at-wrong c.args.marked c.args.s.now c.args.levels c.args.from c.loop-at.at c.loop-at.row c.loop-at.invariant c.line_shape-line.result c.line_shape-line.ensures
+returns-in-Wrong t c =
+    walks.at-wrong c.args.marked c.args.s.now c.args.levels c.args.from c.loop-at.at c.loop-at.row c.loop-at.invariant
+    c.line_shape-line.result c.line_shape-line.ensures
     c.loop-at-test.true c.if-row-ge-MAX_ROWS.false
     c.in-Wrong.is
 
 -- src/check.rt:48:5
 pub loop-at-smaller-in-Plain : goal.loop-at-smaller-in-Plain
-loop-at-smaller-in-Plain t c = let n = walks.plain-past c.args.marked c.args.s.now c.args.levels c.args.from c.loop-at.at c.loop-at.row c.loop-at.invariant c.line_shape-line.result
+loop-at-smaller-in-Plain t c =
+    let n = walks.plain-past c.args.marked c.args.s.now c.args.levels c.args.from c.loop-at.at c.loop-at.row
+    c.loop-at.invariant c.line_shape-line.result
     c.line_shape-line.ensures
     c.loop-at-test.true c.if-row-ge-MAX_ROWS.false
     c.in-Plain.is in
@@ -33,26 +40,34 @@ loop-at-smaller-in-Plain t c = let n = walks.plain-past c.args.marked c.args.s.n
 
 -- src/check.rt:48:5
 pub loop-at-preserved-in-Plain : goal.loop-at-preserved-in-Plain
-loop-at-preserved-in-Plain t c = walks.at_plain c.args.marked c.args.s.now c.args.levels c.args.from c.loop-at.at c.loop-at.row c.loop-at.invariant c.line_shape-line.result c.line_shape-line.ensures
+loop-at-preserved-in-Plain t c =
+    walks.at_plain c.args.marked c.args.s.now c.args.levels c.args.from c.loop-at.at c.loop-at.row c.loop-at.invariant
+    c.line_shape-line.result c.line_shape-line.ensures
     c.loop-at-test.true c.if-row-ge-MAX_ROWS.false
     c.in-Plain.is
 
 -- src/check.rt:65:17
 pub returns-in-Closed : goal.returns-in-Closed
-returns-in-Closed t c = walks.at-close c.args.marked c.args.s.now c.args.levels c.args.from c.loop-at.at c.loop-at.row c.loop-at.invariant c.line_shape-line.result c.line_shape-line.ensures
+returns-in-Closed t c =
+    walks.at-close c.args.marked c.args.s.now c.args.levels c.args.from c.loop-at.at c.loop-at.row c.loop-at.invariant
+    c.line_shape-line.result c.line_shape-line.ensures
     c.loop-at-test.true c.if-row-ge-MAX_ROWS.false
     c.in-Closed.d c.in-Closed.is
 
 -- src/check.rt:69:21
 pub returns-then-levels-eq0 : goal.returns-then-levels-eq0
-returns-then-levels-eq0 t c = walks.too-deep c.args.marked c.args.s.now c.args.levels c.args.from c.loop-at.at c.loop-at.row c.loop-at.invariant c.line_shape-line.result c.line_shape-line.ensures
+returns-then-levels-eq0 t c =
+    walks.too-deep c.args.marked c.args.s.now c.args.levels c.args.from c.loop-at.at c.loop-at.row c.loop-at.invariant
+    c.line_shape-line.result c.line_shape-line.ensures
     c.loop-at-test.true
     c.if-row-ge-MAX_ROWS.false c.in-Opens.d
     c.in-Opens.is c.if-levels-eq0.true
 
 -- src/check.rt:71:21
 pub walk-inside-requires : goal.walk-inside-requires
-walk-inside-requires t c = let o = walks.opened-past c.args.marked c.args.s.now c.args.levels c.args.from c.loop-at.at c.loop-at.row c.loop-at.invariant c.line_shape-line.result
+walk-inside-requires t c =
+    let o = walks.opened-past c.args.marked c.args.s.now c.args.levels c.args.from c.loop-at.at c.loop-at.row
+    c.loop-at.invariant c.line_shape-line.result
     c.line_shape-line.ensures
     c.loop-at-test.true
     c.if-row-ge-MAX_ROWS.false c.in-Opens.d
@@ -63,7 +78,9 @@ walk-inside-requires t c = let o = walks.opened-past c.args.marked c.args.s.now 
 
 -- src/check.rt:74:25
 pub returns-in-End : goal.returns-in-End
-returns-in-End t c = walks.unclosed c.args.marked c.args.s.now c.args.levels c.args.from c.loop-at.at c.loop-at.row c.loop-at.invariant c.line_shape-line.result c.line_shape-line.ensures
+returns-in-End t c =
+    walks.unclosed c.args.marked c.args.s.now c.args.levels c.args.from c.loop-at.at c.loop-at.row c.loop-at.invariant
+    c.line_shape-line.result c.line_shape-line.ensures
     c.loop-at-test.true
     c.if-row-ge-MAX_ROWS.false
     c.in-Opens.d
@@ -72,7 +89,9 @@ returns-in-End t c = walks.unclosed c.args.marked c.args.s.now c.args.levels c.a
 
 -- src/check.rt:77:25
 pub returns-in-Refused : goal.returns-in-Refused
-returns-in-Refused t c = walks.refused-inside c.args.marked c.args.s.now c.args.levels c.args.from c.loop-at.at c.loop-at.row c.loop-at.invariant c.line_shape-line.result
+returns-in-Refused t c =
+    walks.refused-inside c.args.marked c.args.s.now c.args.levels c.args.from c.loop-at.at c.loop-at.row
+    c.loop-at.invariant c.line_shape-line.result
     c.line_shape-line.ensures
     c.loop-at-test.true
     c.if-row-ge-MAX_ROWS.false
@@ -83,7 +102,9 @@ returns-in-Refused t c = walks.refused-inside c.args.marked c.args.s.now c.args.
 
 -- src/check.rt:81:29
 pub returns-then-closer-e : goal.returns-then-closer-e
-returns-then-closer-e t c = walks.mismatched c.args.marked c.args.s.now c.args.levels c.args.from c.loop-at.at c.loop-at.row c.loop-at.invariant c.line_shape-line.result c.line_shape-line.ensures
+returns-then-closer-e t c =
+    walks.mismatched c.args.marked c.args.s.now c.args.levels c.args.from c.loop-at.at c.loop-at.row c.loop-at.invariant
+    c.line_shape-line.result c.line_shape-line.ensures
     c.loop-at-test.true
     c.if-row-ge-MAX_ROWS.false
     c.in-Opens.d
@@ -95,7 +116,8 @@ returns-then-closer-e t c = walks.mismatched c.args.marked c.args.s.now c.args.l
 pub overflow_add-row : goal.overflow_add-row
 overflow_add-row t c = omega (
   arith,
-  walks.closed-past c.args.marked c.args.s.now c.args.levels c.args.from c.loop-at.at c.loop-at.row c.loop-at.invariant c.line_shape-line.result
+  walks.closed-past c.args.marked c.args.s.now c.args.levels c.args.from c.loop-at.at c.loop-at.row c.loop-at.invariant
+      c.line_shape-line.result
       c.line_shape-line.ensures c.loop-at-test.true
       c.if-row-ge-MAX_ROWS.false c.in-Opens.d c.in-Opens.is
       c.if-levels-eq0.false c.walk-inside.result c.walk-inside.ensures c.in-Close.e c.in-Close.close
@@ -104,11 +126,14 @@ overflow_add-row t c = omega (
 
 -- src/check.rt:48:5
 pub loop-at-smaller : goal.loop-at-smaller
-loop-at-smaller t c = let o = walks.opened-past c.args.marked c.args.s.now c.args.levels c.args.from c.loop-at.at c.loop-at.row c.loop-at.invariant c.line_shape-line.result
+loop-at-smaller t c =
+    let o = walks.opened-past c.args.marked c.args.s.now c.args.levels c.args.from c.loop-at.at c.loop-at.row
+    c.loop-at.invariant c.line_shape-line.result
     c.line_shape-line.ensures
     c.loop-at-test.true c.if-row-ge-MAX_ROWS.false
     c.in-Opens.d c.in-Opens.is in
-    let q = walks.closed-past c.args.marked c.args.s.now c.args.levels c.args.from c.loop-at.at c.loop-at.row c.loop-at.invariant c.line_shape-line.result
+    let q = walks.closed-past c.args.marked c.args.s.now c.args.levels c.args.from c.loop-at.at c.loop-at.row
+    c.loop-at.invariant c.line_shape-line.result
     c.line_shape-line.ensures
     c.loop-at-test.true c.if-row-ge-MAX_ROWS.false
     c.in-Opens.d c.in-Opens.is
@@ -118,7 +143,9 @@ loop-at-smaller t c = let o = walks.opened-past c.args.marked c.args.s.now c.arg
 
 -- src/check.rt:48:5
 pub loop-at-preserved : goal.loop-at-preserved
-loop-at-preserved t c = walks.matched c.args.marked c.args.s.now c.args.levels c.args.from c.loop-at.at c.loop-at.row c.loop-at.invariant c.line_shape-line.result c.line_shape-line.ensures
+loop-at-preserved t c =
+    walks.matched c.args.marked c.args.s.now c.args.levels c.args.from c.loop-at.at c.loop-at.row c.loop-at.invariant
+    c.line_shape-line.result c.line_shape-line.ensures
     c.loop-at-test.true
     c.if-row-ge-MAX_ROWS.false
     c.in-Opens.d
@@ -128,4 +155,6 @@ loop-at-preserved t c = walks.matched c.args.marked c.args.s.now c.args.levels c
 
 -- src/check.rt:42:1
 pub returns : goal.returns
-returns t c = walks.at_end c.args.marked c.args.s.now c.args.levels c.args.from c.loop-at.at c.loop-at.row c.loop-at.invariant c.loop-at-test.false
+returns t c =
+    walks.at_end c.args.marked c.args.s.now c.args.levels c.args.from c.loop-at.at c.loop-at.row c.loop-at.invariant
+    c.loop-at-test.false

@@ -38,7 +38,11 @@ returns-then-not-has_names c = let unnamed = sym c.has_names.ensures ∙ not-tru
 
 pub walk-requires : goal.walk-requires
 walk-requires c = let named = sym c.has_names.ensures ∙ not-false _ (ap not c.if-not-has_names.false) in
-    subst (Within c.args.s.now) (sym c.start.ensures) (record { counted = omega arith; within = names-within c.args.s.now named })
+    subst (Within c.args.s.now) (sym c.start.ensures) (record {
+      counted = omega arith;
+      within =
+          names-within c.args.s.now named;
+    })
 
 pub returns-in-End : goal.returns-in-End
 returns-in-End c = let named = sym c.has_names.ensures ∙ not-false _ (ap not c.if-not-has_names.false) in

@@ -6,7 +6,8 @@ pub returns-then-list-at : goal.returns-then-list-at
 returns-then-list-at c = shows_none c.args.list.now c.args.at c.if-list-at.true
 
 pub returns-then-list-end : goal.returns-then-list-end
-returns-then-list-end c = shows_last c.args.list.now c.args.at c.line_end-end.result (search rules) c.if-list-end.true c.line_end-end.ensures
+returns-then-list-end c =
+    shows_last c.args.list.now c.args.at c.line_end-end.result (search rules) c.if-list-end.true c.line_end-end.ensures
 
 pub returns : goal.returns
 returns c = shows_line c.args.list.now c.args.at c.line_end-end.result (search rules) c.line_end-end.ensures

@@ -22,10 +22,12 @@ returns-then-one_byte c = let one = sym c.one_byte.ensures ∙ c.if-one_byte.tru
     let next : c.args.column + 4 ≡ c.args.column + 2 + 2 = omega arith in
     let lf = ap (λ (n : ℕ). get_or c.args.s.now n 0) last ∙ p.lf in
     behind_space c.args.kind c.args.s.now c.args.column _ (omega (arith, p.within)) p.space
-    (quick_byte c.args.kind c.args.s.now (c.args.column + 2) _ (omega (arith, p.within)) lf next c.byte_shape-shape.ensures)
+    (quick_byte c.args.kind c.args.s.now (c.args.column + 2) _ (omega (arith, p.within)) lf next
+    c.byte_shape-shape.ensures)
 
 pub long_line-requires : goal.long_line-requires
-long_line-requires c = record { column_in_bounds = c.requires; column_value = sym c.one_byte.ensures ∙ c.if-one_byte.false }
+long_line-requires c =
+    record { column_in_bounds = c.requires; column_value = sym c.one_byte.ensures ∙ c.if-one_byte.false }
 
 pub returns-in-Plain : goal.returns-in-Plain
 returns-in-Plain c = c.quick_token-quick.ensures (λ e. no_wrong e (same_row c.in-Plain.is))

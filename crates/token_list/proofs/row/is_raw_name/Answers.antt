@@ -12,7 +12,9 @@ pub returns-then-end-second : goal.returns-then-end-second
 returns-then-end-second c = sym (raw_short c.args.s.now c.args.start c.args.end (omega arith) (omega arith))
 
 pub returns-then-s-start-ne114 : goal.returns-then-s-start-ne114
-returns-then-s-start-ne114 c = sym (raw_parts c.args.s.now c.args.start c.args.end (omega arith) (omega arith) ∙ simp (ne_eqb _ _ c.if-s-start-ne114.true))
+returns-then-s-start-ne114 c =
+    sym (raw_parts c.args.s.now c.args.start c.args.end (omega arith) (omega arith)
+    ∙ simp (ne_eqb _ _ c.if-s-start-ne114.true))
 
 pub returns-then-s-second-ne35 : goal.returns-then-s-second-ne35
 returns-then-s-second-ne35 c = sym

@@ -15,7 +15,8 @@ returns c =
     let column : LastColumn a.marked a.s.now a.at c.if-marked.column = elim c.if-marked.branch [
       | then-marked+else-not-mark_stands w ↦
           subst (LastColumn a.marked a.s.now a.at) (sym w.column-is)
-          (marked-column a.marked a.s.now a.at w.if-marked.true (sym w.mark_stands.ensures ∙ w.if-not-mark_stands.false))
+          (marked-column a.marked a.s.now a.at w.if-marked.true (sym w.mark_stands.ensures
+          ∙ w.if-not-mark_stands.false))
       | else-marked w ↦
           subst (LastColumn a.marked a.s.now a.at) (sym w.column-is)
           (plain_column a.marked a.s.now a.at w.if-marked.false c.requires)

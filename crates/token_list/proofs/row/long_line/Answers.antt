@@ -30,9 +30,15 @@ returns-then-end-start-gt-MAX_TEXT c = let start = c.args.column + 2 in
 pub text_shape-shape-requires : goal.text_shape-shape-requires
 text_shape-shape-requires c = let lf = c.line_end-end.ensures.lf (omega arith) in
     let space = c.if-s-space-ne32.false in
-    record { end_in_bounds = omega arith; fact = not_one_byte c.args.s.now c.args.column c.line_end-end.result c.requires.column_value space (omega arith) lf }
+    record {
+      end_in_bounds = omega arith;
+      fact =
+          not_one_byte c.args.s.now c.args.column c.line_end-end.result c.requires.column_value space (omega arith) lf;
+    }
 
 pub returns : goal.returns
-returns c = let row = quick_row c.args.kind c.args.s.now (c.args.column + 2) _ c.line_end-end.result c.line_end-end.ensures.start (omega arith)
+returns c =
+    let row = quick_row c.args.kind c.args.s.now (c.args.column + 2) _ c.line_end-end.result
+    c.line_end-end.ensures.start (omega arith)
     (c.line_end-end.ensures.found (omega arith)) (omega arith) refl c.text_shape-shape.ensures in
     behind_space c.args.kind c.args.s.now c.args.column _ (omega arith) c.if-s-space-ne32.false row

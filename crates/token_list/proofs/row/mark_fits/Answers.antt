@@ -7,7 +7,8 @@ pub returns-then-j-eq48 : goal.returns-then-j-eq48
 returns-then-j-eq48 c = sym (or_holds _ _ (eq-eqb _ _ c.if-j-eq48.true))
 
 pub returns-then-kind-ne112 : goal.returns-then-kind-ne112
-returns-then-kind-ne112 c = sym (or_last _ _ (ne_eqb _ _ c.if-j-eq48.false) ∙ and_fails _ _ (ne_eqb _ _ c.if-kind-ne112.true))
+returns-then-kind-ne112 c =
+    sym (or_last _ _ (ne_eqb _ _ c.if-j-eq48.false) ∙ and_fails _ _ (ne_eqb _ _ c.if-kind-ne112.true))
 
 pub returns : goal.returns
 returns c = sym (or_last _ _ (ne_eqb _ _ c.if-j-eq48.false) ∙ and_last _ _ (eq-eqb _ _ c.if-kind-ne112.false))

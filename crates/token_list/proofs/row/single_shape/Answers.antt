@@ -15,12 +15,14 @@ returns-else-is_punctuation c = sym
 
 pub returns-then-is_one_of : goal.returns-then-is_one_of
 returns-then-is_one_of c = sym
-    (passed_over _ _ _ (ne_eqb _ _ c.if-kind-eq112.false) ∙ chosen _ _ _ (eq-eqb _ _ c.if-kind-eq111.true) ∙ chosen _ _ _
+    (passed_over _ _ _ (ne_eqb _ _ c.if-kind-eq112.false) ∙ chosen _ _ _ (eq-eqb _ _ c.if-kind-eq111.true)
+    ∙ chosen _ _ _
     (sym c.is_one_of.ensures ∙ c.if-is_one_of.true))
 
 pub returns-else-is_one_of : goal.returns-else-is_one_of
 returns-else-is_one_of c = sym
-    (passed_over _ _ _ (ne_eqb _ _ c.if-kind-eq112.false) ∙ chosen _ _ _ (eq-eqb _ _ c.if-kind-eq111.true) ∙ passed_over _
+    (passed_over _ _ _ (ne_eqb _ _ c.if-kind-eq112.false) ∙ chosen _ _ _ (eq-eqb _ _ c.if-kind-eq111.true)
+    ∙ passed_over _
     _ _ (sym c.is_one_of.ensures ∙ c.if-is_one_of.false))
 
 pub returns-then-is_one_of-2 : goal.returns-then-is_one_of-2

@@ -15,15 +15,20 @@ pub returns-then-s-at : goal.returns-then-s-at
 returns-then-s-at c = sym (punct-none c.args.s.now c.args.c c.requires.in_list c.args.b c.if-s-at.true)
 
 pub returns-then-s-at-ne112 : goal.returns-then-s-at-ne112
-returns-then-s-at-ne112 c = sym (punct_look c.args.s.now c.args.c c.requires.in_list c.args.b c.if-s-at.false ∙ and_fails _ _ (ne_eqb _ _ c.if-s-at-ne112.true))
+returns-then-s-at-ne112 c =
+    sym (punct_look c.args.s.now c.args.c c.requires.in_list c.args.b c.if-s-at.false
+    ∙ and_fails _ _ (ne_eqb _ _ c.if-s-at-ne112.true))
 
 pub bounds-s-plain : goal.bounds-s-plain
 bounds-s-plain c = let f = first-row c.args.s.now c.args.c.at c.requires.in_list.right_rows c.if-s-at.false in
     omega (arith, text-within _ _ f, offset_low (marked c.args.s.now))
 
 pub returns-then-s-plain : goal.returns-then-s-plain
-returns-then-s-plain c = let m = no_marks c.args.s.now c.args.c c.requires.in_list c.args.b c.if-s-at.false c.requires.b_value c.if-s-plain.true in
-    sym (punct_by c.args.s.now c.args.c c.requires.in_list c.args.b c.if-s-at.false c.if-s-at-ne112.false false m ∙ eq-eqb _ _ c.if-s-plain.true)
+returns-then-s-plain c =
+    let m = no_marks c.args.s.now c.args.c c.requires.in_list c.args.b c.if-s-at.false c.requires.b_value
+    c.if-s-plain.true in
+    sym (punct_by c.args.s.now c.args.c c.requires.in_list c.args.b c.if-s-at.false c.if-s-at-ne112.false false m
+    ∙ eq-eqb _ _ c.if-s-plain.true)
 
 pub has_marks-requires : goal.has_marks-requires
 has_marks-requires c = list_long c.requires.in_list

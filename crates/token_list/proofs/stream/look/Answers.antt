@@ -13,7 +13,8 @@ pub returns-then-s-at : goal.returns-then-s-at
 returns-then-s-at c = laws.look_none _ c.args.c c.requires (laws.none_here _ c.args.c c.requires c.if-s-at.true)
 
 pub returns-then-kind-eq99 : goal.returns-then-kind-eq99
-returns-then-kind-eq99 c = laws.look_none _ c.args.c c.requires (laws.close_here _ c.args.c c.requires c.if-s-at.false c.if-kind-eq99.true)
+returns-then-kind-eq99 c =
+    laws.look_none _ c.args.c c.requires (laws.close_here _ c.args.c c.requires c.if-s-at.false c.if-kind-eq99.true)
 
 pub has_marks-requires : goal.has_marks-requires
 has_marks-requires c = list_long c.requires

@@ -8,11 +8,13 @@ use Rattle.token_list.proofs.Columns.{mark_column, own_mark}
 use Rattle.token_list.proofs.stream.mark.Goals as goal
 
 pub returns-then-marked : goal.returns-then-marked
-returns-then-marked c = mark_column c.args.s.now c.args.at ∙ sym (ap (λ (m : Bool). mark_of m (drop c.args.at c.args.s.now))
+returns-then-marked c =
+    mark_column c.args.s.now c.args.at ∙ sym (ap (λ (m : Bool). mark_of m (drop c.args.at c.args.s.now))
     c.if-marked.true)
 
 pub returns-then-s-at-ne112 : goal.returns-then-s-at-ne112
-returns-then-s-at-ne112 c = sym (ap (λ (m : Bool). mark_of m (drop c.args.at c.args.s.now)) c.if-marked.false ∙ own_mark c.args.s.now
+returns-then-s-at-ne112 c =
+    sym (ap (λ (m : Bool). mark_of m (drop c.args.at c.args.s.now)) c.if-marked.false ∙ own_mark c.args.s.now
     c.args.at c.requires
     ∙ and_fails _ _ (ne_eqb _ _ c.if-s-at-ne112.true))
 

@@ -40,5 +40,6 @@ pub loop-i-preserved : goal.loop-i-preserved
 loop-i-preserved c = ahead_more c.args.s.now c.args.at c.loop-i.i c.loop-i-test.true c.loop-i.invariant
 
 pub returns : goal.returns
-returns c = ahead_found c.args.s.now c.args.at c.requires.right_rows c.requires.at_in_bounds c.loop-i.i c.loop-i-test.false
+returns c =
+    ahead_found c.args.s.now c.args.at c.requires.right_rows c.requires.at_in_bounds c.loop-i.i c.loop-i-test.false
     c.loop-i.invariant

@@ -16,6 +16,8 @@ overflow_add-start c = let off = c.text_offset.ensures ∙ ap text_offset c.has_
 
 pub returns : goal.returns
 returns c = let off = c.text_offset.ensures ∙ ap text_offset c.has_marks-marked.ensures in
-    let joint = c.mark-joint.ensures ∙ ap (λ (m : Bool). mark_of m (drop c.args.at c.args.s.now)) c.has_marks-marked.ensures in
-    token_of c.args.s.now c.args.at c.row_end-end.result _ c.requires.right_rows c.row_end-end.ensures c.text_offset.result off joint refl refl refl
+    let joint = c.mark-joint.ensures
+    ∙ ap (λ (m : Bool). mark_of m (drop c.args.at c.args.s.now)) c.has_marks-marked.ensures in
+    token_of c.args.s.now c.args.at c.row_end-end.result _ c.requires.right_rows c.row_end-end.ensures
+    c.text_offset.result off joint refl refl refl
     refl refl

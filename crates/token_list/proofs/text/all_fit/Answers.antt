@@ -13,11 +13,13 @@ loop-i-init c = refl
 
 pub returns-then-not-in_text : goal.returns-then-not-in_text
 returns-then-not-in_text c = sym
-    (c.loop-i.invariant ∙ all_fails (in_text c.args.names) c.args.s.now c.args.end (omega arith) c.loop-i.i (omega arith)
+    (c.loop-i.invariant
+    ∙ all_fails (in_text c.args.names) c.args.s.now c.args.end (omega arith) c.loop-i.i (omega arith)
     (sym c.in_text.ensures ∙ not-true _ (ap not c.if-not-in_text.true)))
 
 pub loop-i-preserved : goal.loop-i-preserved
-loop-i-preserved c = c.loop-i.invariant ∙ all_next (in_text c.args.names) c.args.s.now c.args.end (omega arith) c.loop-i.i (omega arith)
+loop-i-preserved c =
+    c.loop-i.invariant ∙ all_next (in_text c.args.names) c.args.s.now c.args.end (omega arith) c.loop-i.i (omega arith)
     (sym c.in_text.ensures ∙ not-false _ (ap not c.if-not-in_text.false))
 
 pub returns : goal.returns

@@ -14,11 +14,13 @@ loop-pairs-init c = let none = drop_of_length-le c.args.a.now {i = length c.args
     (omega arith, none ∙ sym (drop_of_length-le c.args.b.now {i = length c.args.a.now - 0} (omega arith)))
 
 pub returns-then-a-i : goal.returns-then-a-i
-returns-then-a-i c = let next = compared_unequal c.args.a.now c.args.b.now (omega arith) c.loop-pairs.pairs (omega arith) in
+returns-then-a-i c =
+    let next = compared_unequal c.args.a.now c.args.b.now (omega arith) c.loop-pairs.pairs (omega arith) in
     next c.loop-pairs.invariant.1 c.if-a-i.true
 
 pub loop-pairs-preserved : goal.loop-pairs-preserved
-loop-pairs-preserved c = let next = equal_from c.args.a.now c.args.b.now (omega arith) c.loop-pairs.pairs (omega arith) in
+loop-pairs-preserved c =
+    let next = equal_from c.args.a.now c.args.b.now (omega arith) c.loop-pairs.pairs (omega arith) in
     (omega arith, next c.loop-pairs.invariant.1 c.if-a-i.false)
 
 pub returns : goal.returns

@@ -30,14 +30,17 @@ test-high b h =
     passed_over (ltb b 33) _ _ (le-ltb b 33 (omega arith)) ∙ passed_over (leb b 64) _ _ (lt-leb b 64 h)
 
 pub returns-then-b-lt33 : goal.returns-then-b-lt33
-returns-then-b-lt33 c = sym (chosen (ltb c.args.b 33) false _ (lt-ltb c.args.b 33 c.if-b-lt33.true)) ∙ same_set c.args.b (search rules)
+returns-then-b-lt33 c =
+    sym (chosen (ltb c.args.b 33) false _ (lt-ltb c.args.b 33 c.if-b-lt33.true)) ∙ same_set c.args.b (search rules)
 
 pub returns-then-b-le64 : goal.returns-then-b-le64
 returns-then-b-le64 c = let bits = chosen (leb c.args.b 64) (low c.args.b) _ (le-leb c.args.b 64 c.if-b-le64.true) in
     sym (passed_over (ltb c.args.b 33) _ _ (le-ltb c.args.b 33 (omega arith)) ∙ bits) ∙ same_set c.args.b (search rules)
 
 pub returns-then-b-eq94 : goal.returns-then-b-eq94
-returns-then-b-eq94 c = sym (test-high c.args.b (omega arith) ∙ or_holds _ _ (eq-eqb c.args.b 94 c.if-b-eq94.true)) ∙ same_set c.args.b (search rules)
+returns-then-b-eq94 c =
+    sym (test-high c.args.b (omega arith) ∙ or_holds _ _ (eq-eqb c.args.b 94 c.if-b-eq94.true))
+    ∙ same_set c.args.b (search rules)
 
 pub returns-then-b-eq124 : goal.returns-then-b-eq124
 returns-then-b-eq124 c = let second = or_holds _ _ (eq-eqb c.args.b 124 c.if-b-eq124.true) in

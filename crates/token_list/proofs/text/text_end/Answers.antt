@@ -9,7 +9,10 @@ use borrow.Author.Tests.{not-true, not-false}
 use Rattle.token_list.proofs.text.text_end.Goals as goal
 
 pub loop-i-init : goal.loop-i-init
-loop-i-init c = (scan_start c.args.s.now c.args.from, all_none (in_text c.args.names) c.args.s.now c.args.from c.args.from (omega arith))
+loop-i-init c = (
+  scan_start c.args.s.now c.args.from,
+  all_none (in_text c.args.names) c.args.s.now c.args.from c.args.from (omega arith),
+)
 
 pub returns-then-not-in_text : goal.returns-then-not-in_text
 returns-then-not-in_text c = record {
