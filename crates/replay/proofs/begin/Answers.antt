@@ -1,4 +1,3 @@
-use borrow.Author.Rules.{rules}
 use Rattle.replay.proofs.begin.Goals as goal
 
 pub returns-in-Malformed : goal.returns-in-Malformed

@@ -1,14 +1,15 @@
 use mathlib.Core.Path.{ap, ◌∙◌}
 use borrow.Author.Tests.{lt-ltb, le-ltb, eq-eqb, ne_eqb}
 use Rattle.replay.specs.Turn.{begun}
-use borrow.Author.Rules.{rules}
 use Rattle.replay.proofs.seek.Goals as goal
 
 pub returns-then-s-gt0 : goal.returns-then-s-gt0
-returns-then-s-gt0 c = rw (eq-eqb c.args.s.at.from c.args.s.at.to c.if-from-to.true, lt-ltb 0 c.args.s.skip c.if-s-gt0.true)
+returns-then-s-gt0 c =
+    rw (eq-eqb c.args.s.at.from c.args.s.at.to c.if-from-to.true, lt-ltb 0 c.args.s.skip c.if-s-gt0.true)
 
 pub returns-then-from-to : goal.returns-then-from-to
-returns-then-from-to c = rw (eq-eqb c.args.s.at.from c.args.s.at.to c.if-from-to.true, le-ltb 0 c.args.s.skip c.if-s-gt0.false)
+returns-then-from-to c =
+    rw (eq-eqb c.args.s.at.from c.args.s.at.to c.if-from-to.true, le-ltb 0 c.args.s.skip c.if-s-gt0.false)
 
 pub returns-then-s-gt0-2 : goal.returns-then-s-gt0-2
 returns-then-s-gt0-2 c = let more = ne_eqb c.args.s.at.from c.args.s.at.to c.if-from-to.false in

@@ -1,7 +1,6 @@
 use mathlib.Core.Path.{sym, ◌∙◌, ap}
 use Rattle.writing.specs.Answer.{answer}
 use Rattle.replay.specs.Answer.{writer_of}
-use borrow.Author.Rules.{rules}
 use Rattle.replay.proofs.answers.is_generics.Goals as goal
 
 pub returns : goal.returns

@@ -1,6 +1,5 @@
 use mathlib.Core.Path.{sym, ◌∙◌, ap}
 use Rattle.describe.specs.Listing.{answer}
-use borrow.Author.Rules.{rules}
 use Rattle.replay.proofs.answers.is_listing.Goals as goal
 
 pub returns : goal.returns

@@ -1,4 +1,3 @@
-use borrow.Author.Rules.{rules}
 use Rattle.replay.proofs.answers.is_right.Goals as goal
 
 pub returns-in-Check : goal.returns-in-Check

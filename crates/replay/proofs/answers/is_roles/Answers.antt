@@ -4,7 +4,6 @@ use lib.Seq.{slice, length-take-le}
 use Rattle.replay.specs.Answer.{roles_fit}
 use Rattle.reading.specs.Answer.{answer}
 use Rattle.report.proofs.Lines.{found, not_found}
-use borrow.Author.Rules.{rules}
 use Rattle.replay.proofs.answers.is_roles.Goals as goal
 
 pub slice_bounds-roles-end : goal.slice_bounds-roles-end

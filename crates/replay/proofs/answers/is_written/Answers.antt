@@ -2,7 +2,6 @@ use mathlib.Core.Path.{sym, ◌∙◌, ap}
 use lib.Seq.{slice, length-take-le}
 use Rattle.output.specs.Written.{answer_of}
 use Rattle.replay.specs.Answer.{written_fits}
-use borrow.Author.Rules.{rules}
 use Rattle.replay.proofs.answers.is_written.Goals as goal
 
 pub slice_bounds-text_is-end : goal.slice_bounds-text_is-end

@@ -1,4 +1,3 @@
-use borrow.Author.Rules.{rules}
 use Rattle.replay.proofs.answers.write_generics.Goals as goal
 
 pub returns-in-Impl : goal.returns-in-Impl

@@ -1,4 +1,3 @@
-use borrow.Author.Rules.{rules}
 use Rattle.replay.proofs.header.put_writer.Goals as goal
 
 pub returns-in-Impl : goal.returns-in-Impl

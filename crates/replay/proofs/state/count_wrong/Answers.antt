@@ -1,4 +1,3 @@
-use borrow.Author.Rules.{rules}
 use Rattle.replay.proofs.state.count_wrong.Goals as goal
 
 pub returns-else-right : goal.returns-else-right

@@ -1,4 +1,3 @@
-use borrow.Author.Rules.{rules}
 use Rattle.replay.proofs.state.counted.Goals as goal
 
 pub returns-in-Check : goal.returns-in-Check

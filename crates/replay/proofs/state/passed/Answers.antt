@@ -1,6 +1,5 @@
 use borrow.Author.Tests.{le-leb, lt-leb}
 use Rattle.replay.specs.Window.{size}
-use borrow.Author.Rules.{rules}
 use Rattle.replay.proofs.state.passed.Goals as goal
 
 pub returns-then-s-unread : goal.returns-then-s-unread
