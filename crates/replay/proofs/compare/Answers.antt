@@ -1,21 +1,9 @@
 use Prim.Native.Nat.{◌+◌, ◌≤◌}
-use mathlib.Core.Path.{sym}
 use native.Mathlib.Omega.{arith}
-use borrow.Author.Tests.{lt-ltb, le-ltb, eq-eqb, ne_eqb}
+use borrow.Author.Tests.{le-ltb, ne_eqb}
 use Rattle.replay.specs.Window.{size}
-use lib.Seq.{length-take-le}
 use Rattle.replay.proofs.Letters.{take_part}
 use Rattle.replay.proofs.compare.Goals as goal
-
-pub returns-then-s-eq0 : goal.returns-then-s-eq0
-returns-then-s-eq0 c = rw (eq-eqb c.args.s.cases 0 c.if-s-eq0.true)
-
-pub returns-then-at-from : goal.returns-then-at-from
-returns-then-at-from c = let case = ne_eqb c.args.s.cases 0 c.if-s-eq0.false in
-    rw (case, lt-ltb (size c.args.s.at) c.args.size c.if-at-from.true)
-
-pub slice_bounds-is_right-end : goal.slice_bounds-is_right-end
-slice_bounds-is_right-end c = sym (length-take-le c.args.s.list c.args.list.now c.requires.list)
 
 pub returns : goal.returns
 returns c =

@@ -1,15 +1,8 @@
 use native.Mathlib.Omega.{arith}
-use mathlib.Core.Path.{refl, subst}
+use mathlib.Core.Path.{subst}
 use lib.ListN.{length}
 use Rattle.replay.proofs.Turns.{onward, stepped_onward}
 use Rattle.replay.proofs.replay.Goals as goal
-
-pub loop-turns-init : goal.loop-turns-init
-loop-turns-init c = (
-  rw c.start-s.ensures (record { unread = record { order = omega arith; room = omega arith }; list = omega arith }),
-  refl,
-  refl,
-)
 
 pub loop-turns-preserved : goal.loop-turns-preserved
 loop-turns-preserved c =

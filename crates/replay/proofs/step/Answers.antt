@@ -1,13 +1,12 @@
-use mathlib.Core.Path.{◌≡◌, refl, sym, ap, ◌∙◌}
+use mathlib.Core.Path.{◌≡◌, sym, ap, ◌∙◌}
 use mathlib.Core.List.{List}
 use Prim.Native.Nat.{ℕ}
-use lib.ListN.{length}
-use Rattle.replay.specs.Turn.{taken, list_after, compared, sought, HEADER, follows, Stepped}
+use Rattle.replay.specs.Turn.{sought, HEADER, follows, Stepped}
 use Rattle.replay.specs.declared.state.State.{State}
 use Rattle.replay.specs.declared.Turn.{Turn}
 use Rattle.replay.specs.declared.Next.{Next}
-use Rattle.replay.specs.declared.Next.TheVariants.{Over, Take, Compare}
-use Rattle.replay.proofs.Turns.{ready_within, placed_ready, asked}
+use Rattle.replay.specs.declared.Next.TheVariants.{Take, Compare}
+use Rattle.replay.proofs.Turns.{placed_ready, asked}
 use Rattle.replay.specs.Window.{Ready}
 use Rattle.replay.specs.State.{moved}
 use Rattle.replay.specs.declared.window.Window.{Window}
@@ -24,11 +23,6 @@ stepped : (b d c l m : List ℕ) (s : State) (w : Window) (r : Turn) (x : Next) 
 stepped b d c l m s w r x h e f = record { filled = d; window = w; ready = h; next = rw e f }
 
 -- ## The answers
-
-pub seek-requires : goal.seek-requires
-seek-requires c =
-    rw c.moved-found.ensures
-    (ready_within c.args.buf.now c.ready.new.buf HEADER c.args.s.at c.ready.result c.requires.unread c.ready.ensures)
 
 pub ready-requires-in-Take : goal.ready-requires-in-Take
 ready-requires-in-Take c =
@@ -63,36 +57,3 @@ compare-requires c =
     rw c.moved-window-in-Compare.ensures
     (placed_ready c.ready.new.buf c.ready-in-Compare.new.buf c.in-Compare.size c.in-Compare.next
     c.ready-in-Compare.result p c.ready-in-Compare.ensures)
-
-pub returns-in-Over : goal.returns-in-Over
-returns-in-Over c =
-    let x : Next = Over c.in-Over.turn in
-    let t = told c.ready.new.buf c.args.s c.ready.result c.moved-found.result c.seek.result x c.moved-found.ensures
-    c.seek.ensures c.in-Over.is in
-    stepped c.args.buf.now c.ready.new.buf c.ready.new.buf c.args.list.now c.args.list.now c.args.s c.ready.result
-    c.in-Over.turn x c.ready.ensures t (refl, refl, refl)
-
-pub returns-in-Take : goal.returns-in-Take
-returns-in-Take c =
-    let list : List ℕ = c.args.list.now in
-    let x : Next = Take c.in-Take.next c.in-Take.size in
-    let t = told c.ready.new.buf c.args.s c.ready.result c.moved-found.result c.seek.result x c.moved-found.ensures
-    c.seek.ensures c.in-Take.is in
-    let turn = c.take_list.ensures.value
-    ∙ ap (λ (t : State). taken (length list) t c.in-Take.size) c.moved-window.ensures in
-    let kept = c.take_list.ensures.list_after
-    ∙ ap (λ (t : State). list_after c.ready-in-Take.new.buf list t c.in-Take.size) c.moved-window.ensures in
-    stepped c.args.buf.now c.ready.new.buf c.ready-in-Take.new.buf list c.take_list.new.list c.args.s c.ready.result
-    c.take_list.result x c.ready.ensures t (c.ready-in-Take.result, c.ready-in-Take.ensures, turn, kept)
-
-pub returns-in-Compare : goal.returns-in-Compare
-returns-in-Compare c =
-    let list : List ℕ = c.args.list.now in
-    let x : Next = Compare c.in-Compare.next c.in-Compare.topic c.in-Compare.size in
-    let t = told c.ready.new.buf c.args.s c.ready.result c.moved-found.result c.seek.result x c.moved-found.ensures
-    c.seek.ensures c.in-Compare.is in
-    let turn = c.compare.ensures
-    ∙ ap (λ (t : State). compared c.ready-in-Compare.new.buf list t c.in-Compare.topic c.in-Compare.size)
-    c.moved-window-in-Compare.ensures in
-    stepped c.args.buf.now c.ready.new.buf c.ready-in-Compare.new.buf list list c.args.s c.ready.result
-    c.compare.result x c.ready.ensures t (c.ready-in-Compare.result, c.ready-in-Compare.ensures, turn, refl)

@@ -1,21 +1,13 @@
 use Rattle.token_list.proofs.Texts.{drop_of_take}
 use Prim.Native.Nat.{◌+◌, ◌≤◌}
-use mathlib.Core.Path.{refl, sym, ap, ◌∙◌}
+use mathlib.Core.Path.{sym, ap, ◌∙◌}
 use native.Mathlib.Omega.{arith}
-use borrow.Author.Tests.{lt-ltb, le-ltb}
+use borrow.Author.Tests.{le-ltb}
 use lib.ListN.{length}
 use Rattle.replay.specs.Window.{size}
 use lib.Seq.{sets}
 use Rattle.replay.proofs.Letters.{take_part}
 use Rattle.replay.proofs.take_list.Goals as goal
-
-pub returns-then-list-size : goal.returns-then-list-size
-returns-then-list-size c =
-    rw (lt-ltb (length c.args.list.now) c.args.size c.if-list-size.true) (record { value = refl; list_after = refl })
-
-pub returns-then-at-from : goal.returns-then-at-from
-returns-then-at-from c = let room = le-ltb (length c.args.list.now) c.args.size c.if-list-size.false in
-    rw (room, lt-ltb (size c.args.s.at) c.args.size c.if-at-from.true) (record { value = refl; list_after = refl })
 
 pub returns : goal.returns
 returns c =

@@ -2,45 +2,12 @@ use mathlib.Core.Path.{sym, ◌∙◌}
 use mathlib.Core.List.{List}
 use Prim.Native.Nat.{ℕ, ◌≤◌}
 use native.Mathlib.Omega.{arith}
-use borrow.Author.Tests.{le-leb, lt-leb, eq-eqb, ne_eqb}
+use borrow.Author.Tests.{le-leb, eq-eqb}
 use lib.ListN.{length, get_or}
 use lib.Seq.{slice, length-slice}
-use Rattle.token_list.proofs.Texts.{and_both, and_last, and_fails, chosen, passed_over}
-use Rattle.replay.proofs.Headers.{size_none, size_next, size-negatable}
+use Rattle.token_list.proofs.Texts.{and_both, chosen}
+use Rattle.replay.proofs.Headers.{size_next, size-negatable}
 use Rattle.replay.proofs.header.read_size.Goals as goal
-
-pub returns-then-to-end : goal.returns-then-to-end
-returns-then-to-end c =
-    size_none c.args.s.now c.args.from c.args.to c.run_end-end.result c.requires.1 c.args.section c.run_end-end.ensures
-    c.if-to-end.true
-
-pub returns-then-s-end-ne10 : goal.returns-then-s-end-ne10
-returns-then-s-end-ne10 c =
-    let line = size_next c.args.s.now c.args.from c.args.to c.run_end-end.result c.requires.1 c.args.section
-    c.run_end-end.ensures c.if-to-end.false in
-    let lf = ne_eqb (get_or c.args.s.now c.run_end-end.result 0) 10 c.if-s-end-ne10.true in
-    sym (line ∙ passed_over _ _ _ (and_fails _ _ lf))
-
-pub returns-then-end-from : goal.returns-then-end-from
-returns-then-end-from c =
-    let digits : List ℕ = slice c.args.from c.run_end-end.result c.args.s.now in
-    let count = length-slice c.args.from c.run_end-end.result c.args.s.now (omega arith) in
-    let line = size_next c.args.s.now c.args.from c.args.to c.run_end-end.result c.requires.1 c.args.section
-    c.run_end-end.ensures c.if-to-end.false in
-    let lf = eq-eqb (get_or c.args.s.now c.run_end-end.result 0) 10 c.if-s-end-ne10.false in
-    let none = lt-leb 1 (length digits) (omega (arith, count, c.if-end-from.true)) in
-    sym (line ∙ passed_over _ _ _ (and_last _ _ lf ∙ and_fails _ _ none))
-
-pub returns-then-end-from-gt-MAX_DIGITS : goal.returns-then-end-from-gt-MAX_DIGITS
-returns-then-end-from-gt-MAX_DIGITS c =
-    let digits : List ℕ = slice c.args.from c.run_end-end.result c.args.s.now in
-    let count = length-slice c.args.from c.run_end-end.result c.args.s.now (omega arith) in
-    let line = size_next c.args.s.now c.args.from c.args.to c.run_end-end.result c.requires.1 c.args.section
-    c.run_end-end.ensures c.if-to-end.false in
-    let lf = eq-eqb (get_or c.args.s.now c.run_end-end.result 0) 10 c.if-s-end-ne10.false in
-    let some = le-leb 1 (length digits) (omega (arith, count, c.if-end-from-gt-MAX_DIGITS.true)) in
-    let many = lt-leb (length digits) 9 (omega (arith, count, c.if-end-from-gt-MAX_DIGITS.true)) in
-    sym (line ∙ passed_over _ _ _ (and_last _ _ lf ∙ and_last _ _ some ∙ many))
 
 pub worth-size-requires : goal.worth-size-requires
 worth-size-requires c =

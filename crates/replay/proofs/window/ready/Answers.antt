@@ -1,15 +1,12 @@
 use mathlib.Core.Path.{refl, ◌∙◌}
 use native.Mathlib.Omega.{arith}
-use borrow.Author.Tests.{le-leb, lt-leb}
+use borrow.Author.Tests.{lt-leb}
 use borrow.Rule.Slice.PartMut.{take_put, same_len_mid, mid_len}
 use Prim.Native.Nat.{◌-◌, ◌≤◌}
 use lib.ListN.{length}
 use Rattle.replay.specs.Window.{size}
 use Rattle.replay.proofs.Windows.{slid_within}
 use Rattle.replay.proofs.window.ready.Goals as goal
-
-pub returns-then-need-to : goal.returns-then-need-to
-returns-then-need-to c = rw (le-leb c.args.need (size c.args.at) c.if-need-to.true) (refl, refl)
 
 pub returns : goal.returns
 returns c =
