@@ -92,7 +92,9 @@ module _ (s : List ℕ) (from to end : ℕ) (fits : to ≤ length s) where
 
   module _ (k : Section) (q : end ≡ from + run digit (slice from to s)) where
     pub size_none : to ≤ end → Malformed ≡ sized k from (slice from to s)
-    size_none h = sym (ap (ended k _ _) (back digit q ∙ slice-none s end to h))
+    size_none h =
+        let u : List ℕ = slice from to s in
+        sym (ap (ended k (from + run digit u + 1) (take (run digit u) u)) (back digit q ∙ slice-none s end to h))
 
     pub size_next : end < to
         → sized k from (slice from to s) ≡ ended k (end + 1) (slice from end s) (get_or s end 0 ∷ slice (end + 1) to s)
@@ -122,7 +124,9 @@ ended-start k start t (b ∷ bs) to h = go (h (omega arith)) (eqb b 10 && betwee
     go h false = tt
 
 sized-start : (k : Section) (at : ℕ) (u : List ℕ) (to : ℕ) → at + length u ≤ to → headed to (sized k at u)
-sized-start k at u to h = ended-start k _ _ (drop (run digit u) u) to (λ g. omega (arith, length-drop (run digit u) u))
+sized-start k at u to h =
+    ended-start k (at + run digit u + 1) (take (run digit u) u) (drop (run digit u) u) to
+    (λ g. omega (arith, length-drop (run digit u) u))
 
 named_start : (at : ℕ) (t u : List ℕ) (to : ℕ) → at + length u ≤ to → headed to (named at t u)
 named_start at t [] to h = tt

@@ -13,7 +13,8 @@ use Rattle.replay.specs.Answer.{letter_fits, letters_fit, accepted_fits, ACCEPTE
 
 module _ (every : Bool) (s rs : List ℕ) (e : ℕ) (fits : e ≤ length s) where
   step : (i j : ℕ) → i < e → j < length rs
-      → letters_fit every (slice i e s) (drop j rs) ≡ (letter_fits every (get_or s i 0) (get_or rs j 0) && letters_fit every
+      → letters_fit every (slice i e s) (drop j rs) ≡
+      (letter_fits every (get_or s i 0) (get_or rs j 0) && letters_fit every
       (slice (i + 1) e s) (drop (j + 1) rs))
   step i j h k = rw (slice_next s i e h fits, drop_next rs j k)
 

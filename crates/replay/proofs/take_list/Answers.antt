@@ -1,24 +1,25 @@
 use Rattle.token_list.proofs.Texts.{drop_of_take}
 use Prim.Native.Nat.{◌+◌, ◌≤◌}
-use mathlib.Core.Path.{refl, sym, ap, ◌∙◌}
+use mathlib.Core.Path.{sym, ap, ◌∙◌}
 use native.Mathlib.Omega.{arith}
-use borrow.Author.Tests.{lt-ltb, le-ltb}
+use borrow.Author.Tests.{le-ltb}
 use lib.ListN.{length}
 use Rattle.replay.specs.Window.{size}
 use lib.Seq.{sets}
 use Rattle.replay.proofs.Letters.{take_part}
-use borrow.Author.Rules.{rules}
 use Rattle.replay.proofs.take_list.Goals as goal
 
-pub returns-then-list-size : goal.returns-then-list-size
-returns-then-list-size c = rw (lt-ltb (length c.args.list.now) c.args.size c.if-list-size.true) (refl, refl)
-
-pub returns-then-at-from : goal.returns-then-at-from
-returns-then-at-from c = let room = le-ltb (length c.args.list.now) c.args.size c.if-list-size.false in
-    rw (room, lt-ltb (size c.args.s.at) c.args.size c.if-at-from.true) (refl, refl)
-
 pub returns : goal.returns
-returns c = let within : c.args.s.at.from + c.args.size ≤ c.args.s.at.to = omega (arith, c.requires.unread.order, c.if-at-from.false) in
-    let bytes = take_part c.args.buf.now c.args.size c.args.s.at.from c.args.s.at.to within c.requires.unread.room ∙ drop_of_take c.args.s.at.from (c.args.s.at.from + c.args.size) c.args.buf.now in
-    rw (le-ltb (length c.args.list.now) c.args.size c.if-list-size.false, le-ltb (size c.args.s.at) c.args.size c.if-at-from.false)
-    (rw (c.moved-next.ensures, c.advanced-rest.ensures, c.count.ensures), c.put_bytes.ensures.bytes ∙ ap (sets c.args.list.now 0) (sym bytes))
+returns c =
+    let within : c.args.s.at.from + c.args.size ≤ c.args.s.at.to =
+    omega (arith, c.requires.unread.order, c.if-at-from.false) in
+    let bytes = take_part c.args.buf.now c.args.size c.args.s.at.from c.args.s.at.to within c.requires.unread.room
+    ∙ drop_of_take c.args.s.at.from (c.args.s.at.from + c.args.size) c.args.buf.now in
+    rw (
+      le-ltb (length c.args.list.now) c.args.size c.if-list-size.false,
+      le-ltb (size c.args.s.at) c.args.size c.if-at-from.false,
+    )
+    (record {
+      value = rw (c.moved-next.ensures, c.advanced-rest.ensures, c.count.ensures);
+      list_after = c.put_bytes.ensures.bytes ∙ ap (sets c.args.list.now 0) (sym bytes);
+    })

@@ -1,22 +1,10 @@
 use mathlib.Core.Path.{ap}
 use mathlib.Core.Bool.{not}
 use borrow.Author.Tests.{not-true, not-false}
-use borrow.Author.Rules.{rules}
 use native.Mathlib.Omega.{arith}
-use mathlib.Core.Path.{◌≡◌, refl, sym, ◌∙◌}
-use Prim.Native.Nat.{◌-◌}
-use lib.ListN.{length, drop}
-use lib.Seq.{slice}
-use Rattle.replay.specs.Answer.{letters_fit}
-use Rattle.replay.proofs.Letters.{fits_next, fits_fails, fits_short, fits_end}
+use mathlib.Core.Path.{sym, ◌∙◌}
+use Rattle.replay.proofs.Letters.{fits_next, fits_fails, fits_end}
 use Rattle.replay.proofs.answers.letters_fit.Goals as goal
-
-pub loop-i-init : goal.loop-i-init
-loop-i-init c = refl
-
-pub returns-then-end-at : goal.returns-then-end-at
-returns-then-end-at c = sym (c.loop-i.invariant ∙ fits_short c.args.every c.args.s.now c.args.roles.now c.args.end (omega arith)
-    c.loop-i.at c.loop-i.i (omega arith) (omega arith))
 
 pub returns-then-not-letter_fits : goal.returns-then-not-letter_fits
 returns-then-not-letter_fits c = sym (c.loop-i.invariant ∙

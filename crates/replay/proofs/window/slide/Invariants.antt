@@ -1,11 +1,7 @@
-use lib.ListN.{length-set}
-use Prim.Native.Nat.{◌+◌, ◌-◌, ◌≤◌}
-use mathlib.Core.Path.{◌≡◌, refl, ◌∙◌}
-use mathlib.Core.List.{◌++◌}
-use lib.Seq.{slice}
-use Rattle.replay.proofs.Windows.{slid, slid_none, slid_more}
-use lib.ListN.{length, drop}
-use native.Mathlib.Omega.{arith}
+use Prim.Native.Nat.{◌-◌, ◌≤◌}
+use mathlib.Core.Path.{◌≡◌}
+use Rattle.replay.proofs.Windows.{slid}
+use lib.ListN.{length}
 use Rattle.replay.proofs.window.slide.Given as goal
 
 abbrev pub invariant-loop-i : goal.invariant-loop-i
