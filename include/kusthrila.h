@@ -1,4 +1,4 @@
-/* The reader of token lists, for C and C++. Link libexports.a (rt staticlib exports).
+/* The reader of token lists, for C and C++. Link libexports.a (bash build.sh exports).
  *
  * A list is a text: a line of names, `kind text` or `kind joint text`, then a line for each row, as `p :` or, with the second
  * names, `p 1 :`. The column between kind and text is the row's mark: 1 for a punctuation that is joint, that is, the next one

@@ -1,12 +1,12 @@
 #!/bin/sh
 # speed.sh: how long the reader takes, beside virtue's parser on the same lists. speed.sh ours [NAME [TIMES]]: our reader alone.
 # speed.sh listing [BEFORE]: how long the listing takes on enums of as many variants as a list holds, and on small
-# declarations; and the same with the library of BEFORE, another checkout in which `rt staticlib exports` was run.
+# declarations; and the same with the library of BEFORE, another checkout in which `bash build.sh exports` was run.
 # speed.sh source: how long it takes from a source text to roles, beside proc_macro2's lexer with virtue's parser, and beside syn 1
 # (Debian's librust-syn-dev).
 # Inputs whose name ends in -joint have the names `kind joint text`; they are left out where the reader refuses these.
 # speed.sh placed TIMES [BEFORE]: our reader with its functions in so many orders in memory, on which its time depends; beside the
-# reader of BEFORE, another checkout in which `rt staticlib exports` was run, in as many orders and by turns. It needs lld.
+# reader of BEFORE, another checkout in which `bash build.sh exports` was run, in as many orders and by turns. It needs lld.
 # It needs Debian's librust-proc-macro2-dev, so that virtue's parser runs outside the compiler; CARGO_REGISTRY names the folder
 # with that package's sources.
 set -eu
@@ -17,7 +17,7 @@ names=$(echo "$registry"/unicode-ident-*)
 [ -f "$macros/src/lib.rs" ] || skip "no proc-macro2 in CARGO_REGISTRY ($registry)"
 [ -f "$names/src/lib.rs" ] || skip "no unicode-ident in CARGO_REGISTRY ($registry)"
 build_oracle
-(cd "$root" && rt staticlib exports >/dev/null)
+bash "$root/build.sh" exports >/dev/null
 rustc --edition 2018 -O --cap-lints allow --crate-type rlib --crate-name unicode_ident \
     -o "$built/libunicode_ident.rlib" "$names/src/lib.rs"
 rustc --edition 2018 -O --cap-lints allow --crate-type rlib --crate-name proc_macro2 -L "$built" \

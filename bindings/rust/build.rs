@@ -1,4 +1,4 @@
-// Where libexports.a stands: KUSTHRILA_LIB, else the folder that `rt staticlib exports` writes.
+// Where libexports.a stands: KUSTHRILA_LIB, else the folder that `build.sh exports` writes.
 use std::env;
 use std::path::PathBuf;
 
