@@ -115,7 +115,7 @@ checked_told s = go (list.check s) refl
     go (list.Answer.passed n) e = small {v = n} (omega (arith, (bounds s e).rows))
     go (list.Answer.refused n p) e = let o = check-refusal s n p e in one (check_small o).0 o
 
-kind_small : (k : Kind) → kind_code k < REFUSED
+pub kind_small : (k : Kind) → kind_code k < REFUSED
 kind_small struct = omega arith
 kind_small enum = omega arith
 

@@ -3,3 +3,4 @@ pub mod Codes
 pub mod TaggedCodes
 pub mod GeneratedCodes
 pub mod SourceCodes
+pub mod ReadSources

@@ -10,9 +10,12 @@ ghost use Rattle.exports.specs.Code.{refusal, code, Coded, check_case, ReadInto,
 ghost use Rattle.exports.specs.Code.{WrittenInto, MAX_OUTPUT, GeneratedInto, ValueInto, TaggedInto};
 ghost use Rattle.exports.specs.Code.{NamesCompared};
 ghost use Rattle.exports.specs.SourceCode.{TokensInto, RowPlace};
+ghost use Rattle.exports.specs.ReadSource.{ReadSourceInto};
 
 use describe::value::ValuePlace;
 use describe::{listing, value};
+use from_source::roles;
+use from_source::roles::SourceRead;
 use generate::generics;
 use output::written::Written;
 use parse::item;
@@ -199,6 +202,32 @@ pub extern "C" fn kusthrila_tokens(text: &[u8], out: &mut [u8], place: &mut u64)
             })
         }
         Tokens::Refused(r) => coded(r),
+    }
+}
+
+// 40, whose offset is written to `place`.
+fn fault_at(offset: usize, place: &mut u64) -> u64
+    ensures number { result ≡ code (refusal 40 END) }
+    ensures offset { place.new ≡ offset }
+{
+    *place = offset as u64;
+    coded(Refusal {
+        number: 40,
+        place: END,
+    })
+}
+
+// Reads the declaration of a source text into role bytes: 0 for a struct, 1 for an enum, or a refusal, of which 40 alone
+// writes its offset to `place`.
+#[unsafe(no_mangle)]
+pub extern "C" fn kusthrila_read_source(text: &[u8], roles: &mut [u8], place: &mut u64) -> u64
+    ensures { ReadSourceInto text.now roles.old roles.new place.old place.new result }
+{
+    match roles::read(text, roles) {
+        SourceRead::Struct => 0,
+        SourceRead::Enum => 1,
+        SourceRead::FaultAt(offset) => fault_at(offset, place),
+        SourceRead::Refused(r) => coded(r),
     }
 }
 

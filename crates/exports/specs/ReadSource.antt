@@ -1,0 +1,41 @@
+-- The answer about a source text that is read in one call, as one number.
+use Rattle.std.specs.Prelude.{◌≡◌, ◌⊎◌, List, ℕ, length}
+use Rattle.token_list.specs.Check.{END}
+use Rattle.reading.specs.Answer.{read_number}
+use Rattle.from_source.specs.Answer as reads
+use Rattle.from_source.specs.Answer.{TextRefusal, read_answer, buffer}
+use Rattle.exports.specs.Code.{Case, accepted, refusal, code, decoded, kind_code}
+
+-- what is told of a text: a case, or 40 at an offset
+pub data TextCase : Type 0 where
+  told : Case → TextCase
+  at : ℕ → TextCase
+
+-- 40 has the end mark, since its offset stands elsewhere
+abbrev pub case_of : TextCase → Case
+case_of (told c) = c
+case_of (at offset) = refusal 40 END
+
+-- the offset of 40; else the number p that stood there
+abbrev pub place_told : ℕ → TextCase → ℕ
+place_told p (told c) = p
+place_told p (at offset) = offset
+
+-- the number r, which gives back its case; and the place, which was p and is q
+pub record TextCoded (c : TextCase) (p q r : ℕ) : Type 0 where
+  pub code : r ≡ code (case_of c)
+  pub back : decoded r ≡ case_of c
+  pub place : q ≡ place_told p c
+
+-- 0 for a struct, 1 for an enum
+abbrev pub read_case : reads.Answer → TextCase
+read_case (reads.declared d rs) = told (accepted (kind_code d.kind))
+read_case (reads.fault_at offset) = at offset
+read_case (reads.refused n p) = told (refusal n p)
+
+-- the answer for a text s, and the whole role buffer; a refusal is 40 at q, 41, or the one of the text's list
+pub record ReadSourceInto (s before after : List ℕ) (p q r : ℕ) : Type 0 where
+  pub coded : TextCoded (read_case (read_answer (length before) s)) p q r
+  pub buffer : after ≡ buffer (length before) (read_answer (length before) s)
+  pub refusal : (n m : ℕ) → decoded r ≡ refusal n m
+      → (read_answer (length before) s ≡ reads.fault_at q) ⊎ TextRefusal read_number s n m
