@@ -210,13 +210,17 @@ example() { # COMMAND FILE: the command prints FILE of the first example, and re
     fi
     cmp target/bindings/refused.out bindings/refused.roles
 }
-tokens_example() { # COMMAND: it prints the list of one source text and the place of a row in it, and refuses another text
+tokens_example() { # COMMAND ROLES: it prints the list of one source text, the place of a row in it, and what ROLES prints of the
+    # list; and refuses another text
     "$1" examples/controller.rs | cmp - examples/controller.tokens
     "$1" examples/controller.rs 2 | cmp - <(echo '45 5')
-    if "$1" examples/refused.rs >target/bindings/refused.out; then
-        return 1
-    fi
-    cmp target/bindings/refused.out <(printf 'refused place\n40 28\n')
+    "$1" examples/controller.rs roles | cmp - <("$2" examples/controller.tokens)
+    for word in "" roles; do
+        if "$1" examples/refused.rs $word >target/bindings/refused.out; then
+            return 1
+        fi
+        cmp target/bindings/refused.out <(printf 'refused place\n40 28\n')
+    done
 }
 # Added names as a program's arguments: what is no name is refused, and never two names.
 bash build.sh impl_generics type_generics
@@ -246,7 +250,7 @@ if have gcc "the C examples and the stack that a call needs"; then
     target/bindings/listing examples/valve.tokens 2 | grep -qx 'value -2'
     target/bindings/generics examples/generics.tokens "'b" Drain | cmp - <(cat crates/{impl,type}_generics/stdout)
     target/bindings/generics examples/marked.tokens "'b" Drain | cmp - <(cat examples/marked.{impl,type})
-    tokens_example target/bindings/tokens
+    tokens_example target/bindings/tokens target/bindings/roles
     compared() { target/bindings/names "$1" "$2" | grep -qx "$3, pairs looked at: $4"; } # NAME NAME ANSWER PAIRS
     compared valve_north_1 valve_north_1 equal 13
     compared valve_north_1 valve_north_2 'not equal' 1
@@ -270,7 +274,7 @@ if have cargo "the Rust wrapper"; then
     example target/cargo/release/examples/roles bindings/valve.roles
     target/cargo/release/examples/generics examples/generics.tokens "'b" Drain | cmp - <(cat crates/{impl,type}_generics/stdout)
     target/cargo/release/examples/generics examples/marked.tokens "'b" Drain | cmp - <(cat examples/marked.{impl,type})
-    tokens_example target/cargo/release/examples/tokens
+    tokens_example target/cargo/release/examples/{tokens,roles}
     for file in "${answers[@]}"; do
         target/cargo/release/examples/compare "$file" 100000
     done

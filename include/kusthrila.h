@@ -18,10 +18,11 @@
  * calls from several threads are independent, as long as none writes a buffer that another uses.
  *
  * A call needs no more than KUSTHRILA_STACK bytes of stack, but kusthrila_listing up to KUSTHRILA_LISTING_STACK: it keeps
- * tables of all variants, to tell whether one is there twice; and kusthrila_tokens up to KUSTHRILA_TOKENS_STACK: it keeps
- * the kinds of the open brackets. Measured on x86-64 were some 4,300 in kusthrila_check, 4,400 in kusthrila_tagged, 4,600
- * in kusthrila_read, 4,800 in the writers of generics, 8,900 in kusthrila_value, 16,800 in kusthrila_tokens and 74,500 in
- * kusthrila_listing; the rest is margin. bindings/c/stack.c measures it, and test.sh does so each time. */
+ * tables of all variants, to tell whether one is there twice; kusthrila_tokens up to KUSTHRILA_TOKENS_STACK: it keeps the
+ * kinds of the open brackets; and kusthrila_read_source up to KUSTHRILA_READ_SOURCE_STACK: it keeps a list too.
+ * Measured on x86-64 were some 3,900 in kusthrila_check and kusthrila_tagged, 4,300 in the writers of generics, 4,600 in
+ * kusthrila_read, 8,300 in kusthrila_value, 16,800 in kusthrila_tokens, 73,900 in kusthrila_listing and 82,500 in
+ * kusthrila_read_source; the rest is margin. bindings/c/stack.c measures it, and test.sh does so each time. */
 #ifndef KUSTHRILA_H
 #define KUSTHRILA_H
 
@@ -58,11 +59,14 @@ extern "C" {
 /* A scratch must have as many bytes. */
 #define KUSTHRILA_SCRATCH 20u
 
-/* No call but kusthrila_listing and kusthrila_tokens needs more bytes of stack. */
+/* No call but kusthrila_listing, kusthrila_tokens and kusthrila_read_source needs more bytes of stack. */
 #define KUSTHRILA_STACK 16384u
 
 /* Nor does kusthrila_tokens need more than these. */
 #define KUSTHRILA_TOKENS_STACK 32768u
+
+/* Nor does kusthrila_read_source need more than these. */
+#define KUSTHRILA_READ_SOURCE_STACK 98304u
 
 /* Nor does kusthrila_listing need more than these. */
 #define KUSTHRILA_LISTING_STACK 98304u
@@ -101,8 +105,8 @@ enum kusthrila_tagged_role {
     KUSTHRILA_TAGGED_OTHER = 23  /* any other row */
 };
 
-/* The refusals. 9, 10, 32 to 39 and 44 to 49 are none. 40 and 41 are of kusthrila_tokens alone, 42, 43, 50 and 51 of
- * kusthrila_listing. */
+/* The refusals. 9, 10, 32 to 39 and 44 to 49 are none. 40 and 41 are of kusthrila_tokens and kusthrila_read_source alone,
+ * 42, 43, 50 and 51 of kusthrila_listing. */
 enum kusthrila_refusal {
     KUSTHRILA_REFUSAL_TOO_LONG = 1,             /* more than 65,536 bytes */
     KUSTHRILA_REFUSAL_LINE_OF_NAMES = 2,        /* the first line is neither `kind text` nor `kind joint text` */
@@ -199,6 +203,12 @@ static inline uint64_t kusthrila_pairs(uint64_t answer) { return answer / 2u; }
  * enough for the list, else refusal 8; KUSTHRILA_MOST_TOKENS bytes always are. In the answer itself the place of each
  * refusal is KUSTHRILA_END. place may not be NULL, nor overlap text or out. */
 uint64_t kusthrila_tokens(const uint8_t *text, size_t text_len, uint8_t *out, size_t out_len, uint64_t *place);
+
+/* Reads the declaration in Rust source text at one go: the answer and the roles are those of kusthrila_read for the list
+ * that kusthrila_tokens writes; or 40 or 41, as there, with KUSTHRILA_NO_ROLE in every byte of roles. The list stands on the
+ * call's own stack and is never too long for it, so that refusal 8 tells that roles is too short. place is as there, and
+ * may not overlap roles. kusthrila_row_place tells where the row of a refusal, or of a role, stands in the text. */
+uint64_t kusthrila_read_source(const uint8_t *text, size_t text_len, uint8_t *roles, size_t roles_len, uint64_t *place);
 
 /* Where the text of a row of that list stands in the source text: the answer is its offset, and its length is written to
  * length. A doc line's six rows have the whole line. Of a row that the list does not have the answer is text_len, and the

@@ -72,18 +72,29 @@ static void same_name_all(void) {
 }
 
 /* Lists are texts too, if seldom sound ones. */
-static void tokens_all(void) {
+static void texts_all(void (*call)(const uint8_t *text, size_t length)) {
     static const char *texts[] = {
         "#[a = \"b\\u{41}\"] pub struct A<'a, const N: u8>(&'a [u8; 0x1F_u8], 1.5e+3f64); /* a /* b */ */ // c\n",
         "/// a \"doc\" line\nfn f() { r#\"a\"#; b'a'; br##\"b\"##; '\\n'; r#type; }", "{[(", "/*", "\"", "0b2", "r##\"a\"#",
     };
-    uint64_t place = 0;
     top = (uint8_t *)__builtin_frame_address(0);
     for (size_t n = 0; n < count; n++)
-        kusthrila_tokens(lists[n].bytes, lists[n].length, out, sizeof out, &place);
+        call(lists[n].bytes, lists[n].length);
     for (size_t n = 0; n < sizeof texts / sizeof *texts; n++)
-        kusthrila_tokens((const uint8_t *)texts[n], strlen(texts[n]), out, sizeof out, &place);
+        call((const uint8_t *)texts[n], strlen(texts[n]));
 }
+
+static uint64_t place;
+
+static void tokens_of(const uint8_t *text, size_t length) { kusthrila_tokens(text, length, out, sizeof out, &place); }
+
+static void tokens_all(void) { texts_all(tokens_of); }
+
+static void read_of(const uint8_t *text, size_t length) {
+    kusthrila_read_source(text, length, roles, sizeof roles, &place);
+}
+
+static void read_source_all(void) { texts_all(read_of); }
 
 static void row_place_all(void) {
     uint64_t length = 0;
@@ -196,6 +207,7 @@ int main(int argc, char **argv) {
     over |= measure("kusthrila_impl_generics and its like", generics_all, KUSTHRILA_STACK);
     over |= measure("kusthrila_same_name", same_name_all, KUSTHRILA_STACK);
     over |= measure("kusthrila_tokens", tokens_all, KUSTHRILA_TOKENS_STACK);
+    over |= measure("kusthrila_read_source", read_source_all, KUSTHRILA_READ_SOURCE_STACK);
     over |= measure("kusthrila_row_place", row_place_all, KUSTHRILA_STACK);
     return over;
 }

@@ -1,5 +1,5 @@
 //! Safe functions over the proved reader of token lists. Nothing is allocated, but for the vector that `tagged` returns, and
-//! nothing global is kept; a call needs at most 16,384 bytes of stack, that of `tokens` 32,768 and that of `listing` 98,304
+//! nothing global is kept; a call needs at most 16,384 bytes of stack, that of `tokens` 32,768 and that of `listing` or `read_source` 98,304
 //! (`include/kusthrila.h` says how that was measured).
 //!
 //! A list is a text: a line of names, `kind text` or `kind joint text`, then a line for each row, as `p :` or, with the second
@@ -39,6 +39,7 @@ extern "C" {
     ) -> u64;
     fn kusthrila_same_name(a: *const u8, a_len: usize, b: *const u8, b_len: usize) -> u64;
     fn kusthrila_tokens(text: *const u8, text_len: usize, out: *mut u8, out_len: usize, place: *mut u64) -> u64;
+    fn kusthrila_read_source(text: *const u8, text_len: usize, roles: *mut u8, roles_len: usize, place: *mut u64) -> u64;
     fn kusthrila_row_place(text: *const u8, text_len: usize, row: usize, length: *mut u64) -> u64;
 }
 
@@ -107,8 +108,22 @@ pub enum SourceRefusal {
     At(usize),
     /// `refusal::OVER_LIMIT`: the list passes a limit of lists.
     OverLimit,
-    /// `refusal::SHORT_BUFFER`: the output is too short for the list.
+    /// `refusal::SHORT_BUFFER`: the output is too short for the list, or the role bytes for its rows.
     ShortOutput,
+    /// Another refusal, of the text's list; `tokens` has none.
+    InList(Refusal),
+}
+
+impl SourceRefusal {
+    // The refusal of a text, and the offset that 40 has written.
+    fn new(refusal: Refusal, place: u64) -> Self {
+        match refusal.number {
+            refusal::NO_TOKEN => SourceRefusal::At(place as usize),
+            refusal::OVER_LIMIT => SourceRefusal::OverLimit,
+            refusal::SHORT_BUFFER => SourceRefusal::ShortOutput,
+            _ => SourceRefusal::InList(refusal),
+        }
+    }
 }
 
 // An answer below 2^32 refuses nothing; else it is 2^32 times the refusal's number, plus its place.
@@ -123,6 +138,10 @@ fn answer(code: u64) -> Result<u64, Refusal> {
     Err(Refusal { number: (code >> 32) as u8, place })
 }
 
+fn kind(code: u64) -> Kind {
+    if code == 0 { Kind::Struct } else { Kind::Enum }
+}
+
 /// Checks a list: the number of its rows, or refusal 1 to 7.
 pub fn check(list: &[u8]) -> Result<usize, Refusal> {
     // SAFETY: the pointer and the length are those of a slice, which the call only reads.
@@ -134,7 +153,7 @@ pub fn check(list: &[u8]) -> Result<usize, Refusal> {
 pub fn read(list: &[u8], roles: &mut [u8]) -> Result<Kind, Refusal> {
     // SAFETY: both are slices, `roles` is borrowed alone, and the call writes nothing past it.
     let code = unsafe { kusthrila_read(list.as_ptr(), list.len(), roles.as_mut_ptr(), roles.len()) };
-    answer(code).map(|kind| if kind == 0 { Kind::Struct } else { Kind::Enum })
+    answer(code).map(kind)
 }
 
 /// Writes the listing at the start of `out` and returns that part. After a refusal `out` is as it was.
@@ -233,12 +252,17 @@ pub fn tokens<'a>(text: &[u8], out: &'a mut [u8]) -> Result<&'a [u8], SourceRefu
     let mut place = 0;
     // SAFETY: both are slices, `out` and `place` are borrowed alone, and the call writes nothing past them.
     let code = unsafe { kusthrila_tokens(text.as_ptr(), text.len(), out.as_mut_ptr(), out.len(), &mut place) };
-    match answer(code) {
-        Ok(len) => Ok(&out[..len as usize]),
-        Err(Refusal { number: refusal::NO_TOKEN, .. }) => Err(SourceRefusal::At(place as usize)),
-        Err(Refusal { number: refusal::OVER_LIMIT, .. }) => Err(SourceRefusal::OverLimit),
-        Err(_) => Err(SourceRefusal::ShortOutput),
-    }
+    answer(code).map(|len| &out[..len as usize]).map_err(|refusal| SourceRefusal::new(refusal, place))
+}
+
+/// Reads the declaration in Rust source text at one go, as `read` does for the list that `tokens` writes: its kind, with a byte of
+/// the module `role` for each row of that list at the front of `roles` and `NO_ROLE` in the rest. After a refusal every byte of
+/// `roles` is `NO_ROLE`; `MOST_ROWS` bytes are always long enough.
+pub fn read_source(text: &[u8], roles: &mut [u8]) -> Result<Kind, SourceRefusal> {
+    let mut place = 0;
+    // SAFETY: both are slices, `roles` and `place` are borrowed alone, and the call writes nothing past them.
+    let code = unsafe { kusthrila_read_source(text.as_ptr(), text.len(), roles.as_mut_ptr(), roles.len(), &mut place) };
+    answer(code).map(kind).map_err(|refusal| SourceRefusal::new(refusal, place))
 }
 
 /// Where the text of a row of that list stands in the source text. A doc line's six rows have the whole line; a row that the list
@@ -520,6 +544,28 @@ mod tests {
         assert_eq!(row_place(text, usize::MAX), text.len()..text.len());
         assert_eq!(tokens(b"", &mut out), Ok(&b"kind text\n"[..]));
         assert_eq!(row_place(b"", 0), 0..0);
+    }
+
+    #[test]
+    fn reads_source_texts_at_one_go() {
+        let mut roles = [7u8; 7];
+        assert_eq!(read_source(b"/* a */ enum E { A } // b", &mut roles), Ok(Kind::Enum));
+        let (word, name, delimiter) = (role::ITEM_WORD, role::ITEM_NAME, role::DELIMITER);
+        assert_eq!(roles, [word, name, delimiter, role::VARIANT_NAME, delimiter, NO_ROLE, NO_ROLE]);
+        assert_eq!(read_source(b"struct A;", &mut roles), Ok(Kind::Struct));
+        assert_eq!(roles[..4], [word, name, delimiter, NO_ROLE]);
+        let no_body = Refusal { number: refusal::NO_STRUCT_BODY, place: Place::Row(2) };
+        for (text, refusal) in [
+            (&b"enum E { A = 0b12 }"[..], SourceRefusal::At(13)),
+            (&[b','; 4097], SourceRefusal::OverLimit),
+            (b"struct A(u8, u8);", SourceRefusal::ShortOutput),
+            (b"struct A,", SourceRefusal::InList(no_body)),
+            (b"", SourceRefusal::InList(Refusal { number: refusal::NO_WORD, place: Place::End })),
+        ] {
+            roles = [7; 7];
+            assert_eq!(read_source(text, &mut roles), Err(refusal));
+            assert_eq!(roles, [NO_ROLE; 7]);
+        }
     }
 
     #[test]

@@ -39,6 +39,7 @@ fn source_refused(refusal: &SourceRefusal) -> (u8, Vec<u8>) {
         SourceRefusal::At(offset) => (refusal::NO_TOKEN, format!("refused place\n40 {offset}\n").into()),
         SourceRefusal::OverLimit => (refusal::OVER_LIMIT, b"refused place\n41 -\n".to_vec()),
         SourceRefusal::ShortOutput => (refusal::SHORT_BUFFER, b"refused place\n8 -\n".to_vec()),
+        SourceRefusal::InList(refusal) => (refusal.number, refused(refusal)),
     }
 }
 

@@ -1,7 +1,7 @@
 //! The functions of the reader, called with buffers between guard bytes, and what holds of every answer.
 use crate::random::{Random, MARKED, NAMES};
 use kusthrila::{check, impl_generics, impl_generics_with_additional, listing, most_added, read, refusal, role, tagged};
-use kusthrila::{row_place, tagged_role, tokens, type_generics, value};
+use kusthrila::{read_source, row_place, tagged_role, tokens, type_generics, value};
 use kusthrila::{Entry, Place, Refusal, SourceRefusal, MOST_GENERICS, MOST_LISTING, MOST_ROWS, MOST_TOKENS, NO_ROLE, SCRATCH};
 
 const GUARD: u8 = 0xA5;
@@ -141,10 +141,29 @@ impl Reader {
         answer
     }
 
+    // A source text read at one go, with so many role bytes lent, is read as its list is: kind and role bytes are the same, or the
+    // refusal, and where there is no list the role bytes are cleared.
+    fn at_one_go(&mut self, text: &[u8], tokens: &Result<Vec<u8>, SourceRefusal>, lent: usize) {
+        let bytes = self.roles.lend(lent);
+        let answer = read_source(text, bytes);
+        let roles = bytes.to_vec();
+        bytes.fill(NO_ROLE);
+        let right = tokens.clone().and_then(|list| {
+            read(&list, bytes).map_err(|refusal| match refusal {
+                SHORT => SourceRefusal::ShortOutput,
+                other => SourceRefusal::InList(other),
+            })
+        });
+        assert_eq!(answer, right, "at one go, with {lent} role bytes");
+        assert!(roles == bytes, "the role bytes at one go");
+        self.roles.restore(lent);
+    }
+
     /// The same, of whose answer more is known: a list passes the check, its rows' texts stand in the source text one behind the
-    /// other, and a shorter output is refused.
+    /// other, a shorter output is refused, and to read the text at one go is to read the list.
     pub fn source(&mut self, text: &[u8]) -> Result<Vec<u8>, SourceRefusal> {
         let answer = self.tokens(text, MOST_TOKENS);
+        self.at_one_go(text, &answer, MOST_ROWS);
         let Ok(list) = &answer else {
             assert_eq!(self.tokens(text, 0), answer, "with no output");
             return answer;
@@ -152,6 +171,8 @@ impl Reader {
         assert_eq!(self.tokens(text, list.len()).as_ref(), Ok(list), "with an output as long as the list");
         assert_eq!(self.tokens(text, list.len() - 1), Err(SourceRefusal::ShortOutput), "with one byte less");
         let rows = check(list).expect("a list");
+        self.at_one_go(text, &answer, rows);
+        self.at_one_go(text, &answer, rows.saturating_sub(1));
         // Each place is searched from the text's start, so that of a long list only the first rows are looked up.
         let (mut last, mut doc) = (0..0, 0);
         for (row, part) in texts(list).take(rows.min(64)).enumerate() {
