@@ -2,4 +2,5 @@
 pub mod Lists
 pub mod Listings
 pub mod Readings
+pub mod Found
 pub mod Reports

@@ -24,16 +24,17 @@ use Rattle.from_source.specs.declared.roles.SourceRead.TheVariants as reads
 use Rattle.from_source.proofs.Lists.{roomy}
 use Rattle.from_source.proofs.Listings.{list_told}
 
-read_as : (n : ℕ) (s : List ℕ) {a : source.Answer} → source.answer MAX_BYTES s ≡ a → read_answer n s ≡ list_read n a
+pub read_as : (n : ℕ) (s : List ℕ) {a : source.Answer} → source.answer MAX_BYTES s ≡ a → read_answer n s ≡ list_read n a
 unfolding read_answer
 read_as n s e = ap (list_read n) e
 
-buffers_same : (n : ℕ) (a : readings.Answer) → readings.buffer n a ≡ buffer n (reading_answer a)
+pub buffers_same : (n : ℕ) (a : readings.Answer) → readings.buffer n a ≡ buffer n (reading_answer a)
 buffers_same n (readings.declared d rs) = refl
 buffers_same n (readings.refused m p) = refl
 
 -- the reader's enum
-parsed_read : (s : List ℕ) (p : Parse) (a : readings.Answer) → ParsedAs s p a → read_of p ≡ read_by (reading_answer a)
+pub parsed_read : (s : List ℕ) (p : Parse) (a : readings.Answer) → ParsedAs s p a
+    → read_of p ≡ read_by (reading_answer a)
 parsed_read s (parses.Struct i) (readings.declared d rs) h = ap kind_read (sym h.0)
 parsed_read s (parses.Enum i) (readings.declared d rs) h = ap kind_read (sym h.0)
 parsed_read s (parses.Refused r) (readings.declared d rs) h = absurd h
@@ -44,16 +45,16 @@ parsed_read s (parses.Refused r) (readings.refused n p) h =
 
 -- ## Refusals
 
-no_refusal : {offset n p : ℕ} {s : List ℕ} → fault_at offset ≡ refused n p → TextRefusal read_number s n p
+pub no_refusal : {offset n p : ℕ} {s : List ℕ} → fault_at offset ≡ refused n p → TextRefusal read_number s n p
 no_refusal e = let z : ◌≡◌ {A = ℕ} 0 1 = cc in absurd (omega arith)
 
-text_back : {m q n p : ℕ} → refused m q ≡ refused n p → source.refused m q ≡ source.refused n p
+pub text_back : {m q n p : ℕ} → refused m q ≡ refused n p → source.refused m q ≡ source.refused n p
 text_back e = cc
 
-over : {s : List ℕ} {n p : ℕ} → source.answer MAX_BYTES s ≡ source.refused n p → TextRefusal read_number s n p
+pub over : {s : List ℕ} {n p : ℕ} → source.answer MAX_BYTES s ≡ source.refused n p → TextRefusal read_number s n p
 over {s} {n} {p} e = let limit = (roomy s).limits n p e in long e limit.0 limit.1
 
-read_back : (a : readings.Answer) {n p : ℕ} → reading_answer a ≡ refused n p → a ≡ readings.refused n p
+pub read_back : (a : readings.Answer) {n p : ℕ} → reading_answer a ≡ refused n p → a ≡ readings.refused n p
 read_back (readings.declared d rs) e = let z : ◌≡◌ {A = ℕ} 0 1 = cc in absurd (omega arith)
 read_back (readings.refused m q) e = cc
 

@@ -1,11 +1,12 @@
 -- What the writer of token lists answers.
-use mathlib.Core.Path.{◌≡◌, ap, ◌∙◌, sym, subst⁻¹}
+use mathlib.Core.Path.{◌≡◌, ap, ◌∙◌, sym, subst, subst⁻¹}
 use mathlib.Core.Bool.{false}
 use mathlib.Core.List.{List, []}
 use Prim.Native.Nat.{ℕ, ◌≤◌, ◌<◌}
 use native.Mathlib.Omega.{arith}
 use borrow.Author.Tests.{lt-ltb, le-ltb}
-use lib.ListN.{length}
+use lib.ListN.{length, take}
+use Rattle.token_list.specs.Layout.{MAX_BYTES}
 use Rattle.token_list.specs.Row.{Row}
 use Rattle.token_list.specs.Rows.{list_of}
 use Rattle.token_list.specs.Check.{END}
@@ -17,14 +18,18 @@ use Rattle.source.specs.Lex.{lex}
 use Rattle.source.specs.Brackets.{Matched, sound, brackets}
 use Rattle.source.specs.Answer.{Answer, wrote, refused, rows_of, fitted, matched_answer, answer, output}
 use Rattle.source.specs.Stack.{matched_of}
-use Rattle.source.specs.Tokens.{rows_more_lem, NO_ROWS, TokensAs}
+use Rattle.source.specs.Tokens.{rows_more_lem, NO_ROWS, Listed, ScannedAs, fault, listed, Enough, Fitted}
+use Rattle.source.specs.Tokens.{found_list_lem, found_of, TokensAs}
 use Rattle.source.specs.declared.tokens.Size.{Size}
+use Rattle.source.specs.declared.tokens.Measured.{Measured}
 use Rattle.source.specs.declared.tokens.Measured.TheVariants.{Within, Over}
+use Rattle.source.specs.declared.tokens.Scanned.{Scanned}
+use Rattle.source.specs.declared.tokens.Scanned.TheVariants as scans
 use Rattle.source.specs.declared.tokens.Tokens.{Tokens}
 use Rattle.source.specs.declared.tokens.Tokens.TheVariants as answers
 use Rattle.source.specs.declared.brackets.Matched as code
 use Rattle.source.specs.declared.brackets.Matched.TheVariants as matches
-use Rattle.source.proofs.Measures.{past_limits, keeps_limits}
+use Rattle.source.proofs.Measures.{past_limits, keeps_limits, sized}
 
 -- ## An answer by its steps
 
@@ -84,3 +89,50 @@ module _ (x s : List ℕ) where
   tokens_fault e h =
       let told = answer_as (sym (ap matched_of e) ∙ h) in
       record { room = tt; answer = sym told; output = sym (ap (output x) told) }
+
+-- ## What was found in one round
+
+-- of a text without a fault
+pub listed_as : {s l : List ℕ} {r : Scanned} {m : Measured} → r ≡ scans.Sound m → ScannedAs s l r → Listed s l m
+listed_as {s} {l} {m = m} e h = known (subst (ScannedAs s l) e h)
+  where
+    known : ScannedAs s l (scans.Sound m) → Listed s l m
+    known (listed k) = k
+
+-- as many bytes as a list may have are enough
+pub fitted-all : {s l : List ℕ} {r : Scanned} {n : ℕ} → ScannedAs s l r → MAX_BYTES ≤ n → Fitted r n
+fitted-all (fault e) h = tt
+fitted-all {s} {n = n} (listed {m} k) h = go m k.measured
+  where
+    go : (m : Measured) → m ≡ rows_more_lem NO_ROWS (rows_of (lex s)) → Enough m n
+    go Over e = tt
+    go (Within z) e = omega (arith, (sized (rows_of (lex s)) e).few, h)
+
+-- a list of n bytes has room for what was measured
+pub fitted-bytes : {r : Scanned} {m : Measured} {z : Size} {n : ℕ} → r ≡ scans.Sound m → m ≡ Within z → Fitted r n
+    → z.bytes ≤ n
+fitted-bytes {n = n} e f h = subst (λ (k : Measured). Enough k n) f (subst (λ (k : Scanned). Fitted k n) e h)
+
+listed_answer : (s l : List ℕ) (m : Measured) → Listed s l m → Enough m (length l)
+    → matched_answer MAX_BYTES (rows_of (lex s)) sound ≡ found_list_lem l m
+listed_answer s l Over h e = passed_over _ _ (refused 41 END) (past_limits _ h.measured)
+listed_answer s l (Within z) h e =
+    let text = list_of false (rows_of (lex s)) in
+    let known = sized (rows_of (lex s)) h.measured in
+    let few = le-ltb MAX_BYTES (length text) (omega (arith, known.bytes, known.few)) in
+    let list = h.list (omega (arith, known.bytes)) in
+    chosen _ (fitted MAX_BYTES text) _ known.within ∙ passed_over _ _ (wrote text) few
+    ∙ ap wrote (sym list ∙ ap (λ (n : ℕ). take n l) (sym known.bytes))
+
+-- what was found is the answer, where there is room for every list
+pub found-answer : {s l : List ℕ} {r : Scanned} → ScannedAs s l r → Fitted r (length l)
+    → answer MAX_BYTES s ≡ found_of l r
+unfolding answer
+found-answer {s} (fault e) f = ap (matched_answer MAX_BYTES (rows_of (lex s))) e
+found-answer {s} {l} (listed {m} h) f =
+    ap (matched_answer MAX_BYTES (rows_of (lex s))) h.matched ∙ listed_answer s l m h f
+
+-- and how many rows it has
+pub found_rows : {s l : List ℕ} {m : Measured} {z : Size} → Listed s l m → m ≡ Within z
+    → z.rows ≡ length (rows_of (lex s))
+found_rows {s} h e = (sized (rows_of (lex s)) (sym e ∙ h.measured)).rows

@@ -2,7 +2,7 @@
 use mathlib.Core.Path.{◌≡◌, refl, ap, ◌∙◌, sym}
 use mathlib.Core.Bool.{Bool, true, false, not, cond, ◌&&◌, ◌||◌}
 use mathlib.Core.List.{List, [], ◌∷◌}
-use Prim.Native.Nat.{ℕ, zero, suc, ◌+◌, ◌-◌, ◌<◌}
+use Prim.Native.Nat.{ℕ, zero, suc, ◌+◌, ◌-◌, ◌≤◌, ◌<◌}
 use native.Mathlib.Omega.{arith}
 use borrow.Author.Tests.{eq-eqb, ne_eqb, eqb-true}
 use lib.Dec.{eqb}
@@ -12,8 +12,8 @@ use Rattle.token_list.proofs.Texts.{drop_next, chosen, passed_over, and_parts}
 use Rattle.source.specs.Bytes.{CR, SLASH, STAR, BANG, in_doc}
 use Rattle.source.specs.Taken.{takes, fault, after, run}
 use Rattle.source.specs.Comment.{block, block_doc, outer_line, line_ends, doc_line}
-use Rattle.source.specs.Contract.{RunEnd}
-use Rattle.source.proofs.Offsets.{stands, byte-first, byte_behind, drop_behind}
+use Rattle.source.specs.Contract.{RunEnd, NoSlash}
+use Rattle.source.proofs.Offsets.{and_fails_last, stands, byte-first, byte_behind, drop_behind}
 use Rattle.source.proofs.Passed.{after_none, after_more}
 
 -- what is passed over is as if it were not there
@@ -61,6 +61,19 @@ module _ (depth : ℕ) (s : List ℕ) (i : ℕ) (h : i < length s) where
   pub block_next : pair s i STAR SLASH ≡ false → pair s i SLASH STAR ≡ false →
       block depth 0 (drop i s) ≡ after 1 (block depth 0 (drop (i + 1) s))
   block_next p q = block_of ∙ passed_over _ _ _ p ∙ passed_over _ _ _ q
+
+-- from a byte on up to e, where no `/` stands
+module _ (depth : ℕ) (s : List ℕ) (e : ℕ) (l : e ≤ length s) where
+  pub block_plain : (n i : ℕ) → i + n ≡ e → NoSlash s i (e + 1)
+      → block depth 0 (drop i s) ≡ after n (block depth 0 (drop e s))
+  block_plain zero i p h =
+      let q : i ≡ e = omega arith in ap (λ (j : ℕ). block depth 0 (drop j s)) q ∙ sym (after_none _)
+  block_plain (suc n) i p h =
+      let here = ne_eqb (get_or s i 0) SLASH (h i (omega arith) (omega arith)) in
+      let behind = ne_eqb (get_or s (i + 1) 0) SLASH (h (i + 1) (omega arith) (omega arith)) in
+      let next = block_next depth s i (omega arith) (and_fails_last (eqb (get_or s i 0) STAR) behind) (rw here) in
+      let rest = block_plain n (i + 1) (omega arith) (λ k b a. h k b (omega arith)) in
+      next ∙ after_more n (block depth 0 (drop e s)) rest
 
 -- ## Doc comments
 

@@ -1,21 +1,26 @@
 -- The tokens of a text from an offset on, piece by piece.
 use mathlib.Core.Path.{◌≡◌, refl, ap, ◌∙◌, sym}
+use mathlib.Core.Bool.{Bool, true, false}
 use mathlib.Core.List.{List, [], ◌∷◌}
 use Prim.Native.Nat.{ℕ, zero, suc, ◌+◌, ◌-◌, ◌≤◌, ◌<◌}
 use native.Mathlib.Omega.{arith}
-use lib.ListN.{length, take, drop, drop_of_length-le}
+use native.Mathlib.Decide.{dec_le}
+use lib.ListN.{length, get_or, take, drop, drop_of_length-le}
 use lib.Seq.{slice, drop-nil}
 use Rattle.token_list.specs.Byte.{QUOTE}
 use Rattle.token_list.specs.Rows.{ident, punct}
 use Rattle.token_list.proofs.Texts.{drop_next, drop_of_take}
 use Rattle.source.specs.Piece.{Piece, piece}
 use Rattle.source.specs.Lex.{Lexed, end, token, row_at, doc_rows, found, lex_from, lex}
-use Rattle.source.specs.Contract.{PieceAs, piece_tokens, piece_end}
+use Rattle.source.specs.Bytes.{blank}
+use Rattle.source.specs.Contract.{RunEnd, PieceAs, piece_tokens, piece_end}
 use Rattle.source.specs.Contract.{gap as gap-as, row as Row-as, lifetime as lifetime-as, doc as doc-as}
 use Rattle.source.specs.Contract.{none as none-as}
 use Rattle.source.specs.declared.piece.Piece as code
 use Rattle.source.specs.Stack.{rest}
 use Rattle.source.proofs.Offsets.{drop_behind}
+use Rattle.source.proofs.Runs.{run_stops, run_none}
+use Rattle.source.proofs.Pieces.{gap_at}
 
 -- bytes that are passed over are left out
 pub lex_skip : (at k : ℕ) (s : List ℕ) → lex_from at k s ≡ lex_from (at + k) 0 (drop k s)
@@ -88,3 +93,18 @@ piece-within (Row-as h) = h.within
 piece-within (lifetime-as h) = h.within
 piece-within (doc-as h l) = h.within
 piece-within (none-as h) = omega arith
+
+-- ## Whitespace
+
+-- whitespace up to r is passed over
+pub rest-blank : {s : List ℕ} {i r : ℕ} → RunEnd blank s i r → rest s i ≡ rest s r
+rest-blank {s} {i} {r} h = go (dec_le (length s) i)
+  where
+    some : i < length s → (b : Bool) → blank (get_or s i 0) ≡ b → rest s i ≡ rest s r
+    some here true q = rest-piece s i here (gap_at here q h)
+    some here false q =
+        let n : i ≡ r = omega (arith, h.told, run_stops blank s i here q) in ap (rest s) n
+
+    go : Dec (length s ≤ i) → rest s i ≡ rest s r
+    go (yes l) = let n : i ≡ r = omega (arith, h.told, run_none blank s i l) in ap (rest s) n
+    go (no l) = some (omega arith) (blank (get_or s i 0)) refl

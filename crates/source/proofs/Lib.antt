@@ -12,6 +12,7 @@ pub mod Cells
 pub mod Walks
 pub mod Spans
 pub mod Measures
+pub mod Scans
 pub mod Answers
 pub mod Reports
 pub mod DivisionCuts

@@ -5,7 +5,7 @@ use mathlib.Core.List.{List, [], ◌∷◌, ◌++◌, append_assoc}
 use Prim.Native.Nat.{ℕ, zero, suc, ◌+◌, ◌-◌, ◌≤◌, ◌<◌}
 use native.Mathlib.Omega.{arith}
 use native.Mathlib.Decide.{dec_le}
-use borrow.Author.Tests.{lt-ltb, le-ltb, le-leb, lt-leb, eq-eqb, eqb-true, eqb-false}
+use borrow.Author.Tests.{lt-ltb, le-ltb, le-leb, lt-leb, leb-true, eq-eqb, eqb-true, eqb-false}
 use lib.Dec.{leb, ltb, eqb}
 use lib.ListN.{length, drop, get_or, replicate, length-append}
 use lib.Seq.{slice, length-slice}
@@ -13,7 +13,7 @@ use Rattle.token_list.specs.Byte.{LF}
 use Rattle.token_list.specs.Layout.{OPEN, CLOSE, names, MAX_BYTES, MAX_ROWS, MAX_TEXT, MAX_DEPTH}
 use Rattle.token_list.specs.Row.{Row, written}
 use Rattle.token_list.specs.Rows.{list_of}
-use Rattle.token_list.proofs.Texts.{chosen, passed_over, and_both, and_fails, and_last, or_holds, or_last}
+use Rattle.token_list.proofs.Texts.{chosen, passed_over, and_both, and_fails, and_last, and_parts, or_holds, or_last}
 use Rattle.token_list.proofs.Rows.{written_append}
 use Rattle.source.specs.Piece.{Piece, piece, row, lifetime, doc}
 use Rattle.source.specs.Answer.{rows_of, short, shallow, within_limits}
@@ -296,6 +296,55 @@ module _ (rs : List Row) where
       go : Judged NONE rs (Within z)
           → (within_limits rs ≡ true) × (z.bytes ≡ length (list_of false rs))
       go (kept h b) = (limits ∙ h, b ∙ sym (length-append (names false) (written false rs)))
+
+-- ## The size of a list
+
+-- as many rows more as are measured
+rows_counted : (z : Size) (rs : List Row) {y : Size} → Within y ≡ rows_more_lem (Within z) rs
+    → y.rows ≡ z.rows + length rs
+rows_counted z [] {y} e = let same : y ≡ z = cc in omega (arith, ap (λ (x : Size). x.rows) same)
+rows_counted z (r ∷ rs) {y} e =
+    go (ltb MAX_TEXT (length r.text) || leb MAX_ROWS z.rows) (ltb MAX_BYTES (z.bytes + length r.text + 3))
+    (eqb r.kind OPEN && leb MAX_DEPTH z.depth) (λ k. rows_counted (larger z r.kind (length r.text)) rs k) e
+  where
+    x : Size
+    x = larger z r.kind (length r.text)
+
+    never : Within y ≡ rows_more_lem Over rs → y.rows ≡ z.rows + length (r ∷ rs)
+    never f =
+        let over : Within y ≡ Over = f ∙ over_stays rs in
+        let one : ◌≡◌ {A = ℕ} 0 1 = cc in absurd (omega arith)
+
+    go : (a b c : Bool) → (Within y ≡ rows_more_lem (Within x) rs → y.rows ≡ x.rows + length rs)
+        → Within y ≡ rows_more_lem (cond a Over (cond b Over (cond c Over (Within x)))) rs
+        → y.rows ≡ z.rows + length (r ∷ rs)
+    go true b c h f = never f
+    go false true c h f = never f
+    go false false true h f = never f
+    go false false false h f = omega (arith, h f)
+
+-- the list of these rows keeps the limits, and has this size
+pub record Sized (rs : List Row) (z : Size) : Type 0 where
+  pub within : within_limits rs ≡ true
+  pub bytes : z.bytes ≡ length (list_of false rs)
+  pub few : z.bytes ≤ MAX_BYTES
+  pub rows : z.rows ≡ length rs
+
+few_bytes : (rs : List Row) → within_limits rs ≡ true → length (list_of false rs) ≤ MAX_BYTES
+unfolding within_limits
+few_bytes rs e =
+    let sizes = (and_parts (leb (length (list_of false rs)) MAX_BYTES && leb (length rs) MAX_ROWS) _ e).0 in
+    leb-true _ _ (and_parts (leb (length (list_of false rs)) MAX_BYTES) _ sizes).0
+
+pub sized : (rs : List Row) {z : Size} → Within z ≡ rows_more_lem NO_ROWS rs → Sized rs z
+sized rs {z} e =
+    let known = keeps_limits rs e in
+    record {
+      within = known.0;
+      bytes = known.1;
+      few = omega (arith, known.1, few_bytes rs known.0);
+      rows = omega (arith, rows_counted NONE rs e);
+    }
 
 -- ## Cells
 

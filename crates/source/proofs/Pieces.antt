@@ -25,7 +25,7 @@ use Rattle.source.specs.Piece.{word_of, word, lifetime_of, quoted_or, quote, gap
 use Rattle.source.specs.Piece.{single}
 use Rattle.source.specs.Piece.{piece}
 use Rattle.source.specs.Contract.{RunEnd, EndsTo, SuffixEnd, PieceAs}
-use Rattle.source.specs.Contract.{row as Row-as}
+use Rattle.source.specs.Contract.{gap as gap-as, row as Row-as}
 use Rattle.source.specs.declared.piece.Piece as code
 use Rattle.source.specs.declared.piece.Piece.TheVariants as pieces
 use Rattle.source.proofs.Runs.{run_on}
@@ -217,3 +217,14 @@ module _ (s : List ℕ) (i : ℕ) where
       (cond (eqb (get_or s i 0) SLASH) (slash (drop i s)) (single (get_or s i 0)))))))
   unfolding piece
   piece_at = rw (byte-first s i, drop_behind s i 1)
+
+-- whitespace up to r
+pub gap_at : {s : List ℕ} {i r : ℕ} → i < length s → blank (get_or s i 0) ≡ true → RunEnd blank s i r
+    → PieceAs s i (piece (drop i s)) (pieces.Gap r)
+gap_at {s} {i} {r} here q h =
+    let n : run blank (drop i s) ≡ r - i = omega (arith, h.told) in
+    gap-as (record {
+      told = piece_at s i ∙ chosen _ _ _ q ∙ ap gap n;
+      forth = omega (arith, run_on blank s i here q, h.told);
+      within = h.within (omega arith);
+    })

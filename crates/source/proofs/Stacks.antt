@@ -28,11 +28,9 @@ use Rattle.source.specs.Contract.{PieceTo, PieceAs}
 use Rattle.source.specs.Contract.{gap as gap-as, row as Row-as, lifetime as lifetime-as, doc as doc-as}
 use Rattle.source.specs.Contract.{none as none-as}
 use Rattle.source.specs.declared.piece.Piece as code
-use Rattle.source.specs.declared.piece.Piece.TheVariants as pieces
-use Rattle.source.specs.declared.brackets.Step.{Step}
 use Rattle.source.specs.declared.brackets.Step.TheVariants as steps
 use Rattle.source.specs.Stack.{rest, stack_to, Passing, Opening, close_at, Closing, Within}
-use Rattle.source.specs.Stack.{StepAs, passing, opening, closing, row_step_lem}
+use Rattle.source.specs.Stack.{StepAs, passing, opening, closing, row_step_lem, step_of}
 use Rattle.source.specs.Stack.{fault as fault-step}
 use Rattle.source.proofs.Offsets.{byte-first}
 use Rattle.source.proofs.Lexes.{rest-piece}
@@ -191,13 +189,6 @@ module _ {s : List ℕ} {i e : ℕ} (w : Within s i e) where
         stack = λ u os l. ap (stack_to u os) q ∙ chosen _ _ _ (lt-ltb i u l)
             ∙ ap (λ (ps : List Open). stack_to u ps (rest s e)) (passed_over _ _ _ a ∙ passed_over _ _ _ b);
       }
-
-abbrev pub step_of : code.Piece → Step
-step_of (pieces.Gap e) = steps.Passes e
-step_of (pieces.Row k e) = row_step_lem k e
-step_of (pieces.Lifetime e) = steps.Passes e
-step_of (pieces.Doc e) = steps.Passes e
-step_of pieces.Fault = steps.Fault
 
 module _ (s : List ℕ) (i : ℕ) (here : i < length s) where
   row_step : {k e : ℕ} → PieceTo s i (piece (drop i s)) (row k (e - i)) e → StepAs s i (row_step_lem k e)

@@ -1,6 +1,6 @@
 -- The walk over the pieces of a text: the groups that are open, and the innermost of them.
 use mathlib.Core.Path.{◌≡◌, refl, ap, ◌∙◌, sym, subst}
-use mathlib.Core.Bool.{Bool, true, false}
+use mathlib.Core.Bool.{Bool, true, false, cond}
 use mathlib.Core.List.{List, [], ◌∷◌}
 use Prim.Native.Nat.{ℕ, suc, ◌+◌, ◌-◌, ◌≤◌, ◌<◌}
 use native.Mathlib.Omega.{arith}
@@ -13,9 +13,15 @@ use Rattle.token_list.proofs.Texts.{chosen, passed_over}
 use Rattle.source.specs.Brackets.{Open, sound, faulty, brackets}
 use Rattle.source.specs.Stack.{rest, open_at, stack_to, Passing, Opening, Closing, Within, InnermostOf, top}
 use Rattle.source.specs.Stack.{InnermostAt, Held, Popped, DelimiterAt, ReachedBy, Reached, TurnedAs, turned}
-use Rattle.source.specs.Stack.{fault}
+use Rattle.source.specs.Stack.{fault, row_step_lem, step_of, step_end}
+use Rattle.source.specs.Bytes.{blank}
+use Rattle.source.specs.Contract.{RunEnd, piece_end}
+use Rattle.source.specs.declared.piece.Piece as code
+use Rattle.source.specs.declared.piece.Piece.TheVariants as pieces
+use Rattle.source.specs.declared.brackets.Step.TheVariants as steps
+use Rattle.token_list.specs.Layout.{OPEN, CLOSE}
 use Rattle.source.specs.declared.brackets.Depth.TheVariants as depths
-use Rattle.source.proofs.Lexes.{rest_all, rest-none}
+use Rattle.source.proofs.Lexes.{rest_all, rest-none, rest-blank}
 use Rattle.source.proofs.Stacks.{stack_here}
 use Rattle.source.proofs.Cells.{held_none}
 
@@ -263,3 +269,38 @@ module _ {s cells : List ℕ} {i e : ℕ} where
 
   pub unturned : TurnedAs s cells i e depths.Fault → brackets [] (lex s) ≡ faulty i
   unturned (fault h) = h
+
+-- a row ends where its step does
+row-step_end : (i k e : ℕ) → step_end i (row_step_lem k e) ≡ e
+row-step_end i k e = go (eqb k OPEN) (eqb k CLOSE)
+  where
+    go : (a b : Bool) → step_end i (cond a (steps.Opens e) (cond b (steps.Closes e) (steps.Passes e))) ≡ e
+    go true b = refl
+    go false true = refl
+    go false false = refl
+
+-- behind a piece that turned
+pub turned_piece : {s cells : List ℕ} {i d : ℕ} (p : code.Piece)
+    → TurnedAs s cells i (step_end i (step_of p)) (depths.Open d)
+    → Within s i (piece_end s p) × Reached s cells (piece_end s p) d
+turned_piece (pieces.Gap e) h = turned_known h
+turned_piece {s} {cells} {i} {d} (pieces.Row k e) h =
+    turned_known (subst (λ (u : ℕ). TurnedAs s cells i u (depths.Open d)) (row-step_end i k e) h)
+turned_piece (pieces.Lifetime e) h = turned_known h
+turned_piece (pieces.Doc e) h = turned_known h
+turned_piece pieces.Fault h = absurd (omega (arith, (turned_known h).0.forth))
+
+-- and behind the whitespace that follows it
+pub reached_blank : {s cells : List ℕ} {i r depth : ℕ} → RunEnd blank s i r → Reached s cells i depth
+    → Reached s cells r depth
+reached_blank {s} {r = r} b (os, h) =
+    let same = rest-blank b in (
+      os,
+      record {
+        low = omega (arith, h.low, b.told);
+        brackets = h.brackets ∙ ap (brackets os) same;
+        stack = λ u l. h.stack u (omega (arith, l, b.told)) ∙ ap (stack_to u os) same;
+        count = h.count;
+        held = h.held;
+      },
+    )

@@ -4,7 +4,7 @@ use Rattle.std.proofs.Math.Seq.{slice}
 use Rattle.token_list.specs.Byte.{QUOTE}
 use Rattle.token_list.specs.Text.{name_part}
 use Rattle.token_list.specs.Rows.{ident, punct}
-use Rattle.source.specs.Bytes.{blank, in_line, in_doc, in_digits}
+use Rattle.source.specs.Bytes.{SLASH, blank, in_line, in_doc, in_digits}
 use Rattle.source.specs.Taken.{Taken, takes, fault, run}
 use Rattle.source.specs.Number.{fraction, sign_length}
 use Rattle.source.specs.Piece as piece
@@ -38,6 +38,16 @@ pub record EndsTo (s : List ℕ) (i : ℕ) (t : Taken) (e : ℕ) : Type 0 where
 pub data EndsAs (s : List ℕ) (i : ℕ) (t : Taken) : Ends → Type 0 where
   ends : {e : ℕ} → EndsTo s i t e → EndsAs s i t (To e)
   none : t ≡ fault → EndsAs s i t Fault
+
+-- no `/` stands from i up to e
+abbrev pub NoSlash : List ℕ → ℕ → ℕ → Type 0
+NoSlash s i e = (k : ℕ) → k < e → i ≤ k → get_or s k 0 ≡ SLASH → ⊥
+
+-- inside a block comment none begins and none ends with the bytes from i up to r: no `/` is among them or behind them
+pub record PlainEnd (s : List ℕ) (i r : ℕ) : Type 0 where
+  pub forth : i ≤ r
+  pub within : r ≤ length s
+  pub plain : i < r → NoSlash s i (r + 1)
 
 -- digits that stand at i, with their fraction, end at r
 pub record FractionEnd (s : List ℕ) (i r : ℕ) : Type 0 where

@@ -9,6 +9,8 @@ use Rattle.token_list.specs.Row.{first}
 use Rattle.source.specs.Bytes.{opens}
 use Rattle.source.specs.Lex.{Token, Lexed, end, token, stops, lex_from, lex}
 use Rattle.source.specs.Brackets.{Open, Matched, sound, faulty, brackets}
+use Rattle.source.specs.declared.piece.Piece.{Piece}
+use Rattle.source.specs.declared.piece.Piece.TheVariants as pieces
 use Rattle.source.specs.declared.brackets.Step.{Step}
 use Rattle.source.specs.declared.brackets.Step.TheVariants as steps
 use Rattle.source.specs.declared.brackets.Depth.{Depth}
@@ -74,6 +76,14 @@ pub data StepAs (s : List ℕ) (i : ℕ) : Step → Type 0 where
 -- a row of this kind that ends at e
 abbrev pub row_step_lem : ℕ → ℕ → Step
 row_step_lem k e = cond (eqb k OPEN) (steps.Opens e) (cond (eqb k CLOSE) (steps.Closes e) (steps.Passes e))
+
+-- what a piece is to brackets
+abbrev pub step_of : Piece → Step
+step_of (pieces.Gap e) = steps.Passes e
+step_of (pieces.Row k e) = row_step_lem k e
+step_of (pieces.Lifetime e) = steps.Passes e
+step_of (pieces.Doc e) = steps.Passes e
+step_of pieces.Fault = steps.Fault
 
 -- where a step ends
 abbrev pub step_end : ℕ → Step → ℕ

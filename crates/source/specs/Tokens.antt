@@ -5,14 +5,18 @@ use Rattle.std.proofs.Math.Seq.{slice}
 use Rattle.token_list.specs.Byte.{bytes, HASH, EQUALS, BRACKET}
 use Rattle.token_list.specs.Layout.{LITERAL, OPEN, CLOSE, names, MAX_BYTES, MAX_ROWS, MAX_TEXT, MAX_DEPTH}
 use Rattle.token_list.specs.Row.{Row}
-use Rattle.token_list.specs.Rows.{ident, punct, opening, closing, lifetime_rows}
+use Rattle.token_list.specs.Rows.{ident, punct, opening, closing, lifetime_rows, list_of}
+use Rattle.token_list.specs.Check.{END}
 use Rattle.source.specs.Bytes.{DOUBLE_QUOTE}
-use Rattle.source.specs.Lex.{row_at}
-use Rattle.source.specs.Answer.{Answer, wrote, fault_at, refused, output}
+use Rattle.source.specs.Lex.{row_at, lex}
+use Rattle.source.specs.Brackets.{sound, faulty, brackets}
+use Rattle.source.specs.Answer.{Answer, wrote, fault_at, refused, rows_of, output}
 use Rattle.source.specs.declared.piece.Piece.{Piece}
 use Rattle.source.specs.declared.piece.Piece.TheVariants as pieces
 use Rattle.source.specs.declared.tokens.Measured.{Measured}
 use Rattle.source.specs.declared.tokens.Measured.TheVariants.{Within, Over}
+use Rattle.source.specs.declared.tokens.Scanned.{Scanned}
+use Rattle.source.specs.declared.tokens.Scanned.TheVariants as scans
 use Rattle.source.specs.declared.tokens.Tokens.{Tokens}
 use Rattle.source.specs.declared.tokens.Tokens.TheVariants as answers
 
@@ -54,6 +58,37 @@ rows_more_lem m (r ∷ rs) = rows_more_lem (row_more m r.kind (length r.text)) r
 -- a list without rows: its line of names
 abbrev pub NO_ROWS : Measured
 NO_ROWS = Within (record { rows = 0; bytes = length (names false); depth = 0 })
+
+-- ## One round over a text
+
+-- the text s has no fault, its list is so much, and stands at the start of x where that is long enough
+pub record Listed (s x : List ℕ) (m : Measured) : Type 0 where
+  pub matched : brackets [] (lex s) ≡ sound
+  pub measured : m ≡ rows_more_lem NO_ROWS (rows_of (lex s))
+  pub list : length (list_of false (rows_of (lex s))) ≤ length x
+      → take (length (list_of false (rows_of (lex s)))) x ≡ list_of false (rows_of (lex s))
+
+pub data ScannedAs (s x : List ℕ) : Scanned → Type 0 where
+  fault : {i : ℕ} → brackets [] (lex s) ≡ faulty i → ScannedAs s x (scans.FaultAt i)
+  listed : {m : Measured} → Listed s x m → ScannedAs s x (scans.Sound m)
+
+-- n bytes are enough for the list that was measured
+abbrev pub Enough : Measured → ℕ → Type 0
+Enough Over n = Unit
+Enough (Within z) n = z.bytes ≤ n
+
+abbrev pub Fitted : Scanned → ℕ → Type 0
+Fitted (scans.FaultAt i) n = Unit
+Fitted (scans.Sound m) n = Enough m n
+
+-- what was found, with the list in x
+abbrev pub found_list_lem : List ℕ → Measured → Answer
+found_list_lem x Over = refused 41 END
+found_list_lem x (Within z) = wrote (take z.bytes x)
+
+abbrev pub found_of : List ℕ → Scanned → Answer
+found_of x (scans.FaultAt i) = fault_at i
+found_of x (scans.Sound m) = found_list_lem x m
 
 -- ## The answer
 

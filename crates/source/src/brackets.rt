@@ -4,8 +4,8 @@ ghost use Rattle.std.specs.Prelude.{◌≡◌, true, List, [], ◌∷◌, ℕ, �
 ghost use Rattle.source.specs.Bytes.{opens};
 ghost use Rattle.source.specs.Lex.{lex};
 ghost use Rattle.source.specs.Brackets.{Open, brackets};
-ghost use Rattle.source.specs.Stack.{stack_to, StepAs, row_step_lem, step_end, InnermostAt, bits_of, delimiter_of};
-ghost use Rattle.source.specs.Stack.{Held};
+ghost use Rattle.source.specs.Stack.{stack_to, StepAs, row_step_lem, step_of, step_end, InnermostAt, bits_of};
+ghost use Rattle.source.specs.Stack.{delimiter_of, Held};
 ghost use Rattle.source.specs.Stack.{Popped, DelimiterAt, Reached, TurnedAs, matched_of};
 
 use crate::piece::{Piece, piece_at};
@@ -46,17 +46,24 @@ fn row_step(kind: u8, end: usize) -> Step
     Step::Passes(end)
 }
 
-fn step_at(s: &[u8], i: usize) -> Step
-    requires { i < length s.now }
-    ensures { StepAs s.now i result }
+pub fn step_of(p: Piece) -> Step
+    ensures { result ≡ step_of p }
 {
-    match piece_at(s, i) {
+    match p {
         Piece::Gap(e) => Step::Passes(e),
         Piece::Row(kind, e) => row_step(kind, e),
         Piece::Lifetime(e) => Step::Passes(e),
         Piece::Doc(e) => Step::Passes(e),
         Piece::Fault => Step::Fault,
     }
+}
+
+fn step_at(s: &[u8], i: usize) -> Step
+    requires { i < length s.now }
+    ensures { StepAs s.now i result }
+{
+    let p = piece_at(s, i);
+    step_of(p)
 }
 
 // The place i where `count` is `depth`, else `found`.
@@ -71,7 +78,7 @@ fn latest(count: usize, depth: usize, i: usize, found: usize) -> usize
 
 // Where the innermost of the brackets stands that are open at `end`, where they are `depth`: the last one before it
 // with which so many were open.
-fn innermost(s: &[u8], end: usize, depth: usize) -> usize
+pub fn innermost(s: &[u8], end: usize, depth: usize) -> usize
     requires end_in_bounds { end ≤ length s.now }
     requires s_len { length (stack_to end [] (lex s.now)) ≡ depth }
     requires depth_nonzero { 0 < depth }
@@ -179,7 +186,7 @@ fn delimiter_at(s: &[u8], i: usize, depth: usize, held: u8) -> u8
 }
 
 // The brackets that are open behind the piece at i, where `depth` were open before.
-fn turn(s: &[u8], cells: &mut [u8], i: usize, step: Step, depth: usize) -> Depth
+pub fn turn(s: &[u8], cells: &mut [u8], i: usize, step: Step, depth: usize) -> Depth
     requires i_in_bounds { i < length s.now }
     requires step_as { StepAs s.now i step }
     requires reached { Reached s.now cells.old i depth }

@@ -103,3 +103,17 @@ pub fn run_end(s: &[u8], from: usize, class: Class) -> usize
     }
     i
 }
+
+// The first place from `from` on with neither a digit of the radix nor `_`, or the end.
+pub fn digits_end(s: &[u8], from: usize, radix: usize) -> usize
+    ensures { RunEnd (in_digits radix) s.now from result }
+{
+    let mut i = from;
+    while i < s.len() {
+        if !is_in_digits(radix, s[i]) {
+            return i;
+        }
+        i += 1;
+    }
+    i
+}

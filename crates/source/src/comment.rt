@@ -1,7 +1,7 @@
 // Comments.
-ghost use Rattle.std.specs.Prelude.{◌≡◌, ◌&&◌, ◌+◌, ◌≤◌, ◌<◌, eqb, length, get_or, drop};
+ghost use Rattle.std.specs.Prelude.{◌≡◌, false, ◌&&◌, ◌+◌, ◌≤◌, ◌<◌, eqb, length, get_or, drop};
 ghost use Rattle.source.specs.Comment.{block, block_doc, block_comment, outer_line, line_ends, doc_line};
-ghost use Rattle.source.specs.Contract.{EndsAs};
+ghost use Rattle.source.specs.Contract.{EndsAs, NoSlash, PlainEnd};
 
 use crate::bytes::{Class, Ends, byte_at, run_end};
 
@@ -17,6 +17,42 @@ fn is_pair(s: &[u8], i: usize, first: u8, second: u8) -> bool
     byte_at(s, next) == second
 }
 
+// How far a comment is passed over at once, where no `/` stands.
+const STRIDE: usize = 63;
+
+// Whether `/` stands among the bytes from i up to e. Every byte is looked at, so that many are at a time.
+fn has_slash(s: &[u8], i: usize, e: usize) -> bool
+    requires { e ≤ length s.now }
+    ensures { result ≡ false → NoSlash s.now i e }
+{
+    let mut k = i;
+    let mut any = false;
+    while k < e {
+        if s[k] == b'/' {
+            any = true;
+        }
+        k += 1;
+    }
+    any
+}
+
+// Past bytes from i on with which no comment begins or ends, or i.
+fn plain_end(s: &[u8], i: usize) -> usize
+    requires { i < length s.now }
+    ensures { PlainEnd s.now i result }
+{
+    if s.len() - i <= STRIDE {
+        return i;
+    }
+    let end = i + STRIDE;
+    // A `*` at the last byte could have its `/` behind it.
+    let beyond = end + 1;
+    if has_slash(s, i, beyond) {
+        return i;
+    }
+    end
+}
+
 // A block comment, from behind its `/*`.
 fn block_end(s: &[u8], from: usize) -> Ends
     requires { from ≤ length s.now }
@@ -24,7 +60,17 @@ fn block_end(s: &[u8], from: usize) -> Ends
 {
     let mut i = from;
     let mut depth: usize = 0;
+    // No stretch is looked at twice.
+    let mut looked = from;
     while i < s.len() {
+        if looked <= i {
+            looked = i + STRIDE;
+            let e = plain_end(s, i);
+            if i < e {
+                i = e;
+                continue;
+            }
+        }
         if is_pair(s, i, b'*', b'/') {
             i += 2;
             if depth == 0 {

@@ -6,7 +6,7 @@ ghost use Rattle.source.specs.Number.{any_digit, dotted, reserved, exponent_star
 ghost use Rattle.source.specs.Number.{decimal, number};
 ghost use Rattle.source.specs.Contract.{EndsAs, FractionEnd, SignEnd};
 
-use crate::bytes::{Class, Ends, byte_at, run_end};
+use crate::bytes::{Ends, byte_at, digits_end};
 use token_list::text::{is_digit, is_name_start, is_one_of};
 
 // Whether digits and `_` from start to end have a digit.
@@ -82,7 +82,7 @@ fn radix_digits_end(s: &[u8], i: usize, radix: usize) -> Ends
     requires { i ≤ length s.now }
     ensures { EndsAs s.now i (radix_digits radix (drop i s.now)) result }
 {
-    let end = run_end(s, i, Class::Digits(radix));
+    let end = digits_end(s, i, radix);
     if !any_digit(s, i, end) {
         return Ends::Fault;
     }
@@ -97,12 +97,12 @@ fn fraction_end(s: &[u8], i: usize) -> usize
     requires { i ≤ length s.now }
     ensures { FractionEnd s.now i result }
 {
-    let end = run_end(s, i, Class::Digits(10));
+    let end = digits_end(s, i, 10);
     if !is_dotted(s, end) {
         return end;
     }
     let next = end + 1;
-    run_end(s, next, Class::Digits(10))
+    digits_end(s, next, 10)
 }
 
 // Past a sign that may stand at i.
@@ -127,7 +127,7 @@ fn exponent_end(s: &[u8], i: usize) -> Ends
     ensures { EndsAs s.now i (exponent (drop i s.now)) result }
 {
     let start = sign_end(s, i);
-    let end = run_end(s, start, Class::Digits(10));
+    let end = digits_end(s, start, 10);
     if any_digit(s, start, end) {
         return Ends::To(end);
     }

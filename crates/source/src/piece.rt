@@ -1,11 +1,11 @@
 // What stands at a place of a text: whitespace, a comment, a token.
 ghost use Rattle.std.specs.Prelude.{◌≡◌, true, ◌+◌, ◌-◌, ◌≤◌, ◌<◌, length, drop, get_or};
 ghost use Rattle.token_list.specs.Text.{name_start, name_part};
-ghost use Rattle.source.specs.Bytes.{SLASH};
+ghost use Rattle.source.specs.Bytes.{SLASH, blank};
 ghost use Rattle.source.specs.Taken.{Taken, run};
 ghost use Rattle.source.specs.Piece.{suffix, literal, raw_name, prefixed, word, lifetime_of, quote, line_comment};
 ghost use Rattle.source.specs.Piece.{slash, single, piece};
-ghost use Rattle.source.specs.Contract.{EndsAs, PieceAs, SuffixEnd, piece_end};
+ghost use Rattle.source.specs.Contract.{RunEnd, EndsAs, PieceAs, SuffixEnd, piece_end};
 
 use crate::bytes::{Class, Ends, byte_at, is_blank, run_end};
 use crate::comment::{block_comment_end, doc_line_end, is_outer_line};
@@ -247,4 +247,12 @@ pub fn piece_end(s: &[u8], p: Piece) -> usize
         Piece::Doc(e) => e,
         Piece::Fault => s.len(),
     }
+}
+
+// Past the piece p and the whitespace behind it.
+pub fn past_piece(s: &[u8], p: Piece) -> usize
+    ensures { RunEnd blank s.now (piece_end s.now p) result }
+{
+    let end = piece_end(s, p);
+    run_end(s, end, Class::Blank)
 }

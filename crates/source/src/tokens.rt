@@ -1,20 +1,20 @@
 // The token list of a source text, written into a lent output.
-ghost use Rattle.std.specs.Prelude.{◌≡◌, false, List, [], ◌∷◌, ℕ, ◌+◌, ◌<◌, length, get_or};
+ghost use Rattle.std.specs.Prelude.{◌≡◌, true, false, List, [], ◌∷◌, ℕ, ◌+◌, ◌<◌, length, get_or};
 ghost use Rattle.token_list.specs.Layout.{MAX_DEPTH, OPEN};
 ghost use Rattle.token_list.specs.Row.{written};
 ghost use Rattle.token_list.specs.Rows.{list_of};
-ghost use Rattle.output.specs.Contract.{Put};
+ghost use Rattle.output.specs.Contract.{Put, Appended};
 ghost use Rattle.source.specs.Piece as piece;
 ghost use Rattle.source.specs.Lex.{row_at, lex};
 ghost use Rattle.source.specs.Brackets.{sound};
 ghost use Rattle.source.specs.Answer.{rows_of, matched_answer, answer};
 ghost use Rattle.source.specs.Contract.{PieceAs};
 ghost use Rattle.source.specs.Tokens.{doc_line_rows, piece_rows, depth_after, row_more, rows_more_lem, NO_ROWS};
-ghost use Rattle.source.specs.Tokens.{TokensAs};
+ghost use Rattle.source.specs.Tokens.{ScannedAs, Fitted, TokensAs};
 
-use crate::brackets::{Matched, match_brackets};
-use crate::piece::{Piece, piece_at, piece_end};
-use output::put::{put_byte, put_bytes, put_names};
+use crate::brackets::{Depth, Matched, innermost, match_brackets, step_of, turn};
+use crate::piece::{Piece, past_piece, piece_at, piece_end};
+use output::put::{append, append_row, put_byte, put_bytes, put_names};
 use token_list::check::{END, Refusal};
 use token_list::layout::{MAX_BYTES, MAX_DEPTH, MAX_ROWS, MAX_TEXT};
 
@@ -39,6 +39,13 @@ pub struct Size {
 pub enum Measured {
     Within(Size),
     Over,
+}
+
+// What one round over a text finds: 40 at an offset, or how much its list is.
+#[derive(Clone, Copy)]
+pub enum Scanned {
+    FaultAt(usize),
+    Sound(Measured),
 }
 
 // The groups that are open behind a row of this kind.
@@ -204,11 +211,117 @@ fn put_list(out: &mut [u8], s: &[u8]) -> usize
     at
 }
 
+// The rows of a doc line, behind what stands in the list.
+fn append_doc(list: &mut [u8], at: usize, text: &[u8]) -> usize
+    ensures { Appended list.old list.new at result
+        (written false (doc_line_rows text.now)) }
+{
+    let start = append(list, at, b"p #\no [\ni doc\np =\nl \"");
+    let end = append(list, start, text);
+    append(list, end, b"\"\nc ]\n")
+}
+
+// The rows of the piece p, which begins at i, behind what stands in the list.
+fn append_piece(list: &mut [u8], at: usize, s: &[u8], i: usize, p: Piece) -> usize
+    requires { (t : piece.Piece) × PieceAs s.now i t p }
+    ensures { Appended list.old list.new at result
+        (written false (piece_rows s.now i p)) }
+{
+    match p {
+        Piece::Gap(_) => at,
+        Piece::Row(kind, e) => append_row(list, at, kind, &s[i..e]),
+        Piece::Lifetime(e) => {
+            let start = i + 1;
+            let name = append_row(list, at, b'p', b"'");
+            append_row(list, name, b'i', &s[start..e])
+        }
+        Piece::Doc(e) => {
+            let start = i + 3;
+            append_doc(list, at, &s[start..e])
+        }
+        Piece::Fault => at,
+    }
+}
+
+// One round over a text: its brackets are matched, and its rows are counted and written into `list`, which has them all
+// where they fit. The cells are 0 at first.
+pub fn scan(s: &[u8], cells: &mut [u8], list: &mut [u8]) -> Scanned
+    requires { (c : ℕ) → get_or cells.old c 0 ≡ 0 }
+    ensures { ScannedAs s.now list.new result }
+{
+    let mut at = append(list, 0, b"kind text\n");
+    let mut i = 0;
+    let mut depth = 0;
+    let mut measured = Measured::Within(Size {
+        rows: 0,
+        bytes: 10,
+        depth: 0,
+    });
+    while i < s.len() {
+        let p = piece_at(s, i);
+        let step = step_of(p);
+        match turn(s, cells, i, step, depth) {
+            Depth::Fault => {
+                return Scanned::FaultAt(i);
+            }
+            Depth::Open(d) => {
+                depth = d;
+                measured = piece_more(measured, i, p);
+                at = append_piece(list, at, s, i, p);
+                i = past_piece(s, p);
+            }
+        }
+    }
+    if depth == 0 {
+        return Scanned::Sound(measured);
+    }
+    let open = innermost(s, s.len(), depth);
+    Scanned::FaultAt(open)
+}
+
+// Whether a list of n bytes has room for what was found.
+pub fn has_room(scanned: Scanned, n: usize) -> bool
+    ensures { result ≡ true → Fitted scanned n }
+{
+    match scanned {
+        Scanned::FaultAt(_) => true,
+        Scanned::Sound(measured) => match measured {
+            Measured::Over => true,
+            Measured::Within(size) => size.bytes <= n,
+        },
+    }
+}
+
 // Room for the kinds of 65,536 open brackets.
-fn cells() -> [u8; 16384]
+pub fn cells() -> [u8; 16384]
     ensures { (c : ℕ) → get_or result c 0 ≡ 0 }
 {
     [0; 16384]
+}
+
+// As many bytes as a token list may have.
+pub fn list_buffer() -> [u8; 65536]
+    ensures { 65536 ≡ length result }
+{
+    [0; 65536]
+}
+
+// A short text, and room for its list in most cases: little, since all of it is set to 0 first.
+pub const SHORT: usize = 1024;
+
+pub const SHORT_LIST: usize = 4096;
+
+// Room for the kinds of as many brackets as a short text has.
+pub fn few_cells() -> [u8; 256]
+    ensures { (c : ℕ) → get_or result c 0 ≡ 0 }
+{
+    [0; 256]
+}
+
+pub fn short_list_buffer() -> [u8; SHORT_LIST]
+    ensures { 4096 ≡ length result }
+{
+    [0; SHORT_LIST]
 }
 
 // Writes the list of a text whose brackets match.

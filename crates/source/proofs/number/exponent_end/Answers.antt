@@ -8,19 +8,19 @@ use Rattle.source.proofs.Numbers.{exponent_at, exponent-digits, any_forth}
 use Rattle.source.proofs.number.exponent_end.Goals as goal
 
 pub any_digit-requires : goal.any_digit-requires
-any_digit-requires c = c.run_end-end.ensures.within c.sign_end-start.ensures.within
+any_digit-requires c = c.digits_end-end.ensures.within c.sign_end-start.ensures.within
 
 pub returns-then-any_digit : goal.returns-then-any_digit
 returns-then-any_digit c = let some = sym c.any_digit.ensures ∙ c.if-any_digit.true in
     let from = c.sign_end-start.result in
     ends_from from (omega (arith, c.sign_end-start.ensures.told)) (exponent_at c.sign_end-start.ensures) (ends (record {
-      taken = exponent-digits c.run_end-end.ensures ∙ chosen _ _ _ some;
+      taken = exponent-digits c.digits_end-end.ensures ∙ chosen _ _ _ some;
       forth = any_forth c.args.s.now from _ some;
-      within = c.run_end-end.ensures.within c.sign_end-start.ensures.within;
+      within = c.digits_end-end.ensures.within c.sign_end-start.ensures.within;
     }))
 
 pub returns : goal.returns
 returns c = let no = sym c.any_digit.ensures ∙ c.if-any_digit.false in
     none
     (exponent_at c.sign_end-start.ensures ∙ ap (after _)
-    (exponent-digits c.run_end-end.ensures ∙ passed_over _ _ _ no))
+    (exponent-digits c.digits_end-end.ensures ∙ passed_over _ _ _ no))
