@@ -21,7 +21,7 @@
  * tables of all variants, to tell whether one is there twice; kusthrila_tokens up to KUSTHRILA_TOKENS_STACK: it keeps the
  * kinds of the open brackets; and kusthrila_read_source up to KUSTHRILA_READ_SOURCE_STACK: it keeps a list too.
  * Measured on x86-64 were some 3,900 in kusthrila_check and kusthrila_tagged, 4,300 in the writers of generics, 4,600 in
- * kusthrila_read, 8,300 in kusthrila_value, 16,800 in kusthrila_tokens, 73,900 in kusthrila_listing and 82,500 in
+ * kusthrila_read, 8,300 in kusthrila_value, 16,800 in kusthrila_tokens, 73,900 in kusthrila_listing and 88,300 in
  * kusthrila_read_source; the rest is margin. bindings/c/stack.c measures it, and test.sh does so each time. */
 #ifndef KUSTHRILA_H
 #define KUSTHRILA_H

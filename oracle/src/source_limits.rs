@@ -1,4 +1,4 @@
-//! Source texts whose lists are on the limits of a list.
+//! Source texts whose lists are on the limits of a list, and those on the sizes at which the reader goes another way.
 
 use crate::rng::Rng;
 
@@ -20,7 +20,52 @@ pub fn texts(rng: &mut Rng) -> Vec<Vec<u8>> {
     for bytes in [BYTES - 1, BYTES, BYTES + 1] {
         out.extend(many_bytes(bytes));
     }
+    for bytes in [SHORT - 1, SHORT, SHORT + 1] {
+        out.extend(short_texts(bytes));
+    }
+    for length in 60..=70 {
+        out.extend(comments(length));
+        out.extend(comments(length + STRIDE));
+    }
     out.into_iter().map(String::into_bytes).collect()
+}
+
+/// A text of at most so many bytes is read into a list of SHORT_LIST bytes first (crates/source/src/tokens.rt).
+const SHORT: usize = 1_024;
+const SHORT_LIST: usize = 4_096;
+
+fn short_texts(bytes: usize) -> Vec<String> {
+    // Four bytes of the list for each `;`, behind ten for the names.
+    let most = (SHORT_LIST - 10) / 4;
+    let ended = |rows: usize, end: &str| format!("{}{end}", ";".repeat(rows));
+    vec![
+        ";".repeat(bytes),
+        format!("struct A; /*{}*/", "x".repeat(bytes - 14)),
+        format!("{}`", ";".repeat(bytes - 1)),
+        format!("{}(", ";".repeat(bytes - 1)),
+        "(".repeat(bytes / 2) + &")".repeat(bytes / 2),
+        // One byte less than there is room for, as many, and one more.
+        ended(most - 1, "ab"),
+        ended(most - 1, "abc"),
+        ended(most - 1, "abcd"),
+    ]
+}
+
+/// So many bytes of a comment are passed over at once (crates/source/src/comment.rt).
+const STRIDE: usize = 63;
+
+/// Block comments with so many bytes before what stands out.
+fn comments(length: usize) -> Vec<String> {
+    let plain = "x".repeat(length);
+    vec![
+        format!("/*{plain}*/a"),
+        format!("/*{plain}**/a"),
+        format!("/*{plain}/*{plain}*/{plain}*/a"),
+        format!("/*{plain}/*/a"),
+        format!("/*{plain}*{plain}/{plain}*/a"),
+        format!("/*{plain}"),
+        format!("/*{plain}*"),
+    ]
 }
 
 /// One row with so many bytes of text.

@@ -1,5 +1,6 @@
-//! How long it takes from a source text to roles: ours, beside proc_macro2's lexer with virtue's parser and beside syn 1, on the same
-//! texts. Nanoseconds a byte, and how many times as long the others take; every ratio is of times measured in this one run.
+//! How long it takes from a source text to roles: ours in one call, and in two by a list, beside proc_macro2's lexer with virtue's
+//! parser and beside syn 1, on the same texts. Nanoseconds a byte, and how many times as long as the one call the others take; every
+//! ratio is of times measured in this one run.
 //! Built by oracle/speed.sh source.
 extern crate proc_macro2 as proc_macro;
 
@@ -9,7 +10,7 @@ include!("virtue.rs");
 #[allow(dead_code)]
 mod kusthrila;
 
-use kusthrila::{read, tokens, MOST_ROWS, MOST_TOKENS};
+use kusthrila::{read, read_source, tokens, MOST_ROWS, MOST_TOKENS};
 use prelude::TokenStream;
 use std::hint::black_box;
 use std::str::FromStr;
@@ -53,22 +54,24 @@ fn least<A>(mut call: impl FnMut() -> A) -> f64 {
 }
 
 fn main() {
-    println!("text bytes | ours ns a byte (list alone) | proc_macro2 and virtue | syn | times as long");
+    println!("text bytes | ours ns a byte (list alone) | two calls | proc_macro2 and virtue | syn | times as long");
     let mut out = vec![0; MOST_TOKENS];
     let mut roles = vec![0; MOST_ROWS];
     for (name, text) in inputs() {
         let bytes = text.len() as f64;
         let list = least(|| tokens(black_box(text.as_bytes()), &mut out).expect("a list").len());
-        let ours = least(|| {
+        let ours = least(|| read_source(black_box(text.as_bytes()), &mut roles).expect("a declaration"));
+        let two = least(|| {
             let list = tokens(black_box(text.as_bytes()), &mut out).expect("a list");
             read(list, &mut roles).expect("a declaration")
         });
         let virtue = least(|| parse::Parse::new(TokenStream::from_str(black_box(&text)).expect("tokens")));
         let syn = least(|| syn::parse_str::<syn::DeriveInput>(black_box(&text)).expect("a declaration"));
         println!(
-            "{name} {bytes} | {:.2} ({:.2}) | {:.2} | {:.2} | {:.1} and {:.1}",
+            "{name} {bytes} | {:.2} ({:.2}) | {:.2} | {:.2} | {:.2} | {:.1} and {:.1}",
             ours / bytes,
             list / bytes,
+            two / bytes,
             virtue / bytes,
             syn / bytes,
             virtue / ours,
