@@ -47,7 +47,7 @@ extern "C" {
 #define KUSTHRILA_MOST_LISTING 176145u
 
 /* No list that kusthrila_impl_generics or kusthrila_type_generics writes is longer, with either names; added names take at most
- * 18 bytes more for each byte of lifetimes and 12 for each of types: MOST and mostAdded in crates/writing/specs/Answer.antt, of
+ * 18 bytes more for each byte of lifetimes and 12 for each of types: MOST and most_added in crates/writing/specs/Answer.antt, of
  * which the laws in crates/writing/proofs/Lengths.antt are proved. */
 #define KUSTHRILA_MOST_GENERICS 114688u
 #define KUSTHRILA_MOST_ADDED(lifetimes_len, types_len) \

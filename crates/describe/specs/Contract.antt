@@ -73,7 +73,7 @@ place_of s (value.in_scratch t) = places.InScratch (length t)
 place_of s (value.refused n p) = places.Refused (record { number = n; place = p })
 
 -- a text of the list is past its first byte and not empty, and the list's last byte is none of it; one of the scratch
--- has 1 to SCRATCH-BYTES bytes
+-- has 1 to SCRATCH_BYTES bytes
 abbrev pub InRange : ValuePlace → Type 0
 InRange places.None = Unit
 InRange (places.InList a e) = (0 < a) × (a < e) × (e < MAX_BYTES)

@@ -23,7 +23,8 @@ text_coded : {c d : TextCase} {p q r : ℕ} → c ≡ d → Small (case_of d) �
     → TextCoded d p q r
 text_coded {d = d} {p = p} same small e f =
     let number = e ∙ ap (λ (x : TextCase). code (case_of x)) same in
-    record { code = number; back = ap decoded number ∙ gives_back (case_of d) small; place = f ∙ ap (place_told p) same }
+    let back = ap decoded number ∙ gives_back (case_of d) small in
+    record { code = number; back = back; place = f ∙ ap (place_told p) same }
 
 text_small : {s : List ℕ} {n p : ℕ} → TextRefusal read_number s n p → (1 ≤ n) × (p ≤ END)
 text_small (long e n p) = (omega (arith, n), omega (arith, p))

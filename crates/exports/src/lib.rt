@@ -217,8 +217,8 @@ fn fault_at(offset: usize, place: &mut u64) -> u64
     })
 }
 
-// Reads the declaration of a source text into role bytes: 0 for a struct, 1 for an enum, or a refusal, of which 40 alone
-// writes its offset to `place`.
+// Reads the declaration of a source text into role bytes: 0 for a struct, 1 for an enum, or a refusal, of which 40
+// alone writes its offset to `place`.
 #[unsafe(no_mangle)]
 pub extern "C" fn kusthrila_read_source(text: &[u8], roles: &mut [u8], place: &mut u64) -> u64
     ensures { ReadSourceInto text.now roles.old roles.new place.old place.new result }

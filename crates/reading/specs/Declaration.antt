@@ -14,7 +14,7 @@ pub data Kind : Type 0 where
   struct : Kind
   enum : Kind
 
--- GenericParam of the Reference: LifetimeParam, ConstParam, Type_param. An absent run is empty.
+-- GenericParam of the Reference: LifetimeParam, ConstParam, TypeParam. An absent run is empty.
 pub data Parameter : Type 0 where
   -- name and bounds
   lifetime : List ℕ → Trees → Parameter

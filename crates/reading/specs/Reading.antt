@@ -245,7 +245,7 @@ more go done = pure []
 more go (one a) = go >>= λ xs. pure (a ∷ xs)
 
 -- Refusal 0, where the fuel is spent, is never given: `every` of a reader that takes a row each round refuses with 11
--- to 27 alone (`every-conserving` and `refusal-number` in proofs/Rounds).
+-- to 27 alone (`every_conserving` and `refusal-number` in proofs/Rounds).
 abbrev pub rounds : {A : Type 0} → ℕ → Reader (Maybe A) → Reader (List A)
 rounds zero m row ts = refuse 0 row
 rounds (suc n) m row ts = after row (m row ts) (more (rounds n m))

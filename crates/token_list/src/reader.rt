@@ -1,5 +1,5 @@
-// A reader that holds the lent list and its own row: it goes through the rows one by one, right or not. The borrow
-// checker covers no function over such a struct, so each is thin over a covered one on the slice and numbers.
+// A reader that holds the lent list and its own row: it goes through the rows one by one, right or not. Each function
+// is thin over one on the slice and numbers.
 ghost use Rattle.std.specs.Prelude.{◌≡◌, ◌≤◌};
 ghost use Rattle.token_list.specs.Reader.{cursor_of, Shows, GoesOn};
 
