@@ -15,7 +15,7 @@ use Rattle.from_source.specs.Contract.{kind_read, read_by, ReadAs}
 use Rattle.from_source.specs.declared.roles.SourceRead.{SourceRead}
 use Rattle.from_source.specs.declared.roles.SourceRead.TheVariants as sources
 use Rattle.exports.specs.Code.{accepted, refusal, code, decoded, kind_code}
-use Rattle.exports.specs.ReadSource.{TextCase, told, at, case_of, place_told, TextCoded, read_case, ReadSourceInto}
+use Rattle.exports.specs.ReadSource.{TextCase, told, at, case_of, place_told, TextCoded, source_case, ReadSourceInto}
 use Rattle.exports.proofs.Codes.{Small, gives_back, kind_small, read_small}
 
 -- a case that is small, and the place that goes with it
@@ -36,7 +36,7 @@ read_told_lem sources.Enum = told (accepted 1)
 read_told_lem (sources.FaultAt offset) = at offset
 read_told_lem (sources.Refused f) = told (refusal f.number f.place)
 
-read_told : (a : reads.Answer) → read_told_lem (read_by a) ≡ read_case a
+read_told : (a : reads.Answer) → read_told_lem (read_by a) ≡ source_case a
 read_told (reads.declared d rs) = kinds d.kind
   where
     kinds : (k : Kind) → read_told_lem (kind_read k) ≡ told (accepted (kind_code k))
@@ -72,13 +72,13 @@ module _ (s : List ℕ) {x y : List ℕ} {t : SourceRead} (h : ReadAs s x y t) w
         refusal = λ n m k. given (read_answer (length x) s) refl coded.place (sym coded.back ∙ k);
       }
     where
-      small : (a : reads.Answer) → read_answer (length x) s ≡ a → Small (case_of (read_case a))
+      small : (a : reads.Answer) → read_answer (length x) s ≡ a → Small (case_of (source_case a))
       small (reads.declared d rs) e = kind_small d.kind
       small (reads.fault_at offset) e = (omega arith, omega arith)
       small (reads.refused n m) e = let k = text_small (h.refusal n m e) in (k.0, omega (arith, k.1))
 
-      given : {n m : ℕ} (a : reads.Answer) → read_answer (length x) s ≡ a → q ≡ place_told p (read_case a)
-          → case_of (read_case a) ≡ refusal n m
+      given : {n m : ℕ} (a : reads.Answer) → read_answer (length x) s ≡ a → q ≡ place_told p (source_case a)
+          → case_of (source_case a) ≡ refusal n m
           → (read_answer (length x) s ≡ reads.fault_at q) ⊎ TextRefusal read_number s n m
       given (reads.declared d rs) e f k = let z : ◌≡◌ {A = ℕ} 0 1 = cc in absurd (omega arith)
       given (reads.fault_at offset) e f k = inl (e ∙ ap reads.fault_at (sym f))

@@ -28,14 +28,14 @@ pub record TextCoded (c : TextCase) (p q r : ℕ) : Type 0 where
   pub place : q ≡ place_told p c
 
 -- 0 for a struct, 1 for an enum
-abbrev pub read_case : reads.Answer → TextCase
-read_case (reads.declared d rs) = told (accepted (kind_code d.kind))
-read_case (reads.fault_at offset) = at offset
-read_case (reads.refused n p) = told (refusal n p)
+abbrev pub source_case : reads.Answer → TextCase
+source_case (reads.declared d rs) = told (accepted (kind_code d.kind))
+source_case (reads.fault_at offset) = at offset
+source_case (reads.refused n p) = told (refusal n p)
 
 -- the answer for a text s, and the whole role buffer; a refusal is 40 at q, 41, or the one of the text's list
 pub record ReadSourceInto (s before after : List ℕ) (p q r : ℕ) : Type 0 where
-  pub coded : TextCoded (read_case (read_answer (length before) s)) p q r
+  pub coded : TextCoded (source_case (read_answer (length before) s)) p q r
   pub buffer : after ≡ buffer (length before) (read_answer (length before) s)
   pub refusal : (n m : ℕ) → decoded r ≡ refusal n m
       → (read_answer (length before) s ≡ reads.fault_at q) ⊎ TextRefusal read_number s n m
