@@ -38,8 +38,10 @@ build_oracle() {
         [ -f "$sources/$file" ] || skip_sources "$file"
     done
     build_lists
-    rm -f "$built/virtue"
-    ln -s "$(cd "$sources" && pwd)" "$built/virtue"
+    # A copy, since rt ci refuses links.
+    rm -rf "$built/virtue"
+    cp -R "$sources" "$built/virtue"
+    chmod -R u+w "$built/virtue"
     rustc --edition 2021 -O --crate-type proc-macro --crate-name oracle \
         -o "$built/liboracle.so" "$root/oracle/src/root.rs"
     # The second line lends its commas' spans to rows; the first comma stands in column 11.
