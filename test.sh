@@ -46,6 +46,7 @@ sed -n '/how many roles/q; s/^\([a-z_-]*\) = \([0-9]*\)$/\1 \2/p' crates/reading
 constants crates/parse/src/role.rt | grep -v '^NONE ' | cmp - target/bindings/roles
 constants bindings/rust/src/role.rs | cmp - target/bindings/roles
 constants bindings/rust/src/refusal.rs | cmp - target/bindings/refusals
+constants crates/token_list/src/refusal.rt | cmp - target/bindings/refusals
 sed -n 's/^\([a-z]*\) = \([0-9]*\)$/\1 \2/p' crates/tagged_reading/specs/Role.antt | tr 'a-z' 'A-Z' | cmp - target/bindings/tagged
 constants crates/tagged_attribute/src/role.rt | cmp - target/bindings/tagged
 constants bindings/rust/src/tagged_role.rs | cmp - target/bindings/tagged
@@ -55,7 +56,8 @@ done | cmp - <(sed -n 's/^| \([0-9]*\) |.*/\1/p' README.md)
 
 # What `explain` says: README's table has the texts of the refusals, and each refusal that it can give has an example.
 bash build.sh explain
-sed -n '/^MEANINGS =/,/^$/s/^ *bytes "\(.*\)".*/\1/p' crates/explanation/specs/Words.antt | tr -d '\n' | sed 's/\\n/\n/g' |
+sed -n '/^MEANINGS =$/,/^$/p' crates/explanation/specs/Words.antt | sed 1d | tr -d '\n' | sed 's/ *∷ */\n/g' |
+    sed 's/" ++ *bytes "//; s/^[^"]*"\(.*\)".*/\1/; s/^ *\[\]$//' |
     awk 'length { print NR - 1, $0 }' >target/bindings/meanings
 sed -n 's/^| \([0-9]*\) | \(`-`\|row\|4096\|place\|offset\) | \(.*\) |$/\1 \3/p' README.md | tr -d '`' | cmp - target/bindings/meanings
 sed -n '/^    5 17$/,/^$/s/^    //p' README.md | tail -n 4 >target/bindings/shown

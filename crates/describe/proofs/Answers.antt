@@ -29,7 +29,6 @@ use Rattle.token_list.proofs.Texts.{or_holds, chosen, passed_over}
 use Rattle.output.specs.Contract.{Put}
 use Rattle.output.specs.Answer as outputs
 use Rattle.output.specs.Written.{WrittenAs}
-use Rattle.output.specs.declared.written.Written.TheVariants as writtens
 use Rattle.output.proofs.Texts.{kept, shown, joined}
 use Rattle.output.proofs.Answers.{fitted_refused, written_refused, written_as, fits_not, fits}
 use Rattle.reading.specs.Declaration as declaration
@@ -47,14 +46,16 @@ use Rattle.describe.specs.Listing as listing
 use Rattle.parse.specs.Contract.{point, CursorAt}
 use Rattle.describe.specs.Contract.{ValueAs, part, text_start, text_end, place_of, Placed, Begins, FaultsIn}
 use Rattle.describe.specs.Contract.{ItemFaultsIn, FaultAs, faultless, lacks}
-use Rattle.describe.specs.declared.faults.Faults.{Faults}
-use Rattle.describe.specs.declared.faults.Faults.TheVariants as faults
+use Rattle.std.specs.Prelude.{Option, Some, None, Result, Ok, Err}
 use Rattle.describe.specs.declared.value.ValuePlace.{ValuePlace}
 use Rattle.describe.specs.declared.value.ValuePlace.TheVariants as places
 use Rattle.describe.proofs.Worths.{part-front, negative_within, negative_length}
 use Rattle.describe.proofs.Numbering.{distinct_numbers}
 
 -- ## A value
+
+abbrev inside_list : ℕ → ℕ → Result (Option ValuePlace) Refusal
+inside_list a e = Ok (Some (places.InList a e))
 
 module _ {s : List ℕ} {v : ValueAt} (x : Point) (w : declaration.Value) (k : ValueAs s x v w) where
   -- the value and its row, by the code's enum
@@ -65,7 +66,7 @@ module _ {s : List ℕ} {v : ValueAt} (x : Point) (w : declaration.Value) (k : V
     answered : {a : Answer} → value_answer (value_row x u) u ≡ a → value_answer (value_row x w) w ≡ a
     answered q = ap (λ (y : declaration.Value). value_answer (value_row x y) y) e ∙ q
 
-  pub placed_absent : (y : List ℕ) → v ≡ value_ats.Absent → Placed s y y (value_answer (value_row x w) w) places.None
+  pub placed_absent : (y : List ℕ) → v ≡ value_ats.Absent → Placed s y y (value_answer (value_row x w) w) (Ok None)
   placed_absent y e =
       let a = answered declaration.absent (known e).value refl in
       record {
@@ -76,7 +77,7 @@ module _ {s : List ℕ} {v : ValueAt} (x : Point) (w : declaration.Value) (k : V
       }
 
   pub placed_literal : (y : List ℕ) (t : Token) (told : ℕ) → v ≡ value_ats.Literal t told → length s ≤ 65536
-      → Placed s y y (value_answer (value_row x w) w) (places.InList t.start t.end)
+      → Placed s y y (value_answer (value_row x w) w) (Ok (Some (places.InList t.start t.end)))
   placed_literal y t told e short =
       let b = (known e).value in
       let row = value_row x w in
@@ -85,12 +86,12 @@ module _ {s : List ℕ} {v : ValueAt} (x : Point) (w : declaration.Value) (k : V
       let same : value_row x w ≡ value_row x (declaration.literal b.0) = ap (value_row x) b.2 in
       let next = next_start s row (row_start s row) t.end refl token.end in
       let end : t.end ≡ text_end s row = omega (arith, next) in
-      let here : places.InList t.start t.end ≡ places.InList (text_start s row) (text_end s row) =
-      λ i. places.InList (token.start i) (end i) in
+      let here : inside_list t.start t.end ≡ inside_list (text_start s row) (text_end s row) =
+      λ i. inside_list (token.start i) (end i) in
       let inside : part t.start t.end s ≡ b.0 = chosen _ _ _ (le-leb t.end (length s) b.1.within) ∙
       sym b.1.bytes in
       record {
-        place = here ∙ ap (λ (n : ℕ). places.InList (text_start s n) (text_end s n)) same ∙ sym (ap (place_of s) a);
+        place = here ∙ ap (λ (n : ℕ). inside_list (text_start s n) (text_end s n)) same ∙ sym (ap (place_of s) a);
         text = inside ∙ sym (ap value_text a);
         range = (
           omega (arith, token.start, offset_low (marked s)),
@@ -102,7 +103,7 @@ module _ {s : List ℕ} {v : ValueAt} (x : Point) (w : declaration.Value) (k : V
 
   pub placed_negative : {y z : List ℕ} {n r : ℕ} (t : Token) → v ≡ value_ats.Negative t →
       n ≡ worth (slice t.start t.end s) → n ≤ MAX_I64 → Put y z 0 r (negative_text n) → SCRATCH_BYTES ≤ length y
-      → Placed s y z (value_answer (value_row x w) w) (places.InScratch r)
+      → Placed s y z (value_answer (value_row x w) w) (Ok (Some (places.InScratch r)))
   placed_negative {y} {z} {n} {r} t e q h p room =
       let b = (known e).value in
       let m : n ≡ worth b.0 = q ∙ ap worth (sym b.1.bytes) in
@@ -112,19 +113,19 @@ module _ {s : List ℕ} {v : ValueAt} (x : Point) (w : declaration.Value) (k : V
       omega (arith, p.next, few, ap (λ (k : ℕ). length (negative_text k)) m) in
       let short : r ≤ SCRATCH_BYTES = omega (arith, p.next, few) in
       record {
-        place = ap places.InScratch long ∙ sym (ap (place_of s) a);
+        place = ap (λ (n : ℕ). Ok (Some (places.InScratch n))) long ∙ sym (ap (place_of s) a);
         text = part-front r z (omega (arith, kept p)) ∙ shown p (omega arith) ∙ ap negative_text m ∙ sym
             (ap value_text a);
         range = (omega (arith, p.next, negative_length n), short);
         scratch = p.bytes ∙ ap (λ (k : ℕ). sets y 0 (negative_text k)) m ∙ sym (ap (scratch y) a);
       }
 
-module _ {s x y : List ℕ} {r : ValuePlace} where
+module _ {s x y : List ℕ} {r : Result (Option ValuePlace) Refusal} where
   pub placed_as : {a b : Answer} → b ≡ a → Placed s x y a r → Placed s x y b r
   placed_as e p = subst⁻¹ (λ (z : Answer). Placed s x y z r) e p
 
 pub placed_refused : {s x : List ℕ} {a : Answer} (r : Refusal) → a ≡ refused r.number r.place →
-    Placed s x x a (places.Refused r)
+    Placed s x x a (Err r)
 placed_refused {s} {x} r e =
     record {
       place = sym (ap (place_of s) e);
@@ -169,19 +170,19 @@ module _ (s : List ℕ) (k n : ℕ) where
 
 -- faults, by the code's enum
 module _ {s : List ℕ} {place : Fault → ℕ → ℕ} where
-  pub fault_none : {ns : Numbers} {r : Faults} → FaultAs s place ns r → r ≡ faults.None →
+  pub fault_none : {ns : Numbers} {r : Result Unit Refusal} → FaultAs s place ns r → r ≡ Ok tt →
       (zs : List ℤ) × (ns ≡ numbers zs)
   fault_none (faultless {zs = zs}) e = (zs, refl)
   fault_none (lacks h b) e = let z : ◌≡◌ {A = ℕ} 0 1 = cc in absurd (omega arith)
 
-  fault_refused : {ns : Numbers} {r : Faults} {q : Refusal} → FaultAs s place ns r → r ≡ faults.Refused q →
+  fault_refused : {ns : Numbers} {r : Result Unit Refusal} {q : Refusal} → FaultAs s place ns r → r ≡ Err q →
       (f : Fault) × (k : ℕ) × (ns ≡ lacking f k) × (q ≡ record { number = fault_number f; place = place f k })
   fault_refused faultless e = let z : ◌≡◌ {A = ℕ} 0 1 = cc in absurd (omega arith)
   fault_refused {q = q} (lacks {f = f} {k = k} {r = o} h b) e =
       let same : o ≡ q = cc in
       (f, k, refl, sym same ∙ h)
 
-  pub fault_rows : {ns : Numbers} {r : Faults} → FaultAs s place ns r → FaultsIn s place ns
+  pub fault_rows : {ns : Numbers} {r : Result Unit Refusal} → FaultAs s place ns r → FaultsIn s place ns
   fault_rows faultless = tt
   fault_rows (lacks h b) = b
 
@@ -195,7 +196,7 @@ listing-lines x zs p q t = joined p (joined q t)
 
 -- a declaration d that begins at p, with its body at c, and its faults
 module _ {s : List ℕ} {c : Cursor} (p : Point) (d : declaration.Declaration) (body : CursorAt s (body_at p) c)
-    {r : Faults} (t : FaultAs s (fault_in (inside (point s c))) (numbers_of d) r) where
+    {r : Result Unit Refusal} (t : FaultAs s (fault_in (inside (point s c))) (numbers_of d) r) where
   pub item_faults : FaultsIn s (fault_place p) (numbers_of d)
   item_faults = subst (λ (y : Point). FaultsIn s (fault_in (inside y)) (numbers_of d)) body.here (fault_rows t)
 
@@ -206,8 +207,8 @@ module _ {s : List ℕ} {c : Cursor} (p : Point) (d : declaration.Declaration) (
         outputs.fitted (length z) (listing.numbered_answer p d ns)
     told e = ap (λ (ns : Numbers). outputs.fitted (length z) (listing.numbered_answer p d ns)) e
 
-    pub faults_refused : (q : Refusal) → r ≡ faults.Refused q →
-        WrittenAs z z (outputs.fitted (length z) (listing.numbered_answer p d (numbers_of d))) (writtens.Refused q)
+    pub faults_refused : (q : Refusal) → r ≡ Err q →
+        WrittenAs z z (outputs.fitted (length z) (listing.numbered_answer p d (numbers_of d))) (Err q)
     faults_refused q e =
         let f = fault_refused t e in
         let place : fault_place p f.0 f.1 ≡ q.place =
@@ -217,7 +218,7 @@ module _ {s : List ℕ} {c : Cursor} (p : Point) (d : declaration.Declaration) (
         written_refused (told f.2 ∙ (λ i. outputs.refused (number i) (place i)))
 
     -- once the listing was measured, in an output x that is then y
-    module _ (e : r ≡ faults.None) {x y : List ℕ} {m : ℕ}
+    module _ (e : r ≡ Ok tt) {x y : List ℕ} {m : ℕ}
         (q : (zs : List ℤ) → body_numbers d.body ≡ numbers zs → Put x y 0 m (listing.listing zs d)) where
       abbrev zs : List ℤ
       zs = (fault_none t e).0
@@ -227,13 +228,13 @@ module _ {s : List ℕ} {c : Cursor} (p : Point) (d : declaration.Declaration) (
 
       pub measured-short : length z < m →
           WrittenAs z z (outputs.fitted (length z) (listing.numbered_answer p d (numbers_of d)))
-          (writtens.Refused (record { number = 8; place = list.END }))
+          (Err (record { number = 8; place = list.END }))
       measured-short h = written_as (told (fault_none t e).1)
           (fits_not (listing.listing zs d) m (q zs each).next h)
 
       pub measured-fits : {w : List ℕ} {n : ℕ} →
           ((zs : List ℤ) → body_numbers d.body ≡ numbers zs → Put z w 0 n (listing.listing zs d)) → m ≤ length z →
-          WrittenAs z w (outputs.fitted (length z) (listing.numbered_answer p d (numbers_of d))) (writtens.Text n)
+          WrittenAs z w (outputs.fitted (length z) (listing.numbered_answer p d (numbers_of d))) (Ok n)
       measured-fits v h = written_as (told (fault_none t e).1)
           (fits (listing.listing zs d) m (q zs each).next h (v zs each))
 

@@ -9,7 +9,8 @@ use Rattle.token_list.specs.Byte.{bytes}
 use Rattle.token_list.specs.Text.{digit_worth}
 use Rattle.reading.specs.Token.{MAX_I64}
 use Rattle.reading.specs.Declaration.{unit, Value, absent, literal, negative, Variant}
-use Rattle.describe.specs.Integer.{none, counts, bits, radix_of, integer, in_range}
+use Rattle.std.specs.Prelude.{Some, None}
+use Rattle.describe.specs.Integer.{bits, radix_of, integer, in_range}
 use Rattle.describe.specs.Numbers.{no_integer_lem, no_step_lem, name_again, number_again, Numbers, numbers, lacking}
 use Rattle.describe.specs.Numbers.{numbers_from, BEFORE_FIRST, distinct, variant_names}
 
@@ -18,21 +19,21 @@ use Rattle.describe.specs.Numbers.{numbers_from, BEFORE_FIRST, distinct, variant
 pub integers : map integer
     (bytes "0" ∷ bytes "007" ∷ bytes "1_" ∷ bytes "1_000u16" ∷ bytes "300u8" ∷ bytes "0b_1" ∷ bytes "0o17" ∷
     bytes "0x1f32" ∷ bytes "0x1_i8" ∷ bytes "0xFfusize" ∷ [])
-    ≡ counts 0 ∷ counts 7 ∷ counts 1 ∷ counts 1000 ∷ counts 300 ∷ counts 1 ∷ counts 15 ∷
-    counts 7986 ∷ counts 1 ∷ counts 255 ∷ []
+    ≡ Some 0 ∷ Some 7 ∷ Some 1 ∷ Some 1000 ∷ Some 300 ∷ Some 1 ∷ Some 15 ∷
+    Some 7986 ∷ Some 1 ∷ Some 255 ∷ []
 unfolding integer digit_worth bits radix_of
 integers = refl
 
 pub no_integers : map integer
     (bytes "1f32" ∷ bytes "1e3" ∷ bytes "1.5" ∷ bytes "0x_" ∷ bytes "0b" ∷ bytes "0b2" ∷ bytes "0o8" ∷ bytes "0B1" ∷
     bytes "1u7" ∷ bytes "1u" ∷ bytes "_1" ∷ bytes "\"a\"" ∷ bytes "'a'" ∷ bytes "b'a'" ∷ [])
-    ≡ replicate 14 none
+    ≡ replicate 14 None
 unfolding integer digit_worth bits radix_of
 no_integers = refl
 
 -- the largest i64, and one more
 pub range : map (λ t. in_range (integer t)) (bytes "0x7FFF_FFFF_FFFF_FFFF" ∷ bytes "9223372036854775808" ∷ [])
-    ≡ counts MAX_I64 ∷ none ∷ []
+    ≡ Some MAX_I64 ∷ None ∷ []
 unfolding integer digit_worth bits radix_of
 range = refl
 

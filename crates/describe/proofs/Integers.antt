@@ -1,21 +1,26 @@
 -- Laws on the worth of an integer literal.
-use mathlib.Core.Path.{◌≡◌, refl, ap, ◌∙◌, sym, subst⁻¹}
-use mathlib.Core.Logic.{◌⊎◌, inl, inr, ⊎_elim}
+use mathlib.Core.Path.{◌≡◌, refl, ap, ◌∙◌, sym}
 use mathlib.Core.Bool.{Bool, true, false, cond, ◌&&◌, ◌||◌}
 use mathlib.Core.List.{List, [], ◌∷◌}
-use Prim.Native.Nat.{ℕ, ◌+◌, ◌*◌, ◌/◌, ◌≤◌, ◌<◌}
-use native.Mathlib.Nat.{le-div_iff_mul-le, div-lt_iff_lt-mul, le-mul_of_pos_right}
+use Prim.Native.Nat.{ℕ, ◌+◌, ◌-◌, ◌*◌, ◌≤◌, ◌<◌}
+use native.Mathlib.Nat.{le-mul_of_pos_right}
+use native.Mathlib.Numerals.{add-one}
 use native.Mathlib.Omega.{arith}
-use borrow.Author.Tests.{lt-leb, le-leb, lt-ltb, le-ltb, ltb-true, ltb-false, eq-eqb, ne_eqb}
-use lib.Dec.{ltb, eqb}
-use lib.ListN.{length, get_or, take}
-use lib.Seq.{slice, drop-drop}
-use Rattle.token_list.specs.Byte.{bytes, ZERO, UNDERSCORE}
-use Rattle.token_list.specs.Text.{same, digit_worth}
-use Rattle.token_list.proofs.Texts.{chosen, passed_over, slice_next, slice-none}
+use borrow.Author.Tests.{leb-true, lt-leb, le-leb, lt-ltb, le-ltb, eq-eqb, eqb-true, eqb-false, ne_eqb}
+use lib.Dec.{leb, ltb, eqb}
+use lib.ListN.{length, get_or, take, drop}
+use lib.IntN.{ℤ, pos}
+use lib.Pointwise.{pointwise}
+use lib.Seq.{drop-cons}
+use Rattle.std.specs.Prelude.{Option, Some, None, nat_eq}
+use Rattle.std.specs.Option.{option_map}
+use Rattle.std.proofs.lemmas.List.{take_rest}
+use Rattle.token_list.specs.Byte.{bytes, UNDERSCORE}
+use Rattle.token_list.specs.Text.{same, between, digit_worth}
+use Rattle.token_list.proofs.Texts.{and_parts, and_both, chosen, passed_over}
 use Rattle.reading.specs.Token.{MAX_I64}
-use Rattle.describe.specs.Integer.{none, counts, bits, suffix, ended, digits, radix_of, radix}
-use Rattle.describe.specs.Integer.{decimal_integer, integer, in_range}
+use Rattle.describe.specs.Integer.{bits, suffix, ended, digits, radix_of, radix, decimal_integer}
+use Rattle.describe.specs.Integer.{integer, in_range}
 
 -- ## Digits
 
@@ -23,225 +28,161 @@ use Rattle.describe.specs.Integer.{decimal_integer, integer, in_range}
 grown : (radix n d : ℕ) → 1 ≤ radix → n ≤ n * radix + d
 grown radix n d h = omega (arith, le-mul_of_pos_right n h)
 
-ended_large : (any : Bool) (n : ℕ) (t : List ℕ) → MAX_I64 < n → in_range (ended any n t) ≡ none
+ended_large : (any : Bool) (n : ℕ) (t : List ℕ) → MAX_I64 < n → in_range (ended any n t) ≡ None
 ended_large any n t k = go (any && suffix t)
   where
-    go : (b : Bool) → in_range (cond b (counts n) none) ≡ none
+    go : (b : Bool) → in_range (cond b (Some n) None) ≡ None
     go true = passed_over _ _ _ (lt-leb n MAX_I64 k)
     go false = refl
 
 -- what is out of range stays so
 pub digits_large : (radix : ℕ) → 1 ≤ radix → (any : Bool) (n : ℕ) (t : List ℕ) → MAX_I64 < n →
-    in_range (digits radix any n t) ≡ none
+    in_range (digits radix any n t) ≡ None
 digits_large radix h any n [] k = ended_large any n [] k
 digits_large radix h any n (b ∷ t) k =
     go (eqb b UNDERSCORE) (ltb (digit_worth b) radix) (digits_large radix h any n t k)
     (digits_large radix h true (n * radix + digit_worth b) t (omega (arith, grown radix n (digit_worth b) h)))
   where
-    go : (u d : Bool) → in_range (digits radix any n t) ≡ none →
-        in_range (digits radix true (n * radix + digit_worth b) t) ≡ none
+    go : (u d : Bool) → in_range (digits radix any n t) ≡ None →
+        in_range (digits radix true (n * radix + digit_worth b) t) ≡ None
         → in_range (cond u (digits radix any n t)
-        (cond d (digits radix true (n * radix + digit_worth b) t) (ended any n (b ∷ t)))) ≡ none
+        (cond d (digits radix true (n * radix + digit_worth b) t) (ended any n (b ∷ t)))) ≡ None
     go true d x y = x
     go false true x y = y
     go false false x y = ended_large any n (b ∷ t) k
 
 -- the digits from i on, where those before them are worth n
-pub record Reading (s : List ℕ) (start end radix : ℕ) (any : Bool) (n i : ℕ) : Type 0 where
-  pub same : in_range (digits radix false 0 (slice start end s)) ≡ in_range (digits radix any n (slice i end s))
-  pub few : n ≤ MAX_I64
+pub record Reading (t : List ℕ) (radix : ℕ) (any : Bool) (n i : ℕ) : Type 0 where
+  pub same : in_range (digits radix false 0 t) ≡ in_range (digits radix any n (drop i t))
 
-pub reading_start : (s : List ℕ) (start end radix : ℕ) → Reading s start end radix false 0 start
-reading_start s start end radix = record { same = refl; few = omega arith }
-
-module _ {s : List ℕ} {start end radix n i : ℕ} {any : Bool} (fits : end ≤ length s)
-    (r : Reading s start end radix any n i) where
+module _ {t : List ℕ} {radix n i : ℕ} {any : Bool} (r : Reading t radix any n i) (h : i < length t) where
   abbrev rest : List ℕ
-  rest = slice (i + 1) end s
+  rest = drop (i + 1) t
 
   abbrev byte : ℕ
-  byte = get_or s i 0
+  byte = get_or t i 0
 
-  here : i < end → digits radix any n (slice i end s) ≡ digits radix any n (byte ∷ rest)
-  here h = ap (digits radix any n) (slice_next s i end h fits)
+  next : drop i t ≡ byte ∷ rest
+  next = rw (add-one, drop-cons t i 0)
 
-  pub reading_underscore : i < end → byte ≡ UNDERSCORE → Reading s start end radix any n (i + 1)
-  reading_underscore h e =
-      record { same = r.same ∙ ap in_range (here h ∙ chosen _ _ _ (eq-eqb byte UNDERSCORE e)); few = r.few }
-
-  module _ (h : i < end) (non : byte ≡ UNDERSCORE → ⊥) where
-    next : digit_worth byte < radix →
-        in_range (digits radix false 0 (slice start end s)) ≡
-        in_range (digits radix true (n * radix + digit_worth byte) rest)
-    next k =
-        r.same ∙ ap in_range (here h ∙ passed_over _ _ _ (ne_eqb byte UNDERSCORE non) ∙
-        chosen _ _ _ (lt-ltb (digit_worth byte) radix k))
-
-    pub reading_digit : {d : ℕ} → d ≡ digit_worth byte → d < radix → n * radix + d ≤ MAX_I64 →
-        Reading s start end radix true (n * radix + d) (i + 1)
-    reading_digit {d} e k l =
-        subst⁻¹ (λ (m : ℕ). Reading s start end radix true (n * radix + m) (i + 1)) e
-        (record { same = next (omega (arith, e)); few = omega (arith, e) })
+  module _ (non : byte ≡ UNDERSCORE → ⊥) where
+    reading_digit : digit_worth byte < radix → Reading t radix true (n * radix + digit_worth byte) (i + 1)
+    reading_digit k =
+        record {
+          same = r.same ∙ ap in_range (ap (digits radix any n) next ∙ passed_over _ _ _ (ne_eqb byte UNDERSCORE non) ∙
+              chosen _ _ _ (lt-ltb (digit_worth byte) radix k));
+        }
 
     pub reading_large : 1 ≤ radix → digit_worth byte < radix → MAX_I64 < n * radix + digit_worth byte →
-        none ≡ in_range (digits radix false 0 (slice start end s))
-    reading_large p k l = sym (next k ∙ digits_large radix p true (n * radix + digit_worth byte) rest l)
-
-    -- a byte that is no digit ends them
-    pub reading_ended : radix ≤ digit_worth byte →
-        in_range (digits radix false 0 (slice start end s)) ≡ in_range (ended any n (slice i end s))
-    reading_ended k =
-        r.same ∙ ap in_range (here h ∙ passed_over _ _ _ (ne_eqb byte UNDERSCORE non) ∙
-        passed_over _ _ _ (le-ltb (digit_worth byte) radix k) ∙ sym (ap (ended any n) (slice_next s i end h fits)))
-
-  pub reading_none : end ≤ i →
-      in_range (digits radix false 0 (slice start end s)) ≡ in_range (ended any n (slice i end s))
-  reading_none h =
-      r.same ∙ ap (λ (t : List ℕ). in_range (digits radix any n t)) (slice-none s i end h) ∙
-      sym (ap (λ (t : List ℕ). in_range (ended any n t)) (slice-none s i end h))
-
--- above a radix-th of the most, one digit more is out of range
-pub product_large : (n radix d : ℕ) → 1 ≤ radix → MAX_I64 / radix < n → MAX_I64 < n * radix + d
-product_large n radix d h k = omega (arith, (div-lt_iff_lt-mul h).0 k)
-
-pub product_fits : (n radix : ℕ) → 1 ≤ radix → n ≤ MAX_I64 / radix → n * radix ≤ MAX_I64
-product_fits n radix h k = (le-div_iff_mul-le h).0 k
+        in_range (digits radix false 0 t) ≡ None
+    reading_large p k l =
+        (reading_digit k).same ∙ digits_large radix p true (n * radix + digit_worth byte) rest l
 
 -- ## The suffix
 
-pub bits_are : (t : List ℕ) → bits t ≡ (same t (bytes "8") || (same t (bytes "16") || (same t (bytes "32")
-    || (same t (bytes "64") || (same t (bytes "128") || same t (bytes "size"))))))
-unfolding bits
-bits_are t = refl
-
-module _ (s : List ℕ) (start end : ℕ) (h : start < end) (fits : end ≤ length s) where
-  suffix_by : {u i : Bool} → eqb (get_or s start 0) 117 ≡ u → eqb (get_or s start 0) 105 ≡ i →
-      suffix (slice start end s) ≡ (u || i) && bits (slice (start + 1) end s)
-  suffix_by e f =
-      ap suffix (slice_next s start end h fits) ∙ (λ k. (e k || f k) && bits (slice (start + 1) end s))
-
-  pub suffix_unsigned : get_or s start 0 ≡ 117 → suffix (slice start end s) ≡ bits (slice (start + 1) end s)
-  suffix_unsigned e = suffix_by (eq-eqb (get_or s start 0) 117 e) refl
-
-  pub suffix-signed : get_or s start 0 ≡ 105 → suffix (slice start end s) ≡ bits (slice (start + 1) end s)
-  suffix-signed e = go (eqb (get_or s start 0) 117) refl
-    where
-      go : (u : Bool) → eqb (get_or s start 0) 117 ≡ u → suffix (slice start end s) ≡ bits (slice (start + 1) end s)
-      go true q = suffix_by q refl
-      go false q = suffix_by q (eq-eqb (get_or s start 0) 105 e)
-
-  pub suffix-none : (get_or s start 0 ≡ 117 → ⊥) → (get_or s start 0 ≡ 105 → ⊥) → suffix (slice start end s) ≡ false
-  suffix-none e f = suffix_by (ne_eqb (get_or s start 0) 117 e) (ne_eqb (get_or s start 0) 105 f)
-
-module _ (any : Bool) (n : ℕ) (t : List ℕ) where
-  pub no_digits : any ≡ false → in_range (ended any n t) ≡ none
-  no_digits e = ap (λ (b : Bool). in_range (ended b n t)) e
-
-  pub counted-digits : any ≡ true → suffix t ≡ true → n ≤ MAX_I64 → in_range (ended any n t) ≡ counts n
-  counted-digits e f h =
-      (λ i. in_range (cond (e i && f i) (counts n) none)) ∙ chosen _ _ _ (le-leb n MAX_I64 h)
-
-  pub wrong-suffix : suffix t ≡ false → in_range (ended any n t) ≡ none
-  wrong-suffix f = go any
-    where
-      go : (b : Bool) → in_range (ended b n t) ≡ none
-      go true = ap (λ (c : Bool). in_range (cond c (counts n) none)) f
-      go false = refl
-
--- ## The radix
-
-module _ (b : ℕ) where
-  pub binary : b ≡ 98 → 2 ≡ radix_of b
-  unfolding radix_of
-  binary e = sym (chosen _ _ _ (eq-eqb b 98 e))
-
-  pub octal : b ≡ 111 → 8 ≡ radix_of b
-  unfolding radix_of
-  octal e = sym (ap radix_of e)
-
-  pub hexadecimal : b ≡ 120 → 16 ≡ radix_of b
-  unfolding radix_of
-  hexadecimal e = sym (ap radix_of e)
-
-  pub no_radix : (b ≡ 98 → ⊥) → (b ≡ 111 → ⊥) → (b ≡ 120 → ⊥) → 0 ≡ radix_of b
-  unfolding radix_of
-  no_radix e f g =
-      sym (passed_over _ _ _ (ne_eqb b 98 e) ∙ passed_over _ _ _ (ne_eqb b 111 f) ∙ passed_over _ _ _ (ne_eqb b 120 g))
-
-pub radix-none : (s : List ℕ) (start end : ℕ) → end ≤ length s → end ≤ start + 1 → radix (slice start end s) ≡ 0
-radix-none s start end fits h = go (ltb start end) refl
+eqb_sym : (m n : ℕ) → eqb m n ≡ eqb n m
+eqb_sym m n = go (eqb n m) refl
   where
-    go : (b : Bool) → ltb start end ≡ b → radix (slice start end s) ≡ 0
-    go true e =
-        ap radix (slice_next s start end (ltb-true start end e) fits ∙
-        ap (λ (t : List ℕ). get_or s start 0 ∷ t) (slice-none s (start + 1) end h))
-    go false e = ap radix (slice-none s start end (ltb-false start end e))
+    go : (b : Bool) → eqb n m ≡ b → eqb m n ≡ b
+    go true e = eq-eqb m n (sym (eqb-true n m e))
+    go false e = ne_eqb m n (λ f. eqb-false n m e (sym f))
 
-pub radix_some : (s : List ℕ) (start end : ℕ) → end ≤ length s → start + 1 < end →
-    radix (slice start end s) ≡ cond (eqb (get_or s start 0) ZERO) (radix_of (get_or s (start + 1) 0)) 0
-radix_some s start end fits h =
-    ap radix (slice_next s start end (omega arith) fits ∙
-    ap (λ (t : List ℕ). get_or s start 0 ∷ t) (slice_next s (start + 1) end h fits))
+same_is : (t u : List ℕ) → pointwise nat_eq u t ≡ same t u
+same_is [] [] = refl
+same_is [] (y ∷ u) = refl
+same_is (x ∷ t) [] = refl
+same_is (x ∷ t) (y ∷ u) = λ i. eqb_sym y x i && same_is t u i
 
-abbrev Radix : ℕ → Type 0
-Radix r = (r ≡ 0) ⊎ ((2 ≤ r) × (r ≤ 16))
+or_nothing : (b : Bool) → (b || false) ≡ b
+or_nothing true = refl
+or_nothing false = refl
 
-radix_choice : (b : Bool) {m n : ℕ} → Radix m → Radix n → Radix (cond b m n)
-radix_choice true h k = h
-radix_choice false h k = k
-
-one_of : (b : ℕ) → Radix (radix_of b)
-unfolding radix_of
-one_of b =
-    radix_choice (eqb b 98) (inr (omega arith, omega arith))
-    (radix_choice (eqb b 111) (inr (omega arith, omega arith))
-    (radix_choice (eqb b 120) (inr (omega arith, omega arith)) (inl refl)))
-
-radix_range : (t : List ℕ) → Radix (radix t)
-radix_range [] = inl refl
-radix_range (a ∷ []) = inl refl
-radix_range (a ∷ b ∷ t) = radix_choice (eqb a ZERO) (one_of b) (inl refl)
-
--- a text with a radix
-module _ (s : List ℕ) (start end : ℕ) {r : ℕ} (same : r ≡ radix (slice start end s)) (non : r ≡ 0 → ⊥) where
-  pub radix_long : end ≤ length s → start + 1 < end
-  radix_long fits = go (ltb (start + 1) end) refl
-    where
-      go : (b : Bool) → ltb (start + 1) end ≡ b → start + 1 < end
-      go true e = ltb-true (start + 1) end e
-      go false e = absurd (non (same ∙ radix-none s start end fits (ltb-false (start + 1) end e)))
-
-  pub radix-bounds : (2 ≤ r) × (r ≤ 16)
-  radix-bounds =
-      ⊎_elim (λ e. absurd (non (same ∙ e))) (λ h. (omega (arith, same, h.0), omega (arith, same, h.1)))
-      (radix_range (slice start end s))
-
-  pub integer-prefixed : integer (slice start end s) ≡ digits r false 0 (slice (start + 2) end s)
-  unfolding integer
-  integer-prefixed =
-      let back = sym same in
-      passed_over _ _ _ (ne_eqb (radix (slice start end s)) 0 (λ e. non (same ∙ e))) ∙
-      (λ i. digits (back i) false 0 (drop-drop 2 start (take end s) i))
+pub bits_are : (t : List ℕ) → (pointwise nat_eq (bytes "8") t || (pointwise nat_eq (bytes "16") t
+    || (pointwise nat_eq (bytes "32") t || (pointwise nat_eq (bytes "64") t || (pointwise nat_eq (bytes "128") t
+    || (pointwise nat_eq (bytes "size") t || false)))))) ≡ bits t
+unfolding bits
+bits_are t = λ i.
+    same_is t (bytes "8") i || (same_is t (bytes "16") i || (same_is t (bytes "32") i || (same_is t (bytes "64") i
+    || (same_is t (bytes "128") i || or_nothing (same_is t (bytes "size") i) i))))
 
 -- ## The literal
 
-module _ (s : List ℕ) (start end : ℕ) (zero : radix (slice start end s) ≡ 0) where
-  plain : integer (slice start end s) ≡ decimal_integer (slice start end s)
-  unfolding integer
-  plain = chosen _ _ _ (eq-eqb (radix (slice start end s)) 0 zero)
+-- what the code answers of a literal
+abbrev pub worth_of : List ℕ → Option ℤ
+worth_of t = option_map pos (in_range (integer t))
 
-  pub integer_empty : end ≤ start → integer (slice start end s) ≡ none
-  integer_empty h = plain ∙ ap decimal_integer (slice-none s start end h)
+-- a `0` and a byte that tells a radix
+pub radix_is : (t : List ℕ) {r : ℕ} → 2 ≤ length t → get_or t 0 0 ≡ 48 → radix_of (get_or t 1 0) ≡ r → r ≡ radix t
+radix_is [] h e f = absurd (omega arith)
+radix_is (x ∷ []) h e f = absurd (omega arith)
+radix_is (x ∷ y ∷ t) h e f = sym (chosen _ _ _ (eq-eqb x 48 e) ∙ f)
 
-  module _ (h : start < end) (fits : end ≤ length s) where
-    pub integer-decimal : digit_worth (get_or s start 0) < 10 →
-        integer (slice start end s) ≡ digits 10 false 0 (slice start end s)
-    integer-decimal k =
-        plain ∙ ap decimal_integer (slice_next s start end h fits) ∙
-        chosen _ _ _ (lt-ltb (digit_worth (get_or s start 0)) 10 k) ∙
-        sym (ap (digits 10 false 0) (slice_next s start end h fits))
+module _ {b : ℕ} where
+  pub binary : b ≡ 98 → radix_of b ≡ 2
+  unfolding radix_of
+  binary e = ap radix_of e
 
-    pub integer-other : 10 ≤ digit_worth (get_or s start 0) → integer (slice start end s) ≡ none
-    integer-other k =
-        plain ∙ ap decimal_integer (slice_next s start end h fits) ∙
-        passed_over _ _ _ (le-ltb (digit_worth (get_or s start 0)) 10 k)
+  pub octal : b ≡ 111 → radix_of b ≡ 8
+  unfolding radix_of
+  octal e = ap radix_of e
+
+  pub hexadecimal : b ≡ 120 → radix_of b ≡ 16
+  unfolding radix_of
+  hexadecimal e = ap radix_of e
+
+  pub no_radix : (b ≡ 98 → ⊥) → (b ≡ 111 → ⊥) → (b ≡ 120 → ⊥) → radix_of b ≡ 0
+  unfolding radix_of
+  no_radix e f g =
+      passed_over _ _ _ (ne_eqb b 98 e) ∙ passed_over _ _ _ (ne_eqb b 111 f) ∙ passed_over _ _ _ (ne_eqb b 120 g)
+
+pub integer-prefixed : (t : List ℕ) {r : ℕ} → r ≡ radix t → 2 ≤ r →
+    option_map pos (in_range (digits r false 0 (take (length t - 2) (drop 2 t)))) ≡ worth_of t
+unfolding integer
+integer-prefixed t {r} e h =
+    ap (λ (w : Option ℕ). option_map pos (in_range w))
+    ((λ i. digits (e i) false 0 (take_rest t 2 i)) ∙
+    sym (passed_over _ _ _ (ne_eqb (radix t) 0 (λ f. omega (arith, e, f)))))
+
+plain : (t : List ℕ) → 0 ≡ radix t → integer t ≡ decimal_integer t
+unfolding integer
+plain t e = chosen _ _ _ (eq-eqb (radix t) 0 (sym e))
+
+-- the digits, by their bytes
+digit_is : (b : ℕ) → ltb (digit_worth b) 10 ≡ between 48 57 b
+unfolding digit_worth
+digit_is b = go (between 48 57 b) refl
+  where
+    letter : (l u : Bool) → 10 ≤ cond l (b - 97 + 10) (cond u (b - 65 + 10) 16)
+    letter true u = omega arith
+    letter false true = omega arith
+    letter false false = omega arith
+
+    go : (d : Bool) → between 48 57 b ≡ d →
+        ltb (cond (between 48 57 b) (b - 48) (cond (between 97 102 b) (b - 97 + 10)
+        (cond (between 65 70 b) (b - 65 + 10) 16))) 10 ≡ d
+    go true e =
+        let low = leb-true b 57 (and_parts (leb 48 b) (leb b 57) e).1 in
+        ap (λ (n : ℕ). ltb n 10) (chosen _ _ _ e) ∙ lt-ltb (b - 48) 10 (omega (arith, low))
+    go false e =
+        ap (λ (n : ℕ). ltb n 10) (passed_over _ _ _ e) ∙
+        le-ltb _ 10 (letter (between 97 102 b) (between 65 70 b))
+
+pub integer-decimal : (t : List ℕ) → 0 ≡ radix t → 1 ≤ length t → 48 ≤ get_or t 0 0 → get_or t 0 0 ≤ 57 →
+    option_map pos (in_range (digits 10 false 0 t)) ≡ worth_of t
+integer-decimal [] e h k l = absurd (omega arith)
+integer-decimal (x ∷ t) e h k l =
+    let digit = digit_is x ∙ and_both _ _ (le-leb 48 x k) (le-leb x 57 l) in
+    ap (λ (w : Option ℕ). option_map pos (in_range w)) (sym (chosen _ _ _ digit) ∙ sym (plain (x ∷ t) e))
+
+pub no_integer : (t : List ℕ) → 0 ≡ radix t → (1 ≤ length t → 48 ≤ get_or t 0 0 → get_or t 0 0 ≤ 57 → ⊥) →
+    None ≡ worth_of t
+no_integer [] e h = ap (λ (w : Option ℕ). option_map pos (in_range w)) (sym (plain [] e))
+no_integer (x ∷ t) e h =
+    let digit = digit_is x ∙ go (between 48 57 x) refl in
+    ap (λ (w : Option ℕ). option_map pos (in_range w)) (sym (passed_over _ _ _ digit) ∙ sym (plain (x ∷ t) e))
+  where
+    go : (b : Bool) → between 48 57 x ≡ b → between 48 57 x ≡ false
+    go true f =
+        let k = and_parts (leb 48 x) (leb x 57) f in
+        absurd (h (omega arith) (leb-true 48 x k.0) (leb-true x 57 k.1))
+    go false f = f

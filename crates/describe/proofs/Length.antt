@@ -20,8 +20,7 @@ use Rattle.output.specs.Text.{decimal}
 use Rattle.output.specs.Contract.{Printed}
 use Rattle.output.specs.Answer.{Answer, wrote, refused, answer_text}
 use Rattle.output.specs.Written.{WrittenAs, at_most}
-use Rattle.output.specs.declared.written.Written.{Written}
-use Rattle.output.specs.declared.written.Written.TheVariants as writtens
+use Rattle.token_list.specs.declared.check.Refusal.{Refusal}
 use Rattle.output.proofs.Answers.{Within, fitted_wrote, fitted-same}
 use Rattle.output.proofs.Texts.{decimal-within}
 use Rattle.reading.specs.Declaration.{Kind, struct, enum, Fields, unit, named, tuple, Value, absent, literal, negative}
@@ -32,7 +31,8 @@ use Rattle.reading.specs.Took.{Took, took, stopped}
 use Rattle.reading.specs.Reading.{item}
 use Rattle.reading.proofs.Frame.{framed_cases}
 use Rattle.reading.proofs.Conserved.{own_number_lem, refusal-number, item_conserved}
-use Rattle.describe.specs.Integer.{Worth, none, counts, integer, in_range}
+use Rattle.std.specs.Prelude.{Option, Some, None, Result, Ok, Err}
+use Rattle.describe.specs.Integer.{integer, in_range}
 use Rattle.describe.specs.Numbers.{Number, number, without, no_integer_lem, no_step_lem, name_again, number_again}
 use Rattle.describe.specs.Numbers.{number_after, Numbers, numbers, lacking, preceding, and_then, numbers_from}
 use Rattle.describe.specs.Numbers.{following, valued, minus, BEFORE_FIRST, body_numbers, body_names, numbers_of}
@@ -114,12 +114,12 @@ following_ranged (pos n) h = go (ltb n MAX_I64) refl
 following_ranged (negsuc zero) h = omega arith
 following_ranged (negsuc (suc n)) h = omega arith
 
-valued_ranged : (sign : ℕ → ℤ) → ((n : ℕ) → n ≤ MAX_I64 → InRange (sign n)) → (w : Worth) →
+valued_ranged : (sign : ℕ → ℤ) → ((n : ℕ) → n ≤ MAX_I64 → InRange (sign n)) → (w : Option ℕ) →
     Ranged (valued sign (in_range w))
-valued_ranged sign k none = tt
-valued_ranged sign k (counts n) = go (leb n MAX_I64) refl
+valued_ranged sign k None = tt
+valued_ranged sign k (Some n) = go (leb n MAX_I64) refl
   where
-    go : (b : Bool) → leb n MAX_I64 ≡ b → Ranged (valued sign (cond b (counts n) none))
+    go : (b : Bool) → leb n MAX_I64 ≡ b → Ranged (valued sign (cond b (Some n) None))
     go true e = k n (leb-true n MAX_I64 e)
     go false e = tt
 
@@ -130,7 +130,7 @@ minus_ranged (suc n) h = omega arith
 after_ranged : (z : ℤ) → InRange z → (v : Value) → Ranged (number_after z v)
 after_ranged z h absent = following_ranged z h
 after_ranged z h (literal t) = valued_ranged pos (λ n k. k) (integer t)
-after_ranged z h (negative n) = valued_ranged minus minus_ranged (counts n)
+after_ranged z h (negative n) = valued_ranged minus minus_ranged (Some n)
 
 -- every number; past the last stands 0
 abbrev AllRanged : Numbers → Type 0
@@ -255,7 +255,7 @@ module _ (s : List ℕ) where
         record { text = p; roomy = λ h. rw ((fits (length x)).room h) at p; short = short; refusal = refusal }
 
   -- no text that is printed is longer
-  pub answer_length : {x y : List ℕ} (r : Written) → WrittenAs x y (answer s (length x)) r → at_most r ≤ MOST
-  answer_length {x} {y} (writtens.Text n) l = omega
+  pub answer_length : {x y : List ℕ} (r : Result ℕ Refusal) → WrittenAs x y (answer s (length x)) r → at_most r ≤ MOST
+  answer_length {x} {y} (Ok n) l = omega
       (arith, (fits (length x)).longest (take n y) (sym l.answer), length-take-le n y l.room)
-  answer_length (writtens.Refused r) l = omega arith
+  answer_length (Err r) l = omega arith

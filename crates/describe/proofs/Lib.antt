@@ -3,6 +3,7 @@ pub mod Parts
 pub mod Worths
 pub mod Answers
 pub mod Costs
+pub mod Ends
 pub mod Lined
 pub mod Integers
 pub mod Numbering

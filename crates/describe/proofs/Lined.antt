@@ -1,17 +1,21 @@
 -- Laws on lines: a text of several parts, and the lines of things that are read one after the other.
 use mathlib.Core.Path.{◌≡◌, refl, ap, ◌∙◌, sym}
-use mathlib.Core.Bool.{true, false, false≢true}
+use mathlib.Core.Bool.{Bool, true, false, false≢true}
 use mathlib.Core.List.{List, [], ◌∷◌, ◌++◌, append_assoc, append-nil}
-use Prim.Native.Nat.{ℕ, suc, ◌+◌, ◌-◌, ◌≤◌, ◌<◌}
+use Prim.Native.Nat.{ℕ, suc, ◌+◌, ◌-◌, ◌≤◌, ◌<◌, min}
 use native.Mathlib.Omega.{arith}
-use lib.ListN.{length, length-append}
+use borrow.Author.Tests.{leb-true, leb-false}
+use lib.Dec.{leb}
+use lib.Seq.{slice}
+use lib.ListN.{length, take, drop, length-append}
+use Rattle.token_list.proofs.Texts.{drop_of_take, slice-none}
 use Rattle.token_list.specs.Byte.{LF, QUOTE, SPACE}
 use Rattle.token_list.specs.Contract.{InList}
 use Rattle.token_list.specs.declared.check.Cursor.{Cursor}
 use Rattle.output.specs.Contract.{FAR, Put}
 use Rattle.output.proofs.Texts.{nothing, joined, put_as}
 use Rattle.reading.specs.Declaration.{Parameter, lifetime, constant, type, UnnamedField, Field}
-use Rattle.reading.specs.Took.{Took, Reader}
+use Rattle.reading.specs.Took.{Reader}
 use Rattle.reading.specs.Reading as reading
 use Rattle.reading.specs.Reading.{Maybe, done, one, every}
 use Rattle.reading.specs.Place.{parameter_name_at}
@@ -20,13 +24,22 @@ use Rattle.reading.proofs.Conserved as conserved
 use Rattle.parse.specs.Contract.{Said, on, no, Meets, stream, point, InsideAt}
 use Rattle.parse.specs.Contract.{named_shown, named_said, next_shown, next_said}
 use Rattle.parse.specs.Contract.{is_lifetime, parameter_kind, parameter_text, parameter_shown, parameter_said}
-use Rattle.parse.specs.declared.fields.NamedStep.{NamedStep}
-use Rattle.parse.specs.declared.fields.NextStep.{NextStep}
-use Rattle.parse.specs.declared.generics.ParameterStep.{ParameterStep}
-use Rattle.parse.proofs.Meeting as meeting
+use Rattle.parse.specs.declared.generics.ParameterAt.{ParameterAt}
+use Rattle.token_list.specs.declared.stream.Token.{Token}
+use Rattle.describe.proofs.Ends.{Turn, NotOne, named_end, tuple_end, parameter_end}
 use Rattle.describe.specs.Listing.{line, numbered, named_line, tuple_line, parameter_name}
 use Rattle.describe.specs.Listing.{parameter_line}
 use Rattle.parse.proofs.Inside.{inside-more, inside_done, inside_refused, forward}
+
+-- the text from a to e, as the code cuts it, which may be empty
+pub between : (s : List ℕ) (a e : ℕ) {m : ℕ} → m ≡ min a e → take (e - m) (drop m s) ≡ slice a e s
+between s a e {m} h = sym (drop_of_take m e s) ∙ go (leb a e) refl
+  where
+    go : (b : Bool) → leb a e ≡ b → slice m e s ≡ slice a e s
+    go true q = let same : m ≡ a = omega (arith, leb-true a e q) in ap (λ i. slice i e s) same
+    go false q =
+        let k = leb-false a e q in
+        slice-none s m e (omega arith) ∙ sym (slice-none s a e (omega arith))
 
 -- a part and a name, and the rest of the line
 pub put_line : {k l m : List ℕ} {h i j : ℕ} (part name number : List ℕ) → Put k l h i (part ++ name) →
@@ -44,15 +57,16 @@ numbered_more f k (y ∷ ys) a =
 
 -- ## Things that are read one after the other
 
--- a reader that goes round, the lines of each thing, and what the code's answer R shows and says of a turn at a cursor
-pub record Series (R A : Type 0) : Type 1 where
+-- a reader that goes round, the lines of each thing, and what the code's answer to a turn at a cursor shows and says
+pub record Series (T A : Type 0) : Type 1 where
   pub lines : ℕ → A → List ℕ
   pub reader : Reader (Maybe A)
   pub round : Rounding reader
-  pub shown : List ℕ → Cursor → R → Maybe A → Type 0
-  pub said : R → Said
+  pub shown : List ℕ → Cursor → Turn T → Maybe A → Type 0
+  pub said : Turn T → Said
+  pub end : (s : List ℕ) (c : Cursor) (x : Turn T) → NotOne x → (v : Maybe A) → shown s c x v → v ≡ done
 
-abbrev pub named : Series NamedStep Field
+abbrev pub named : Series (Token × Cursor) Field
 named =
     record {
       lines = named_line;
@@ -60,9 +74,10 @@ named =
       round = conserved.named_field_round;
       shown = named_shown;
       said = named_said;
+      end = named_end;
     }
 
-abbrev pub tuple : Series NextStep UnnamedField
+abbrev pub tuple : Series Cursor UnnamedField
 tuple =
     record {
       lines = tuple_line;
@@ -70,10 +85,11 @@ tuple =
       round = conserved.tuple_field_round;
       shown = λ s c. next_shown;
       said = next_said;
+      end = λ s c. tuple_end;
     }
 
 -- between the angles, of which the first stands in this row
-abbrev pub parameters : ℕ → Series ParameterStep Parameter
+abbrev pub parameters : ℕ → Series ParameterAt Parameter
 parameters angle =
     record {
       lines = parameter_line;
@@ -81,10 +97,11 @@ parameters angle =
       round = conserved.parameter_round angle;
       shown = λ s c. parameter_shown s (parameter_name_at (point s c));
       said = parameter_said;
+      end = λ s c. parameter_end s (parameter_name_at (point s c));
     }
 
 -- the first things of xs have their lines, and the others are read at c
-pub record Written {R A : Type 0} (q : Series R A) (s : List ℕ) (c : Cursor) (before now : List ℕ) (start at count : ℕ)
+pub record Written {T A : Type 0} (q : Series T A) (s : List ℕ) (c : Cursor) (before now : List ℕ) (start at count : ℕ)
     (xs : List A) : Type 0 where
   pub first : List A
   pub others : List A
@@ -94,7 +111,7 @@ pub record Written {R A : Type 0} (q : Series R A) (s : List ℕ) (c : Cursor) (
   pub text : Put before now start at (numbered q.lines 0 first)
 
 -- from one turn to the next: so many things have their lines, and the lent slices their lengths
-pub record Lined {R A : Type 0} (q : Series R A) (s : List ℕ) (from c : Cursor) (roles₀ roles out₀ out : List ℕ)
+pub record Lined {T A : Type 0} (q : Series T A) (s : List ℕ) (from c : Cursor) (roles₀ roles out₀ out : List ℕ)
     (start at count : ℕ) : Type 0 where
   pub in_list : InList s c
   pub few : count ≤ c.at
@@ -102,7 +119,7 @@ pub record Lined {R A : Type 0} (q : Series R A) (s : List ℕ) (from c : Cursor
   pub out_kept : length out ≡ length out₀
   pub written : (xs : List A) → InsideAt (every q.reader) s from xs → Written q s c out₀ out start at count xs
 
-module _ {R A : Type 0} (q : Series R A) {s : List ℕ} {from : Cursor} {r0 b0 : List ℕ} {start : ℕ} where
+module _ {T A : Type 0} (q : Series T A) {s : List ℕ} {from : Cursor} {r0 b0 : List ℕ} {start : ℕ} where
   pub lined_start : InList s from → length b0 < FAR → Lined q s from from r0 r0 b0 b0 start start 0
   lined_start i h =
       record {
@@ -172,10 +189,16 @@ module _ {R A : Type 0} (q : Series R A) {s : List ℕ} {from : Cursor} {r0 b0 :
         → (xs : List A) → InsideAt (every q.reader) s from xs → B
     lined_refused w xs k = inside_refused q.reader q.round (l.written xs k).inside w
 
--- what a turn answered, by the code's own enum
-pub turn : {R A : Type 0} (q : Series R A) {s : List ℕ} {c : Cursor} {r0 r1 : List ℕ} {t : Took (Maybe A)} {x y : R} →
-    x ≡ y → Meets s c r0 r1 (q.shown s c x) (q.said x) t → Meets s c r0 r1 (q.shown s c y) (q.said y) t
-turn q {s} {c} e w = meeting.say (q.shown s c) q.said e w
+    -- no thing more was read
+    pub lined_end : {r2 : List ℕ} (x : Turn T) →
+        Meets s c r1 r2 (q.shown s c x) (q.said x) (q.reader c.row (stream s c)) → NotOne x
+        → (xs : List A) → InsideAt (every q.reader) s from xs → Put b0 b1 start at (numbered q.lines 0 xs)
+    lined_end {r2} x w h xs k = ended (q.said x) w
+      where
+        ended : (y : Said) → Meets s c r1 r2 (q.shown s c x) y (q.reader c.row (stream s c)) →
+            Put b0 b1 start at (numbered q.lines 0 xs)
+        ended (on d) w = lined_done w (q.end s c x h) xs k
+        ended (no n p) w = lined_refused w xs k
 
 -- ## Parameters
 

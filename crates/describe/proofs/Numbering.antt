@@ -1,12 +1,17 @@
 -- Laws on the numbers of variants: one number, and the numbers and lines of variants that are read one after the other.
-use mathlib.Core.Path.{◌≡◌, refl, ap, ◌∙◌, sym, subst⁻¹}
+use mathlib.Core.Path.{◌≡◌, refl, ap, ◌∙◌, sym, subst, subst⁻¹}
 use mathlib.Core.Bool.{Bool, true, false, cond}
 use mathlib.Core.List.{List, [], ◌∷◌, ◌++◌, append_assoc, append-nil}
 use Prim.Native.Nat.{ℕ, zero, suc, ◌+◌, ◌-◌, ◌≤◌, ◌<◌}
 use native.Mathlib.Numerals.{add-one}
 use native.Mathlib.Omega.{arith}
-use borrow.Author.Tests.{lt-ltb, le-ltb, le-leb}
-use lib.IntN.{ℤ, pos, negsuc}
+use borrow.Author.Tests.{ltb-true, lt-ltb, le-leb}
+use lib.IntN.{ℤ, pos, negsuc, nat_abs, ◌+ℤ◌, ◌-ℤ◌, suc_ℤ}
+use lib.Signed.{lt_z}
+use mir.Syntax.{w64}
+use mir.Val.{to_z, of_z}
+use Rattle.std.specs.Option.{ok_or, option_map}
+use Rattle.std.proofs.lemmas.Int.{ints}
 use lib.ListN.{length, length-append, get_or-append}
 use lib.Dec.{ltb}
 use lib.Seq.{slice, get_or_at}
@@ -22,23 +27,22 @@ use Rattle.output.specs.Contract.{FAR, Put}
 use Rattle.output.proofs.Texts.{nothing, joined, put_as}
 use Rattle.reading.specs.Token.{MAX_I64, worth}
 use Rattle.reading.specs.Declaration.{Value, Variant}
-use Rattle.reading.specs.Took.{Took, Point, beyond}
+use Rattle.reading.specs.Took.{Point, beyond}
 use Rattle.reading.specs.Reading as reading
 use Rattle.reading.specs.Reading.{Maybe, done, one, every}
 use Rattle.reading.specs.Place.{ident_row, variant_at}
 use Rattle.reading.proofs.Conserved.{variant_round}
-use Rattle.parse.specs.Contract.{on, no, Meets, stream, point, InsideAt, TokenIn, NameAt, ValueOf}
+use Rattle.parse.specs.Contract.{Said, on, no, Meets, stream, point, InsideAt, TokenIn, NameAt, ValueOf}
 use Rattle.parse.specs.Contract.{VariantOf, VariantPlaces, variant_shown, variant_said}
 use Rattle.parse.specs.declared.variants.ValueAt.TheVariants as value_ats
 use Rattle.parse.specs.declared.variants.VariantAt.{VariantAt}
-use Rattle.parse.specs.declared.variants.VariantStep.{VariantStep}
-use Rattle.parse.specs.declared.variants.VariantStep.TheVariants as variant_steps
-use Rattle.parse.proofs.Meeting.{say}
+use Rattle.parse.specs.declared.utils.Next.TheVariants.{One}
 use Rattle.parse.proofs.Inside.{OneAt, inside-more, inside_done, inside_refused, forward}
 use Rattle.parse.proofs.Places.{meets_beyond}
-use Rattle.describe.specs.Integer.{counts, integer, in_range}
-use Rattle.describe.specs.Numbers.{Fault, no_step_lem, Number, number, without, fault_number, following, valued, minus}
-use Rattle.describe.specs.Numbers.{number_after}
+use Rattle.std.specs.Prelude.{Option, Some, None, Result, Ok, Err, SomeIff, FitsSigned}
+use Rattle.describe.specs.Integer.{integer, in_range}
+use Rattle.describe.specs.Numbers.{Fault, no_integer_lem, no_step_lem, Number, number, without, fault_number, following}
+use Rattle.describe.specs.Numbers.{valued, minus, number_after}
 use Rattle.describe.specs.Numbers.{Numbers, numbers, lacking, preceding, and_then, numbers_from, BEFORE_FIRST}
 use Rattle.describe.specs.Numbers.{name_again, number_again, or_double, distinct, fault_row}
 use Rattle.describe.specs.Value.{negative_text}
@@ -46,72 +50,81 @@ use Rattle.describe.specs.Listing.{numbered, number_text, variant_lines, variant
 use Rattle.doubles.specs.Double as double
 use Rattle.doubles.specs.Double.{Double, second, first_double}
 use Rattle.doubles.specs.Same.{same_name, same_integer}
-use Rattle.doubles.specs.Contract.{signed}
-use Rattle.describe.specs.Contract.{worth_of, number_of, NumberAs, counted, faulty, Begins, NumberIn}
-use Rattle.describe.specs.declared.numbers.Worth as worths
-use Rattle.describe.specs.declared.numbers.Number as declared
-use Rattle.describe.specs.declared.numbers.NumberStep.{NumberStep}
-use Rattle.describe.specs.declared.numbers.NumberStep.TheVariants as steps
+use Rattle.describe.specs.Contract.{NumberAs, counted, faulty, Begins, NumberIn}
 use Rattle.describe.proofs.Worths.{negative_none, negative_some}
+use Rattle.describe.proofs.Ends.{Turn, NotOne, variant_end}
 use Rattle.describe.proofs.Lined.{numbered_more}
 
 -- ## One number
 
-pub following_zero : (b : declared.Number) → b.size ≡ 0 → following (number_of b) ≡ number (pos 1)
-following_zero b e = ap (λ (n : ℕ). following (signed b.below n)) e ∙ go b.below
-  where
-    go : (t : Bool) → following (signed t 0) ≡ number (pos 1)
-    go true = refl
-    go false = refl
-
-pub following_below : (b : declared.Number) → b.below ≡ true → (b.size ≡ 0 → ⊥) →
-    following (number_of b) ≡ number (minus (b.size - 1))
-following_below b e h = ap (λ (t : Bool). following (signed t b.size)) e ∙ go b.size h
-  where
-    go : (n : ℕ) → (n ≡ 0 → ⊥) → following (minus n) ≡ number (minus (n - 1))
-    go zero h = absurd (h refl)
-    go (suc zero) h = refl
-    go (suc (suc n)) h =
-        let e : suc n ≡ suc (suc n) - 1 = omega arith in
-        ap (λ (k : ℕ). number (minus k)) e
-
-pub following_above : (b : declared.Number) → b.below ≡ false → b.size < MAX_I64 →
-    following (number_of b) ≡ number (pos (b.size + 1))
-following_above b e h =
-    let n : suc b.size ≡ b.size + 1 = omega arith in
-    ap (λ (t : Bool). following (signed t b.size)) e ∙ chosen _ _ _ (lt-ltb b.size MAX_I64 h) ∙
-    ap (λ (k : ℕ). number (pos k)) n
-
-pub following-none : (b : declared.Number) → b.below ≡ false → MAX_I64 ≤ b.size →
-    following (number_of b) ≡ without no_step_lem
-following-none b e h =
-    ap (λ (t : Bool). following (signed t b.size)) e ∙ passed_over _ _ _ (le-ltb b.size MAX_I64 h)
-
 module _ {place : Fault → ℕ} {x : Number} where
-  pub number_is : {n : declared.Number} → x ≡ number (number_of n) → NumberAs place x (steps.At n)
-  number_is {n} e = subst⁻¹ (λ (y : Number). NumberAs place y (steps.At n)) e (counted refl)
+  pub number_is : {z : ℤ} → x ≡ number z → NumberAs place x (Ok z)
+  number_is {z} e = subst⁻¹ (λ (y : Number). NumberAs place y (Ok z)) e counted
 
-  pub number_as : {y : Number} {r : NumberStep} → x ≡ y → NumberAs place y r → NumberAs place x r
+  pub number_as : {y : Number} {r : Result ℤ Refusal} → x ≡ y → NumberAs place y r → NumberAs place x r
   number_as {r = r} e h = subst⁻¹ (λ (z : Number). NumberAs place z r) e h
 
   pub number_faulty : {f : Fault} {r : Refusal} → x ≡ without f →
-      r ≡ record { number = fault_number f; place = place f } → NumberAs place x (steps.Refused r)
-  number_faulty {f} {r} e h = subst⁻¹ (λ (y : Number). NumberAs place y (steps.Refused r)) e (faulty h)
+      r ≡ record { number = fault_number f; place = place f } → NumberAs place x (Err r)
+  number_faulty {f} {r} e h = subst⁻¹ (λ (y : Number). NumberAs place y (Err r)) e (faulty h)
+
+-- one more than the number before, where i64 has it
+one_more : (n : ℕ) → suc_ℤ (negsuc n) ≡ negsuc n +ℤ pos 1
+one_more zero = refl
+one_more (suc n) = omega (arith, ints)
+
+one_fits : (n : ℕ) → FitsSigned w64 (negsuc n) → FitsSigned w64 (suc_ℤ (negsuc n))
+one_fits zero h = record { sfits = omega arith }
+one_fits (suc n) h = record { sfits = omega (arith, h.sfits) }
+
+abbrev pub no_step : ℕ → Refusal
+no_step p = record { number = 43; place = p }
+
+pub following_is : {p : ℕ} (z : ℤ) (r : Option ℤ) → FitsSigned w64 z →
+    SomeIff r (FitsSigned w64 (z +ℤ pos 1)) (z +ℤ pos 1) → NumberAs (λ f. p) (following z) (ok_or r (no_step p))
+following_is {p} (pos n) None h k = go (ltb n MAX_I64) refl
+  where
+    go : (b : Bool) → ltb n MAX_I64 ≡ b → NumberAs (λ f. p) (following (pos n)) (Err (no_step p))
+    go true e = absurd (k (record { sfits = omega (arith, ltb-true n MAX_I64 e) }))
+    go false e = number_faulty (passed_over _ _ _ e) refl
+following_is (pos n) (Some y) h (f, e) =
+    let next : pos (suc n) ≡ pos n +ℤ pos 1 = omega (arith, ints) in
+    number_is (chosen _ _ _ (lt-ltb n MAX_I64 (omega (arith, f.sfits))) ∙ ap number (next ∙ sym e))
+following_is (negsuc n) None h k = absurd (k (subst (FitsSigned w64) (one_more n) (one_fits n h)))
+following_is (negsuc n) (Some y) h (f, e) = number_is (ap number (one_more n ∙ sym e))
 
 -- a literal's number, by what the code says of its worth
-pub literal-number : {s : List ℕ} {a : Value} (z : ℤ) (t : Token) (row : ℕ) (r : worths.Worth) →
-    ValueOf s (value_ats.Literal t row) a → worth_of r ≡ in_range (integer (slice t.start t.end s)) →
-    number_after z a ≡ valued pos (worth_of r)
-literal-number z t row r v e =
-    ap (number_after z) v.2 ∙ ap (λ (x : List ℕ). valued pos (in_range (integer x))) v.1.bytes ∙
-    sym (ap (valued pos) e)
+pub literal_number : {s : List ℕ} {a : Value} (z : ℤ) (t : Token) (row : ℕ) → ValueOf s (value_ats.Literal t row) a →
+    number_after z a ≡ valued pos (in_range (integer (slice t.start t.end s)))
+literal_number z t row v =
+    ap (number_after z) v.2 ∙ ap (λ (x : List ℕ). valued pos (in_range (integer x))) v.1.bytes
+
+-- what the code tells of a literal, by its worth
+abbrev pub told_of : ℕ → Option ℤ → Result ℤ Refusal
+told_of p w = ok_or w (record { number = 42; place = p })
+
+pub literal_as : {place : Fault → ℕ} {p : ℕ} (w : Option ℕ) → p ≡ place no_integer_lem →
+    NumberAs place (valued pos w) (told_of p (option_map pos w))
+literal_as None e = faulty (ap (λ (o : ℕ). record { number = 42; place = o }) e)
+literal_as (Some n) e = counted
+
+pub literal_in : (s : List ℕ) (p : ℕ) (w : Option ℕ) → Begins s p →
+    NumberIn s (told_of p (option_map pos w))
+literal_in s p None b = b
+literal_in s p (Some n) b = tt
+
+-- as the code computes it
+negative_is : (n : ℕ) → n ≤ MAX_I64 → minus n ≡ to_z w64 (of_z w64 (pos 0 -ℤ to_z w64 n))
+negative_is zero h = omega (arith, ints)
+negative_is (suc n) h = omega (arith, ints)
 
 pub negative_number : {s : List ℕ} {a : Value} {n : ℕ} (z : ℤ) (t : Token) → ValueOf s (value_ats.Negative t) a →
-    n ≡ worth (slice t.start t.end s) → n ≤ MAX_I64 → number_after z a ≡ number (minus n)
+    n ≡ worth (slice t.start t.end s) → n ≤ MAX_I64 →
+    number_after z a ≡ number (to_z w64 (of_z w64 (pos 0 -ℤ to_z w64 n)))
 negative_number {n = n} z t v e h =
     let same : worth v.0 ≡ n = ap worth v.1.bytes ∙ sym e in
-    ap (number_after z) v.3 ∙ ap (λ (k : ℕ). valued minus (in_range (counts k))) same ∙
-    ap (valued minus) (chosen _ _ _ (le-leb n MAX_I64 h))
+    ap (number_after z) v.3 ∙ ap (λ (k : ℕ). valued minus (in_range (Some k))) same ∙
+    ap (valued minus) (chosen _ _ _ (le-leb n MAX_I64 h)) ∙ ap number (negative_is n h)
 
 -- only a step that cannot be made is told of a variant without a value
 only_step : (z : ℤ) (f : Fault) → following z ≡ without f → no_step_lem ≡ f
@@ -122,19 +135,21 @@ only_step (pos n) f e = go (ltb n MAX_I64) e
     go false q = cc
 only_step (negsuc n) f e = cc
 
-pub following_placed : {p : ℕ} {r : NumberStep} (z : ℤ) (x : Point) → p ≡ fault_row no_step_lem x →
+pub following_placed : {p : ℕ} {r : Result ℤ Refusal} (z : ℤ) (x : Point) → p ≡ fault_row no_step_lem x →
     NumberAs (λ f. p) (following z) r → NumberAs (λ f. fault_row f x) (following z) r
 following_placed {p} z x q w = go refl w
   where
-    go : {y : Number} {r : NumberStep} → following z ≡ y → NumberAs (λ f. p) y r → NumberAs (λ f. fault_row f x) y r
-    go e (counted h) = counted h
+    go : {y : Number} {r : Result ℤ Refusal} → following z ≡ y → NumberAs (λ f. p) y r →
+        NumberAs (λ f. fault_row f x) y r
+    go e counted = counted
     go e (faulty {f = f} h) =
         let place : p ≡ fault_row f x = q ∙ ap (λ (g : Fault). fault_row g x) (only_step z f e) in
         faulty (h ∙ ap (λ (o : ℕ). record { number = fault_number f; place = o }) place)
 
 -- the place of a refusal is a row
-pub number_in : (s : List ℕ) {p : ℕ} {x : Number} {r : NumberStep} → NumberAs (λ f. p) x r → Begins s p → NumberIn s r
-number_in s (counted h) b = tt
+pub number_in : (s : List ℕ) {p : ℕ} {x : Number} {r : Result ℤ Refusal} → NumberAs (λ f. p) x r → Begins s p →
+    NumberIn s r
+number_in s counted b = tt
 number_in s (faulty h) b = subst⁻¹ (λ (q : Refusal). Begins s q.place) h b
 
 pub token_begins : {s : List ℕ} {row : ℕ} {t : Token} → TokenIn s row t → Begins s row
@@ -150,28 +165,24 @@ name-begins {s} {x} n = omega (arith, n.place, low x.row x.stream, token_begins 
 
 -- its text
 
-minus-text : (n : ℕ) → number_text (minus n) ≡ negative_text n
+pub minus-text : (n : ℕ) → number_text (minus n) ≡ negative_text n
 unfolding decimal
 minus-text zero = sym (negative_none 0 refl)
 minus-text (suc n) = sym (negative_some (suc n) (λ e. omega arith))
 
-pub below_text : (b : declared.Number) → b.below ≡ true → number_text (number_of b) ≡ negative_text b.size
-below_text b e = ap (λ (t : Bool). number_text (signed t b.size)) e ∙ minus-text b.size
-
-pub above_text : (b : declared.Number) → b.below ≡ false → number_text (number_of b) ≡ decimal b.size
-above_text b e = ap (λ (t : Bool). number_text (signed t b.size)) e
+pub below_text : (z : ℤ) {n : ℕ} → lt_z z (pos 0) ≡ true → n ≡ nat_abs z → number_text z ≡ negative_text n
+below_text (pos n) h e = absurd (omega (arith, ltb-true n 0 h))
+below_text (negsuc n) h e = minus-text (suc n) ∙ ap negative_text (sym e)
 
 -- what the code's answer tells of the number
-pub number_at : {place : Fault → ℕ} {x : Number} {r : NumberStep} {n : declared.Number} → NumberAs place x r →
-    r ≡ steps.At n → x ≡ number (number_of n)
-number_at {n = n} (counted {n = m} h) e =
-    let same : m ≡ n = cc in
-    ap number (sym h ∙ ap number_of same)
-number_at (faulty h) e = let z : ◌≡◌ {A = ℕ} 0 1 = cc in absurd (omega arith)
+pub number_at : {place : Fault → ℕ} {x : Number} {z : ℤ} {r : Result ℤ Refusal} → NumberAs place x r → r ≡ Ok z →
+    x ≡ number z
+number_at counted e = cc
+number_at (faulty h) e = cc
 
-pub number_refused : {place : Fault → ℕ} {x : Number} {r : NumberStep} {q : Refusal} → NumberAs place x r →
-    r ≡ steps.Refused q → (f : Fault) × (x ≡ without f) × (q ≡ record { number = fault_number f; place = place f })
-number_refused (counted h) e = let z : ◌≡◌ {A = ℕ} 0 1 = cc in absurd (omega arith)
+pub number_refused : {place : Fault → ℕ} {x : Number} {q : Refusal} {r : Result ℤ Refusal} → NumberAs place x r →
+    r ≡ Err q → (f : Fault) × (x ≡ without f) × (q ≡ record { number = fault_number f; place = place f })
+number_refused counted e = let z : ◌≡◌ {A = ℕ} 0 1 = cc in absurd (omega arith)
 number_refused {q = q} (faulty {f = f} {r = o} h) e =
     let same : o ≡ q = cc in
     (f, refl, sym same ∙ h)
@@ -235,19 +246,14 @@ pub record Counted (s : List ℕ) (from c : Cursor) (z : ℤ) (vs first : List V
   pub same : numbers_from BEFORE_FIRST 0 vs ≡ preceding_all zs (numbers_from z (length first) others)
   pub place : variant_at (length first) (point s from) ≡ point s c
 
--- what a turn answered, by the code's own enum
-pub variant_turn : {s : List ℕ} {c : Cursor} {r0 r1 : List ℕ} {t : Took (Maybe Variant)} {x y : VariantStep} → x ≡ y →
-    Meets s c r0 r1 (variant_shown s c x) (variant_said x) t → Meets s c r0 r1 (variant_shown s c y) (variant_said y) t
-variant_turn {s} {c} e w = say (variant_shown s c) variant_said e w
-
 -- a variant that is read at c
 module _ {s : List ℕ} {c : Cursor} (p : VariantAt) {r1 r2 : List ℕ}
-    (w : Meets s c r1 r2 (variant_shown s c (variant_steps.One p)) (on p.next)
+    (w : Meets s c r1 r2 (variant_shown s c (Ok (One p))) (on p.next)
     (reading.variant c.row (stream s c))) where
   abbrev pub Told : Variant → Type 0
   Told a = VariantOf s p a × VariantPlaces s c p a
 
-  told : (v : Maybe Variant) → variant_shown s c (variant_steps.One p) v → (a : Variant) × (v ≡ one a) × Told a
+  told : (v : Maybe Variant) → variant_shown s c (Ok (One p)) v → (a : Variant) × (v ≡ one a) × Told a
   told v h = (h.0, h.1, (h.2, h.3))
 
   pub variant_less : length s - p.next.at < length s - c.at
@@ -372,7 +378,7 @@ module _ {s : List ℕ} {from : Cursor} {r0 b0 : List ℕ} {start : ℕ} where
     Lines vs = (zs : List ℤ) → numbers_from BEFORE_FIRST 0 vs ≡ numbers zs →
         Put b0 b1 start at (numbered (variant_lines zs) 0 vs)
 
-    module _ (p : VariantAt) {r2 : List ℕ} (w : Meets s c r1 r2 (variant_shown s c (variant_steps.One p)) (on p.next)
+    module _ (p : VariantAt) {r2 : List ℕ} (w : Meets s c r1 r2 (variant_shown s c (Ok (One p))) (on p.next)
         (reading.variant c.row (stream s c))) where
       -- one variant more has its line
       pub numbering-more : {r3 b2 : List ℕ} {at2 : ℕ} (y : ℤ) →
@@ -402,9 +408,9 @@ module _ {s : List ℕ} {from : Cursor} {r0 b0 : List ℕ} {start : ℕ} where
               }
 
       -- the variant has no number, though every one has
-      pub numbering-lacks : {r : NumberStep} {q : Refusal} →
+      pub numbering-lacks : {r : Result ℤ Refusal} {q : Refusal} →
           ((a : Variant) → VariantOf s p a → VariantPlaces s c p a →
-          NumberAs (λ f. fault_row f (point s c)) (number_after z a.value) r) → r ≡ steps.Refused q →
+          NumberAs (λ f. fault_row f (point s c)) (number_after z a.value) r) → r ≡ Err q →
           (vs : List Variant) → InsideAt (every reading.variant) s from vs → Lines vs
       numbering-lacks answer e vs k zs h =
           let t = (l.written vs k).counted in
@@ -425,3 +431,13 @@ module _ {s : List ℕ} {from : Cursor} {r0 b0 : List ℕ} {start : ℕ} where
         Meets s c r1 r2 sh (no n p) (reading.variant c.row (stream s c))
         → (vs : List Variant) → InsideAt (every reading.variant) s from vs → B
     numbering_refused w vs k = counted_refused (l.written vs k).counted w
+
+    -- no variant more was read
+    pub numbering_end : {r2 : List ℕ} (x : Turn VariantAt) →
+        Meets s c r1 r2 (variant_shown s c x) (variant_said x) (reading.variant c.row (stream s c)) → NotOne x
+        → (vs : List Variant) → InsideAt (every reading.variant) s from vs → Lines vs
+    numbering_end {r2} x w h vs k = ended (variant_said x) w
+      where
+        ended : (y : Said) → Meets s c r1 r2 (variant_shown s c x) y (reading.variant c.row (stream s c)) → Lines vs
+        ended (on d) w = numbering_done w (variant_end s c x h) vs k
+        ended (no n p) w = numbering_refused w vs k

@@ -7,7 +7,9 @@ use lib.Dec.{eqb}
 use lib.IntN.{ℤ}
 use Rattle.token_list.specs.Byte.{BRACE, PARENTHESIS, SEMICOLON}
 use Rattle.token_list.specs.Stream.{Trees, end, leaf, group, at}
-use Rattle.token_list.specs.Contract.{LeafAt, GroupAt, row_of}
+use Rattle.token_list.specs.Contract.{LeafAt, GroupAt, row_of, stands}
+use Rattle.token_list.specs.declared.stream.Peeked.{Peeked}
+use Rattle.token_list.specs.declared.stream.Peeked.TheVariants as peeks
 use Rattle.token_list.specs.declared.check.Cursor.{Cursor}
 use Rattle.token_list.specs.declared.stream.Token.{Token}
 use Rattle.reading.specs.Declaration as declaration
@@ -135,13 +137,26 @@ module _ {s : List ℕ} {c : Cursor} {b : declaration.Body} (i : InsideAt readin
   pub struct_end : {B : Type 0} → stream s c ≡ end → B
   struct_end e = took_not_refuse (ap (reading.struct_body_lem c.row) (sym e) ∙ i.gives)
 
--- a body without a group has no lines
-pub body_leaf : (k : declaration.Kind) {s : List ℕ} {c : Cursor} {b : declaration.Body} {t : Token} (zs : List ℤ) →
-    InsideAt (reading.body_of k) s c b → LeafAt s c.at t → body_lines zs b ≡ []
-body_leaf declaration.struct {t = t} zs i l = ap (body_lines zs) (struct_leaf i t l)
-body_leaf declaration.enum {t = t} zs i l = ap (body_lines zs) (enum_leaf i t l)
+-- ## A body without a group
 
-pub body_end : {B : Type 0} (k : declaration.Kind) {s : List ℕ} {c : Cursor} {b : declaration.Body} →
-    InsideAt (reading.body_of k) s c b → stream s c ≡ end → B
-body_end declaration.struct i e = struct_end i e
-body_end declaration.enum i e = enum_end i e
+-- no group stands at i, by what the code saw there
+pub record NoGroup (s : List ℕ) (i : ℕ) (p : Peeked) : Type 0 where
+  pub stands : stands s i p
+  pub none : (t : Token) → p ≡ peeks.Group t → ⊥
+
+module _ {s : List ℕ} {c : Cursor} {b : declaration.Body} where
+  pub enum_none : (p : Peeked) → NoGroup s c.at p → InsideAt reading.enum_body s c b → b ≡ declaration.variants []
+  enum_none peeks.Nothing n i = enum_end i n.stands
+  enum_none (peeks.Leaf t) n i = enum_leaf i t n.stands
+  enum_none (peeks.Group t) n i = absurd (n.none t refl)
+
+  struct_none : (p : Peeked) → NoGroup s c.at p → InsideAt reading.struct_body_lem s c b →
+      b ≡ declaration.fields declaration.unit
+  struct_none peeks.Nothing n i = struct_end i n.stands
+  struct_none (peeks.Leaf t) n i = struct_leaf i t n.stands
+  struct_none (peeks.Group t) n i = absurd (n.none t refl)
+
+  pub body_none : (k : declaration.Kind) (zs : List ℤ) (p : Peeked) → NoGroup s c.at p →
+      InsideAt (reading.body_of k) s c b → body_lines zs b ≡ []
+  body_none declaration.struct zs p n i = ap (body_lines zs) (struct_none p n i)
+  body_none declaration.enum zs p n i = ap (body_lines zs) (enum_none p n i)

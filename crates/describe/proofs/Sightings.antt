@@ -4,11 +4,14 @@ use mathlib.Core.Bool.{Bool, true, false, cond}
 use mathlib.Core.List.{List, [], ◌∷◌, ◌++◌, map}
 use Prim.Native.Nat.{ℕ, ◌+◌, ◌*◌, ◌≤◌, ◌<◌}
 use native.Mathlib.Omega.{arith}
-use lib.IntN.{ℤ}
+use lib.IntN.{ℤ, pos, negsuc, nat_abs}
+use lib.Signed.{lt_z}
+use borrow.Author.Tests.{le-ltb}
 use lib.ListN.{length, replicate, length-append, length-map, length-replicate}
 use Rattle.token_list.specs.Layout.{MAX_BYTES, MAX_ROWS}
 use Rattle.token_list.specs.Stream.{Trees, size}
-use Rattle.token_list.specs.Contract.{InList, LeafAt}
+use Rattle.token_list.specs.Contract.{InList}
+use Rattle.token_list.specs.declared.stream.Peeked.{Peeked}
 use Rattle.token_list.specs.declared.check.Cursor.{Cursor}
 use Rattle.token_list.specs.declared.check.Refusal.{Refusal}
 use Rattle.token_list.specs.declared.stream.Token.{Token}
@@ -17,17 +20,17 @@ use Rattle.reading.specs.Reading as reading
 use Rattle.reading.specs.Reading.{Maybe, done, every}
 use Rattle.reading.specs.Took.{took, Point}
 use Rattle.reading.specs.Place.{variant_at, variant_name_at}
-use Rattle.parse.specs.Contract.{on, no, Meets, stream, point, InsideAt, NameAt, VariantOf, VariantPlaces}
-use Rattle.parse.specs.Contract.{variant_shown, kind_of}
+use Rattle.parse.specs.Contract.{Said, on, no, Meets, stream, point, InsideAt, NameAt, VariantOf, VariantPlaces}
+use Rattle.parse.specs.Contract.{variant_shown, variant_said, kind_of}
 use Rattle.parse.specs.declared.data_type.DataType.{DataType}
 use Rattle.parse.specs.declared.data_type.DataType.TheVariants as kinds
 use Rattle.parse.specs.declared.variants.VariantAt.{VariantAt}
-use Rattle.parse.specs.declared.variants.VariantStep.TheVariants as variant_steps
+use Rattle.parse.specs.declared.utils.Next.TheVariants.{One}
 use Rattle.doubles.specs.Double as double
 use Rattle.doubles.specs.Double.{Double, second, first_double, stands}
 use Rattle.doubles.specs.Same.{same_name, same_integer}
 use Rattle.doubles.specs.Key.{Key, same_key, name_key, integer_key}
-use Rattle.doubles.specs.Contract.{MINUS_SIGN, Holds, Seen}
+use Rattle.doubles.specs.Contract.{MINUS_SIGN, signed, Holds, Seen}
 use Rattle.reading.proofs.Few.{variant_count, item_few}
 use Rattle.doubles.proofs.Tables.{nothing_seen}
 use Rattle.doubles.proofs.Doubles.{or_next, double_more, stands_by}
@@ -36,15 +39,19 @@ use Rattle.describe.specs.Numbers.{numbers, numbers_from, BEFORE_FIRST, or_doubl
 use Rattle.describe.specs.Numbers.{body_numbers, body_names, fault_row, fault_in}
 use Rattle.describe.specs.Contract.{NumberAs, NumberIn, Begins, FaultAs, faultless, lacks, found_at, or_found}
 use Rattle.describe.specs.Contract.{MANY, SeenAll, NamesSeen, IntegersSeen, faults_of, Tables}
-use Rattle.describe.specs.declared.numbers.NumberStep.{NumberStep}
-use Rattle.describe.specs.declared.numbers.NumberStep.TheVariants as steps
-use Rattle.describe.specs.declared.faults.Found.{Found}
-use Rattle.describe.specs.declared.faults.Found.TheVariants as founds
-use Rattle.describe.specs.declared.faults.Faults.{Faults}
-use Rattle.describe.specs.declared.faults.Faults.TheVariants as faults
-use Rattle.describe.proofs.Parts.{struct_body, enum_leaf}
+use Rattle.std.specs.Prelude.{Option, Some, None, Result, Ok, Err}
+use Rattle.describe.proofs.Parts.{struct_body, NoGroup, enum_none}
+use Rattle.describe.proofs.Ends.{Turn, NotOne, variant_end}
 use Rattle.describe.proofs.Numbering.{Counted, variant_in, variant_one, counted_start, counted-more}
 use Rattle.describe.proofs.Numbering.{counted_lacks, counted_done, counted_refused, number_refused}
+
+-- an integer by its sign and its size
+pub signed_is : (z : ℤ) {b : Bool} {n : ℕ} → b ≡ lt_z z (pos 0) → n ≡ nat_abs z → signed b n ≡ z
+signed_is z e f = (λ i. signed (e i) (f i)) ∙ go z
+  where
+    go : (z : ℤ) → signed (lt_z z (pos 0)) (nat_abs z) ≡ z
+    go (pos n) = ap (λ (b : Bool). signed b n) (le-ltb n 0 (omega arith))
+    go (negsuc n) = refl
 
 -- ## One thing more is seen
 
@@ -59,8 +66,8 @@ found-more row double.none false k = refl
 found-more row (second j) again k = refl
 
 module _ {A : Type 0} {same : A → A → Bool} {key : A → Key} (like : (x y : A) → same_key (key x) (key y) ≡ same x y)
-    {bytes w0 n0 w1 n1 : List ℕ} {row : ℕ → ℕ} {xs : List A} {found : Found} where
-  pub seen_more : {k : Key} {again : Bool} {r : Found} (x : A) (place : ℕ) →
+    {bytes w0 n0 w1 n1 : List ℕ} {row : ℕ → ℕ} {xs : List A} {found : Option ℕ} where
+  pub seen_more : {k : Key} {again : Bool} {r : Option ℕ} (x : A) (place : ℕ) →
       SeenAll same key bytes w0 n0 row xs found → k ≡ key x → Seen bytes w1 n1 k (map key xs) again →
       place ≡ row (length xs) → r ≡ or_found found again place → SeenAll same key bytes w1 n1 row (xs ++ x ∷ []) r
   seen_more {k} {again} x place a e s p q =
@@ -79,17 +86,17 @@ module _ {A : Type 0} {same : A → A → Bool} {key : A → Key} (like : (x y :
 -- ## The first fault
 
 -- what was found stands in a row
-abbrev pub FoundIn : List ℕ → Found → Type 0
-FoundIn s founds.None = Unit {0}
-FoundIn s (founds.At p) = Begins s p
+abbrev pub FoundIn : List ℕ → Option ℕ → Type 0
+FoundIn s None = Unit {0}
+FoundIn s (Some p) = Begins s p
 
-found_in : (s : List ℕ) (found : Found) (again : Bool) (place : ℕ) → FoundIn s found → Begins s place →
+found_in : (s : List ℕ) (found : Option ℕ) (again : Bool) (place : ℕ) → FoundIn s found → Begins s place →
     FoundIn s (or_found found again place)
-found_in s (founds.At p) again place h b = h
-found_in s founds.None true place h b = b
-found_in s founds.None false place h b = tt
+found_in s (Some p) again place h b = h
+found_in s None true place h b = b
+found_in s None false place h b = tt
 
-pub found_next : (s : List ℕ) (found : Found) {next : Found} {place : ℕ} →
+pub found_next : (s : List ℕ) (found : Option ℕ) {next : Option ℕ} {place : ℕ} →
     ((again : Bool) × (next ≡ or_found found again place)) → FoundIn s found → Begins s place → FoundIn s next
 found_next s found {next} {place} (again, e) h b = subst⁻¹ (FoundIn s) e (found_in s found again place h b)
 
@@ -107,7 +114,7 @@ faults_told s from zs (second k) g h i = lacks refl h
 
 -- the variants before c are counted and seen
 pub record Sighted (s : List ℕ) (from c : Cursor) (names hashes signs sizes : List ℕ) (z : ℤ) (count : ℕ)
-    (name_twice number_twice : Found) (vs : List Variant) : Type 0 where
+    (name_twice number_twice : Option ℕ) (vs : List Variant) : Type 0 where
   pub first : List Variant
   pub zs : List ℤ
   pub counted : Counted s from c z vs first zs
@@ -117,7 +124,7 @@ pub record Sighted (s : List ℕ) (from c : Cursor) (names hashes signs sizes : 
 
 -- from one turn to the next: the lent slices have their lengths
 pub record Sighting (s : List ℕ) (from c : Cursor) (roles₀ names₀ hashes₀ signs₀ sizes₀ : List ℕ)
-    (roles names hashes signs sizes : List ℕ) (z : ℤ) (count : ℕ) (name_twice number_twice : Found) : Type 0 where
+    (roles names hashes signs sizes : List ℕ) (z : ℤ) (count : ℕ) (name_twice number_twice : Option ℕ) : Type 0 where
   pub in_list : InList s c
   pub roles_kept : length roles ≡ length roles₀
   pub names_kept : length names ≡ length names₀
@@ -130,19 +137,20 @@ pub record Sighting (s : List ℕ) (from c : Cursor) (roles₀ names₀ hashes�
       Sighted s from c names hashes signs sizes z count name_twice number_twice vs
 
 -- tables that are all 0
-pub empty_tables : (s : List ℕ) (n : ℕ) {k : ℕ} → n < 65536 → k ≤ n →
-    Tables s (replicate (4 * n) 0) (replicate n 0) (replicate (4 * n) 0) (replicate n 0) k
-empty_tables s n h i =
-    record {
+pub empty_tables : (s : List ℕ) (n : ℕ) {words k : ℕ} → words ≡ 4 * n → n < 65536 → k ≤ n →
+    Tables s (replicate words 0) (replicate n 0) (replicate words 0) (replicate n 0) k
+empty_tables s n {words} {k} e h i =
+    subst⁻¹ (λ (m : ℕ). Tables s (replicate m 0) (replicate n 0) (replicate m 0) (replicate n 0) k) e
+    (record {
       named = nothing_seen s n h;
       numbered = nothing_seen MINUS_SIGN n h;
       room = omega (arith, i, length-replicate {A = ℕ} n 0);
       same = refl;
-    }
+    })
 
 module _ {s : List ℕ} {from : Cursor} {r0 a0 b0 d0 e0 : List ℕ} where
   pub sighting_start : {n : ℕ} → InList s from → Tables s a0 b0 d0 e0 n →
-      Sighting s from from r0 a0 b0 d0 e0 r0 a0 b0 d0 e0 BEFORE_FIRST 0 founds.None founds.None
+      Sighting s from from r0 a0 b0 d0 e0 r0 a0 b0 d0 e0 BEFORE_FIRST 0 None None
   sighting_start i t =
       record {
         in_list = i;
@@ -163,10 +171,10 @@ module _ {s : List ℕ} {from : Cursor} {r0 a0 b0 d0 e0 : List ℕ} where
         };
       }
 
-  module _ {c : Cursor} {r1 a1 b1 d1 e1 : List ℕ} {z : ℤ} {count : ℕ} {name_twice number_twice : Found}
+  module _ {c : Cursor} {r1 a1 b1 d1 e1 : List ℕ} {z : ℤ} {count : ℕ} {name_twice number_twice : Option ℕ}
       (l : Sighting s from c r0 a0 b0 d0 e0 r1 a1 b1 d1 e1 z count name_twice number_twice) where
     -- a variant that is read at c
-    module _ (p : VariantAt) {r2 : List ℕ} (w : Meets s c r1 r2 (variant_shown s c (variant_steps.One p)) (on p.next)
+    module _ (p : VariantAt) {r2 : List ℕ} (w : Meets s c r1 r2 (variant_shown s c (Ok (One p))) (on p.next)
         (reading.variant c.row (stream s c))) where
       -- there is room for it
       pub sighting-room : (vs : List Variant) → InsideAt (every reading.variant) s from vs →
@@ -194,7 +202,7 @@ module _ {s : List ℕ} {from : Cursor} {r0 a0 b0 d0 e0 : List ℕ} where
           (g.zs, g.numbered.holds, g.counted.even ∙ g.many)
 
       -- it is counted and seen
-      pub sighting-more : {r3 a2 b2 d2 e2 : List ℕ} {name_then number_then : Found} (y : ℤ) →
+      pub sighting-more : {r3 a2 b2 d2 e2 : List ℕ} {name_then number_then : Option ℕ} (y : ℤ) →
           ((a : Variant) → VariantOf s p a → VariantPlaces s c p a → number_after z a.value ≡ number y) →
           ((row : ℕ → ℕ) (ts : List (List ℕ)) (a : Variant) → NamesSeen s a1 b1 row ts name_twice → length ts ≡ count →
           VariantOf s p a → p.place ≡ row count → NamesSeen s a2 b2 row (ts ++ a.name ∷ []) name_then) →
@@ -241,13 +249,13 @@ module _ {s : List ℕ} {from : Cursor} {r0 a0 b0 d0 e0 : List ℕ} where
               }
 
       -- it has no number
-      pub sighting-lacks : {r : NumberStep} {q : Refusal} →
+      pub sighting-lacks : {r : Result ℤ Refusal} {q : Refusal} →
           ((a : Variant) → VariantOf s p a → VariantPlaces s c p a →
           NumberAs (λ f. fault_row f (point s c)) (number_after z a.value) r) →
-          ((a : Variant) → VariantPlaces s c p a → NumberIn s r) → r ≡ steps.Refused q →
+          ((a : Variant) → VariantPlaces s c p a → NumberIn s r) → r ≡ Err q →
           (vs : List Variant) → InsideAt (every reading.variant) s from vs →
           FaultAs s (fault_in (point s from)) (distinct (variant_names vs) (numbers_from BEFORE_FIRST 0 vs))
-          (faults.Refused q)
+          (Err q)
       sighting-lacks {r} {q} answer row e vs k =
           let g = l.seen vs k in
           let o = variant_one p w g.counted in
@@ -258,11 +266,11 @@ module _ {s : List ℕ} {from : Cursor} {r0 a0 b0 d0 e0 : List ℕ} where
           let none = ap (distinct (variant_names vs)) (counted_lacks p w g.counted fault.1) in
           let here : fault_row f (point s c) ≡ fault_in (point s from) f n = ap (fault_row f) (sym g.counted.place) in
           let said = fault.2 ∙ ap (λ (i : ℕ). record { number = fault_number f; place = i }) here in
-          subst⁻¹ (λ (ns : Numbers). FaultAs s (fault_in (point s from)) ns (faults.Refused q)) none
+          subst⁻¹ (λ (ns : Numbers). FaultAs s (fault_in (point s from)) ns (Err q)) none
           (lacks said (subst (Begins s) (ap (λ (i : Refusal). i.place) said) begins))
 
     -- all are seen
-    pub sighting_done : {r2 : List ℕ} {d : Cursor} {sh : Maybe Variant → Type 0} {r : Faults} →
+    pub sighting_done : {r2 : List ℕ} {d : Cursor} {sh : Maybe Variant → Type 0} {r : Result Unit Refusal} →
         Meets s c r1 r2 sh (on d) (reading.variant c.row (stream s c)) → ((v : Maybe Variant) → sh v → v ≡ done) →
         r ≡ faults_of name_twice number_twice → (vs : List Variant) → InsideAt (every reading.variant) s from vs →
         FaultAs s (fault_in (point s from)) (distinct (variant_names vs) (numbers_from BEFORE_FIRST 0 vs)) r
@@ -286,6 +294,18 @@ module _ {s : List ℕ} {from : Cursor} {r0 a0 b0 d0 e0 : List ℕ} where
         Meets s c r1 r2 sh (no n p) (reading.variant c.row (stream s c))
         → (vs : List Variant) → InsideAt (every reading.variant) s from vs → B
     sighting_refused w vs k = counted_refused (l.seen vs k).counted w
+
+    -- no variant more was read
+    pub sighting_end : {r2 : List ℕ} {r : Result Unit Refusal} (x : Turn VariantAt) →
+        Meets s c r1 r2 (variant_shown s c x) (variant_said x) (reading.variant c.row (stream s c)) → NotOne x →
+        r ≡ faults_of name_twice number_twice → (vs : List Variant) → InsideAt (every reading.variant) s from vs →
+        FaultAs s (fault_in (point s from)) (distinct (variant_names vs) (numbers_from BEFORE_FIRST 0 vs)) r
+    sighting_end {r2} {r} x w h e vs k = ended (variant_said x) w
+      where
+        ended : (y : Said) → Meets s c r1 r2 (variant_shown s c x) y (reading.variant c.row (stream s c)) →
+            FaultAs s (fault_in (point s from)) (distinct (variant_names vs) (numbers_from BEFORE_FIRST 0 vs)) r
+        ended (on d) w = sighting_done w (variant_end s c x h) e vs k
+        ended (no n p) w = sighting_refused w vs k
 
 -- a name's offsets have 16 bits
 pub name_standing : {s : List ℕ} {x : Point} {t : Token} {p : ℕ} {text : List ℕ} → length s ≤ MAX_BYTES →
@@ -312,16 +332,16 @@ module _ {s : List ℕ} {c : Cursor} {b : Body} where
   pub struct_faultless : InsideAt reading.struct_body_lem s c b → body_faults b ≡ numbers []
   struct_faultless i = ap body_faults (struct_body i).1
 
-  pub enum_faultless : {t : Token} → InsideAt reading.enum_body s c b → LeafAt s c.at t → body_faults b ≡ numbers []
-  enum_faultless {t} i l = ap body_faults (enum_leaf i t l)
+  pub enum_faultless : (p : Peeked) → NoGroup s c.at p → InsideAt reading.enum_body s c b → body_faults b ≡ numbers []
+  enum_faultless p n i = ap body_faults (enum_none p n i)
 
 module _ {s : List ℕ} {place : Fault → ℕ → ℕ} where
-  pub faults_none : {ns : Numbers} → ns ≡ numbers [] → FaultAs s place ns faults.None
-  faults_none e = subst⁻¹ (λ (ns : Numbers). FaultAs s place ns faults.None) e faultless
+  pub faults_none : {ns : Numbers} → ns ≡ numbers [] → FaultAs s place ns (Ok tt)
+  faults_none e = subst⁻¹ (λ (ns : Numbers). FaultAs s place ns (Ok tt)) e faultless
 
 -- those of its variants
-pub enum_faults : {s : List ℕ} {p q : Point} {b : Body} {vs : List Variant} {r : Faults} → p ≡ q → b ≡ variants vs →
-    FaultAs s (fault_in p) (body_faults (variants vs)) r → FaultAs s (fault_in q) (body_faults b) r
+pub enum_faults : {s : List ℕ} {p q : Point} {b : Body} {vs : List Variant} {r : Result Unit Refusal} → p ≡ q →
+    b ≡ variants vs → FaultAs s (fault_in p) (body_faults (variants vs)) r → FaultAs s (fault_in q) (body_faults b) r
 enum_faults {s} {p} {q} {b} {vs} {r} e f t =
     subst (λ (x : Point). FaultAs s (fault_in x) (body_faults b) r) e
     (subst⁻¹ (λ (y : Body). FaultAs s (fault_in p) (body_faults y) r) f t)

@@ -3,13 +3,14 @@ use mathlib.Core.Path.{◌≡◌, refl, ap, ◌∙◌, sym, subst}
 use mathlib.Core.Bool.{Bool, true, false, cond}
 use mathlib.Core.List.{List, [], ◌∷◌}
 use Prim.Native.Nat.{ℕ, zero, suc, ◌+◌, ◌-◌, ◌*◌, ◌≤◌, ◌<◌}
+use native.Mathlib.Numerals.{add-one}
 use native.Mathlib.Omega.{arith}
 use lib.Dec.{leb, eqb}
-use lib.ListN.{length, get_or, take, drop}
-use lib.Seq.{slice}
-use borrow.Author.Tests.{leb-true, le-leb, lt-leb, eq-eqb, ne_eqb}
+use lib.ListN.{length, get_or, take, drop, drop_of_length-le}
+use lib.Seq.{drop-cons}
+use borrow.Author.Tests.{leb-true, le-leb, eq-eqb, ne_eqb}
 use Rattle.token_list.specs.Text.{all, digit}
-use Rattle.token_list.proofs.Texts.{and_parts, chosen, passed_over, slice_next, slice-none, drop_of_take}
+use Rattle.token_list.proofs.Texts.{and_parts, chosen, passed_over}
 use Rattle.output.specs.Text.{decimal}
 use Rattle.output.proofs.Texts.{decimal-within}
 use Rattle.reading.specs.Declaration as declaration
@@ -46,14 +47,15 @@ counting_first {w} {n} {b} {bs} k =
       record { digits = d.1; same = k.same; few = k.few },
     )
 
-module _ (s : List ℕ) (e : ℕ) (fits : e ≤ length s) where
-  pub counting_next : {w n : ℕ} (i : ℕ) → i < e → Counting w n (slice i e s)
-      → (48 ≤ get_or s i 0) × (get_or s i 0 ≤ 57) × (n * 10 + (get_or s i 0 - 48) ≤ 9223372036854775807) × Counting w
-      (n * 10 + (get_or s i 0 - 48)) (slice (i + 1) e s)
-  counting_next {w} {n} i h k = counting_first (subst (Counting w n) (slice_next s i e h fits) k)
+pub counting_next : {w n : ℕ} (t : List ℕ) (i : ℕ) → i < length t → Counting w n (drop i t)
+    → (48 ≤ get_or t i 0) × (get_or t i 0 ≤ 57) × (n * 10 + (get_or t i 0 - 48) ≤ 9223372036854775807) × Counting w
+    (n * 10 + (get_or t i 0 - 48)) (drop (i + 1) t)
+counting_next {w} {n} t i h k =
+    let next : drop i t ≡ get_or t i 0 ∷ drop (i + 1) t = rw (add-one, drop-cons t i 0) in
+    counting_first (subst (Counting w n) next k)
 
-pub counting_end : {w n : ℕ} (s : List ℕ) (i e : ℕ) → e ≤ i → Counting w n (slice i e s) → n ≡ w
-counting_end {w} {n} s i e h k = ap (worth_from n) (sym (slice-none s i e h)) ∙ k.same
+pub counting_end : {w n : ℕ} (t : List ℕ) (i : ℕ) → length t ≤ i → Counting w n (drop i t) → n ≡ w
+counting_end {w} {n} t i h k = ap (worth_from n) (sym (drop_of_length-le t {i = i} h)) ∙ k.same
 
 -- ## The text of a negative
 
@@ -85,15 +87,6 @@ negative_length n = go (eqb n 0)
     go false = omega arith
 
 -- ## Parts
-
-pub part-beyond : (a e : ℕ) (s : List ℕ) → length s < e → part a e s ≡ []
-part-beyond a e s h = passed_over _ _ _ (lt-leb e (length s) h)
-
-pub part_none : (a e : ℕ) (s : List ℕ) → e ≤ length s → e ≤ a → part a e s ≡ []
-part_none a e s h k = chosen _ _ _ (le-leb e (length s) h) ∙ slice-none s a e k
-
-pub part_some : (a e : ℕ) (s : List ℕ) → e ≤ length s → part a e s ≡ take (e - a) (drop a s)
-part_some a e s h = chosen _ _ _ (le-leb e (length s) h) ∙ drop_of_take a e s
 
 pub part-front : (n : ℕ) (s : List ℕ) → n ≤ length s → part 0 n s ≡ take n s
 part-front n s h = chosen _ _ _ (le-leb n (length s) h)

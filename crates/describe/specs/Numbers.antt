@@ -1,7 +1,7 @@
 -- The numbers of an enum's variants (document 02, card 2): the discriminants that the Reference gives them (1.63,
 -- "Enumerations", "Custom Discriminant Values"), within i64's range; and that no two variants share a name or a number
 -- (card 9).
-use Rattle.std.specs.Prelude.{cond, List, [], ◌∷◌, map, ℕ, suc, ◌+◌, ltb, ℤ, pos, negsuc, neg_ℤ}
+use Rattle.std.specs.Prelude.{cond, List, [], ◌∷◌, map, ℕ, suc, ◌+◌, ltb, ℤ, pos, negsuc, neg_ℤ, Option, Some, None}
 use Rattle.std.proofs.Math.IntN.{suc_ℤ}
 use Rattle.reading.specs.Token.{MAX_I64}
 use Rattle.reading.specs.Declaration.{Value, absent, literal, negative, Variant, Body, fields, variants, Declaration}
@@ -10,7 +10,7 @@ use Rattle.reading.specs.Place.{inside, body_at, variant_at, variant_name_at, eq
 use Rattle.doubles.specs.Double as double
 use Rattle.doubles.specs.Double.{Double, second, first_double}
 use Rattle.doubles.specs.Same.{same_name, same_integer}
-use Rattle.describe.specs.Integer.{Worth, none, counts, integer, in_range}
+use Rattle.describe.specs.Integer.{integer, in_range}
 
 -- why a variant has no number, or no name or number of its own
 pub data Fault : Type 0 where
@@ -42,9 +42,9 @@ following (pos n) = cond (ltb n MAX_I64) (number (pos (suc n))) (without no_step
 following (negsuc n) = number (suc_ℤ (negsuc n))
 
 -- the worth of a literal, with this sign
-abbrev pub valued : (ℕ → ℤ) → Worth → Number
-valued sign none = without no_integer_lem
-valued sign (counts n) = number (sign n)
+abbrev pub valued : (ℕ → ℤ) → Option ℕ → Number
+valued sign None = without no_integer_lem
+valued sign (Some n) = number (sign n)
 
 abbrev pub minus : ℕ → ℤ
 minus n = neg_ℤ (pos n)
@@ -53,7 +53,7 @@ minus n = neg_ℤ (pos n)
 abbrev pub number_after : ℤ → Value → Number
 number_after before absent = following before
 number_after before (literal t) = valued pos (in_range (integer t))
-number_after before (negative n) = valued minus (in_range (counts n))
+number_after before (negative n) = valued minus (in_range (Some n))
 
 -- ## All variants
 

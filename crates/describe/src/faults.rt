@@ -1,5 +1,5 @@
 // What stops a listing: a variant without a number, or whose name or number is an earlier one's.
-ghost use Rattle.std.specs.Prelude.{◌≡◌, Bool, List, [], ◌∷◌, ◌++◌, map, ℕ, ◌≤◌, ◌<◌, ℤ, length};
+ghost use Rattle.std.specs.Prelude.{◌≡◌, Bool, List, [], ◌∷◌, ◌++◌, map, ℕ, ◌*◌, ◌≤◌, ◌<◌, ℤ, length};
 ghost use Rattle.token_list.specs.Layout.{MAX_BYTES};
 ghost use Rattle.reading.specs.Declaration.{Variant, Body, body_count};
 ghost use Rattle.reading.specs.Reading.{every, variant, body_of};
@@ -9,47 +9,19 @@ ghost use Rattle.doubles.specs.Key.{name_key, integer_key};
 ghost use Rattle.doubles.specs.Contract.{MINUS_SIGN, Holds};
 ghost use Rattle.describe.specs.Numbers.{BEFORE_FIRST, numbers_from, body_numbers, variant_names, body_names};
 ghost use Rattle.describe.specs.Numbers.{distinct, fault_in};
-ghost use Rattle.describe.specs.Contract.{number_of, FEW, MANY, or_found, faults_of, NamesSeen, IntegersSeen};
+ghost use Rattle.describe.specs.Contract.{MANY, or_found, faults_of, NamesSeen, IntegersSeen};
 ghost use Rattle.describe.specs.Contract.{Tables, FaultAs};
 
-use crate::numbers::{Number, NumberStep, number_after};
+use crate::numbers::number_after;
 use doubles::key::{integer_key, name_key};
 use doubles::seen::seen;
 use parse::data_type::DataType;
 use parse::item::ItemAt;
-use parse::utils::past;
-use parse::variants::{VariantAt, VariantStep, variant};
+use parse::utils::{Next, past};
+use parse::variants::{VariantAt, variant};
 use token_list::check::{Cursor, Refusal};
+use token_list::refusal;
 use token_list::stream::{Peeked, peek};
-
-// The place of the first variant whose name, or whose number, is an earlier one's.
-#[derive(Clone, Copy)]
-pub enum Found {
-    None,
-    At(usize),
-}
-
-// The refusal of the first variant at fault.
-#[derive(Clone, Copy)]
-pub enum Faults {
-    None,
-    Refused(Refusal),
-}
-
-// What was found before, or else this place, where it is that of a double.
-fn first_found(found: Found, again: bool, place: usize) -> Found
-    ensures { result ≡ or_found found again place }
-{
-    match found {
-        Found::At(p) => Found::At(p),
-        Found::None => {
-            if again {
-                return Found::At(place);
-            }
-            Found::None
-        }
-    }
-}
 
 // The first double of the names, up to this variant's.
 fn see_name(
@@ -58,8 +30,8 @@ fn see_name(
     words: &mut [u16],
     numbers: &mut [usize],
     count: usize,
-    found: Found,
-) -> Found
+    found: Option<usize>,
+) -> Option<usize>
     requires by_index { (ts : List (List ℕ)) × Holds s.now words.old numbers.old (map name_key ts) ×
         (length ts ≡ count) }
     requires count_in_bounds { count < length numbers.old }
@@ -72,49 +44,47 @@ fn see_name(
         NamesSeen s.now words.new numbers.new row (ts ++ a.name ∷ []) result }
     ensures value { (b : Bool) × (result ≡ or_found found b v.place) }
 {
-    let name = v.name;
-    let start = name.start;
-    let end = name.end;
-    let key = name_key(s, start, end);
+    let key = name_key(s, v.name.start, v.name.end);
     let again = seen(s, key, words, numbers, count);
-    let place = v.place;
-    first_found(found, again, place)
+    found.or(again.then_some(v.place))
 }
 
 // The first double of the numbers, up to n, the number of the variant at this place.
 fn see_number(
-    n: Number,
+    n: i64,
     place: usize,
     words: &mut [u16],
     numbers: &mut [usize],
     count: usize,
-    found: Found,
-) -> Found
+    found: Option<usize>,
+) -> Option<usize>
     requires holds { (zs : List ℤ) × Holds MINUS_SIGN words.old numbers.old (map integer_key zs) ×
         (length zs ≡ count) }
     requires count_in_bounds { count < length numbers.old }
     ensures by_index { (row : ℕ → ℕ) (zs : List ℤ) →
         IntegersSeen words.old numbers.old row zs found → length zs ≡ count → place ≡ row count →
-        IntegersSeen words.new numbers.new row (zs ++ number_of n ∷ []) result }
+        IntegersSeen words.new numbers.new row (zs ++ n ∷ []) result }
     ensures value { (b : Bool) × (result ≡ or_found found b place) }
 {
-    let below = n.below;
-    let size = n.size;
-    let key = integer_key(below, size);
+    let key = integer_key(n < 0, n.unsigned_abs() as usize);
     let again = seen(b"-", key, words, numbers, count);
-    first_found(found, again, place)
+    found.or(again.then_some(place))
 }
 
 // All names come before any number.
-fn first_fault(name: Found, number: Found) -> Faults
+fn first_fault(name: Option<usize>, number: Option<usize>) -> Result<(), Refusal>
     ensures { result ≡ faults_of name number }
 {
-    match name {
-        Found::At(place) => Faults::Refused(Refusal { number: 50, place }),
-        Found::None => match number {
-            Found::At(place) => Faults::Refused(Refusal { number: 51, place }),
-            Found::None => Faults::None,
-        },
+    match (name, number) {
+        (Some(place), _) => Err(Refusal {
+            number: refusal::NAME_TWICE,
+            place,
+        }),
+        (None, Some(place)) => Err(Refusal {
+            number: refusal::NUMBER_TWICE,
+            place,
+        }),
+        (None, None) => Ok(()),
     }
 }
 
@@ -127,7 +97,7 @@ fn variant_faults(
     hashes: &mut [usize],
     signs: &mut [u16],
     sizes: &mut [usize],
-) -> Faults
+) -> Result<(), Refusal>
     requires inside_at { (vs : List Variant) × InsideAt (every variant) s.now from vs ×
         Tables s.now names.old hashes.old signs.old sizes.old (length vs) }
     requires s_len_bound { length s.now ≤ MAX_BYTES }
@@ -136,50 +106,39 @@ fn variant_faults(
         (distinct (variant_names vs) (numbers_from BEFORE_FIRST 0 vs)) result }
 {
     let mut c = from;
-    let mut before = Number {
-        below: true,
-        size: 1,
-    };
+    let mut before = -1;
     let mut count = 0;
-    let mut name = Found::None;
-    let mut number = Found::None;
-    loop {
-        match variant(s, c, roles) {
-            VariantStep::One(v) => match number_after(s, before, v) {
-                NumberStep::Refused(r) => {
-                    return Faults::Refused(r);
-                }
-                NumberStep::At(n) => {
-                    let place = v.place;
-                    name = see_name(s, v, names, hashes, count, name);
-                    number = see_number(n, place, signs, sizes, count, number);
-                    c = v.next;
-                    before = n;
-                    count += 1;
-                }
-            },
-            VariantStep::Done(_) => {
-                return first_fault(name, number);
-            }
-            VariantStep::Refused(_) => {
-                return Faults::None;
-            }
-        }
+    let mut name = None;
+    let mut number = None;
+    while let Ok(Next::One(v)) = variant(s, c, roles) {
+        let n = number_after(s, before, v)?;
+        name = see_name(s, v, names, hashes, count, name);
+        number = see_number(n, v.place, signs, sizes, count, number);
+        c = v.next;
+        before = n;
+        count += 1;
     }
+    first_fault(name, number)
 }
 
-// The same, with tables of its own, which have room for 67 variants.
-fn few_faults(s: &[u8], from: Cursor, roles: &mut [u8]) -> Faults
-    requires inside_at { (vs : List Variant) × InsideAt (every variant) s.now from vs × (length vs ≤ FEW) }
+// The same, with tables of its own, which have room for so many variants, four words for each.
+fn faults_within<const ROOM: usize, const WORDS: usize>(
+    s: &[u8],
+    from: Cursor,
+    roles: &mut [u8],
+) -> Result<(), Refusal>
+    requires inside_at { (vs : List Variant) × InsideAt (every variant) s.now from vs × (length vs ≤ ROOM) }
+    requires room_bound { ROOM < 65536 }
+    requires words { WORDS ≡ 4 * ROOM }
     requires s_len_bound { length s.now ≤ MAX_BYTES }
     ensures { (vs : List Variant) → InsideAt (every variant) s.now from vs →
         FaultAs s.now (fault_in (point s.now from))
         (distinct (variant_names vs) (numbers_from BEFORE_FIRST 0 vs)) result }
 {
-    let mut names = [0u16; 268];
-    let mut hashes = [0usize; 67];
-    let mut signs = [0u16; 268];
-    let mut sizes = [0usize; 67];
+    let mut names = [0u16; WORDS];
+    let mut hashes = [0usize; ROOM];
+    let mut signs = [0u16; WORDS];
+    let mut sizes = [0usize; ROOM];
     variant_faults(
         s,
         from,
@@ -191,31 +150,9 @@ fn few_faults(s: &[u8], from: Cursor, roles: &mut [u8]) -> Faults
     )
 }
 
-// The same for as many variants as a list may have.
-fn many_faults(s: &[u8], from: Cursor, roles: &mut [u8]) -> Faults
-    requires inside_at { (vs : List Variant) × InsideAt (every variant) s.now from vs × (length vs ≤ MANY) }
-    requires s_len_bound { length s.now ≤ MAX_BYTES }
-    ensures { (vs : List Variant) → InsideAt (every variant) s.now from vs →
-        FaultAs s.now (fault_in (point s.now from))
-        (distinct (variant_names vs) (numbers_from BEFORE_FIRST 0 vs)) result }
-{
-    let mut names = [0u16; 8212];
-    let mut hashes = [0usize; 2053];
-    let mut signs = [0u16; 8212];
-    let mut sizes = [0usize; 2053];
-    variant_faults(
-        s,
-        from,
-        roles,
-        &mut names,
-        &mut hashes,
-        &mut signs,
-        &mut sizes,
-    )
-}
-
-// Small tables where they do: to fill the others with 0 takes longer than to read a small enum.
-fn enum_faults(s: &[u8], from: Cursor, roles: &mut [u8], count: usize) -> Faults
+// Small tables where they do: to fill the others with 0 takes longer than to read a small enum. Their rooms are primes,
+// so that the remainders of numbers in steps of 16 or 4,096 differ.
+fn enum_faults(s: &[u8], from: Cursor, roles: &mut [u8], count: usize) -> Result<(), Refusal>
     requires inside_at { (vs : List Variant) × InsideAt (every variant) s.now from vs × (length vs ≡ count) }
     requires count_bound { count ≤ MANY }
     requires s_len_bound { length s.now ≤ MAX_BYTES }
@@ -224,13 +161,14 @@ fn enum_faults(s: &[u8], from: Cursor, roles: &mut [u8], count: usize) -> Faults
         (distinct (variant_names vs) (numbers_from BEFORE_FIRST 0 vs)) result }
 {
     if count <= 67 {
-        return few_faults(s, from, roles);
+        faults_within::<67, 268>(s, from, roles)
+    } else {
+        faults_within::<2053, 8212>(s, from, roles)
     }
-    many_faults(s, from, roles)
 }
 
 // The first fault in a declaration's body.
-pub fn body_faults(s: &[u8], d: ItemAt, roles: &mut [u8]) -> Faults
+pub fn body_faults(s: &[u8], d: ItemAt, roles: &mut [u8]) -> Result<(), Refusal>
     requires inside_at { (b : Body) × InsideAt (body_of (kind_of d.kind)) s.now d.body b ×
         (d.count ≡ body_count b) × (length (body_names b) ≤ MANY) }
     requires s_len_bound { length s.now ≤ MAX_BYTES }
@@ -238,20 +176,12 @@ pub fn body_faults(s: &[u8], d: ItemAt, roles: &mut [u8]) -> Faults
         FaultAs s.now (fault_in (inside (point s.now d.body)))
         (distinct (body_names b) (body_numbers b)) result }
 {
-    let kind = d.kind;
-    match kind {
-        DataType::Struct => Faults::None,
-        DataType::Enum => {
-            let c = d.body;
-            match peek(s, c) {
-                Peeked::Nothing => Faults::None,
-                Peeked::Leaf(_) => Faults::None,
-                Peeked::Group(t) => {
-                    let inside = past(s, c, t);
-                    let count = d.count;
-                    enum_faults(s, inside, roles, count)
-                }
-            }
-        }
-    }
+    let DataType::Enum = d.kind else {
+        return Ok(());
+    };
+    let Peeked::Group(t) = peek(s, d.body) else {
+        return Ok(());
+    };
+    let inside = past(s, d.body, t);
+    enum_faults(s, inside, roles, d.count)
 }

@@ -20,19 +20,22 @@ ghost use Rattle.describe.specs.Listing.{numbered, parameter_line, named_line, t
 ghost use Rattle.describe.specs.Listing.{body_lines, listing, numbered_answer, item_answer, answer, listing_number};
 ghost use Rattle.describe.specs.Contract.{MANY, StructAt, FaultsIn, ItemFaultsIn, Reported};
 
-use crate::faults::{Faults, body_faults};
+use crate::faults::body_faults;
 use crate::lines::{put_item, put_named, put_parameter, put_unnamed, put_variant};
-use crate::numbers::{Number, NumberStep, number_after};
-use output::written::{Written, put_answer};
+use crate::numbers::number_after;
+use output::written::put_answer;
 use parse::data_type::DataType;
-use parse::fields::{NamedStep, NextStep, named_field, tuple_field};
-use parse::generics::{ParameterStep, parameter};
-use parse::item::{ItemAt, ItemStep, item};
-use parse::utils::{past, stands_punct};
-use parse::variants::{FieldsAt, VariantStep, variant};
-use token_list::check::{Checked, Cursor, END, Refusal, check, start};
+use parse::fields::{named_field, tuple_field};
+use parse::generics::parameter;
+use parse::item::{ItemAt, item};
+use parse::utils::{Next, past, stands_punct};
+use parse::variants::{FieldsAt, variant};
+use token_list::check::{Cursor, END, Refusal, check, start};
 use token_list::layout::MAX_ROWS;
+use token_list::refusal;
 use token_list::stream::{Peeked, peek, punct_at};
+
+// Each kind has a loop of its own, since a trait with its laws and an impl for each kind is longer than the four loops.
 
 // The lines of the named fields that are read from `from` on.
 fn named_lines(s: &[u8], from: Cursor, roles: &mut [u8], out: &mut [u8], start: usize) -> usize
@@ -43,21 +46,12 @@ fn named_lines(s: &[u8], from: Cursor, roles: &mut [u8], out: &mut [u8], start: 
     let mut c = from;
     let mut at = start;
     let mut count = 0;
-    loop {
-        match named_field(s, c, roles) {
-            NamedStep::One(name, next) => {
-                at = put_named(s, name, out, at, count);
-                c = next;
-                count += 1;
-            }
-            NamedStep::Done(_) => {
-                return at;
-            }
-            NamedStep::Refused(_) => {
-                return at;
-            }
-        }
+    while let Ok(Next::One((name, next))) = named_field(s, c, roles) {
+        at = put_named(s, name, out, at, count);
+        c = next;
+        count += 1;
     }
+    at
 }
 
 // The lines of the fields without names that are read from `from` on.
@@ -69,21 +63,12 @@ fn tuple_lines(s: &[u8], from: Cursor, roles: &mut [u8], out: &mut [u8], start: 
     let mut c = from;
     let mut at = start;
     let mut count = 0;
-    loop {
-        match tuple_field(s, c, roles) {
-            NextStep::One(next) => {
-                at = put_unnamed(out, at, count);
-                c = next;
-                count += 1;
-            }
-            NextStep::Done(_) => {
-                return at;
-            }
-            NextStep::Refused(_) => {
-                return at;
-            }
-        }
+    while let Ok(Next::One(next)) = tuple_field(s, c, roles) {
+        at = put_unnamed(out, at, count);
+        c = next;
+        count += 1;
     }
+    at
 }
 
 fn field_lines(s: &[u8], fields: FieldsAt, roles: &mut [u8], out: &mut [u8], at: usize) -> usize
@@ -108,32 +93,17 @@ fn variant_lines(s: &[u8], from: Cursor, roles: &mut [u8], out: &mut [u8], start
 {
     let mut c = from;
     let mut at = start;
-    let mut before = Number {
-        below: true,
-        size: 1,
-    };
-    loop {
-        match variant(s, c, roles) {
-            VariantStep::One(v) => match number_after(s, before, v) {
-                NumberStep::Refused(_) => {
-                    return at;
-                }
-                NumberStep::At(n) => {
-                    let line = put_variant(s, v, n, out, at);
-                    let fields = v.fields;
-                    at = field_lines(s, fields, roles, out, line);
-                    c = v.next;
-                    before = n;
-                }
-            },
-            VariantStep::Done(_) => {
-                return at;
-            }
-            VariantStep::Refused(_) => {
-                return at;
-            }
-        }
+    let mut before = -1;
+    while let Ok(Next::One(v)) = variant(s, c, roles) {
+        let Ok(n) = number_after(s, before, v) else {
+            return at;
+        };
+        let line = put_variant(s, v, n, out, at);
+        at = field_lines(s, v.fields, roles, out, line);
+        c = v.next;
+        before = n;
     }
+    at
 }
 
 // The lines of the parameters that are read from `from` on; `angle` is the row of the `<`.
@@ -151,20 +121,11 @@ fn parameter_lines(
 {
     let mut c = from;
     let mut at = start;
-    loop {
-        match parameter(s, c, roles, angle) {
-            ParameterStep::One(p) => {
-                at = put_parameter(s, p, out, at);
-                c = p.next;
-            }
-            ParameterStep::Done(_) => {
-                return at;
-            }
-            ParameterStep::Refused(_) => {
-                return at;
-            }
-        }
+    while let Ok(Next::One(p)) = parameter(s, c, roles, angle) {
+        at = put_parameter(s, p, out, at);
+        c = p.next;
     }
+    at
 }
 
 // The lines of the generics that are read at c.
@@ -176,10 +137,9 @@ fn generics_lines(s: &[u8], c: Cursor, roles: &mut [u8], out: &mut [u8], at: usi
     if !stands_punct(s, c, b'<') {
         return at;
     }
-    let row = c.row;
     let t = punct_at(s, c, b'<');
     let inside = past(s, c, t);
-    parameter_lines(s, inside, roles, row, out, at)
+    parameter_lines(s, inside, roles, c.row, out, at)
 }
 
 // The lines of a struct's body, whose group's inside is at c.
@@ -196,9 +156,10 @@ fn struct_lines(
         Put out.old out.new at result (field_lines f) }
 {
     if delimiter == b'{' {
-        return named_lines(s, c, roles, out, at);
+        named_lines(s, c, roles, out, at)
+    } else {
+        tuple_lines(s, c, roles, out, at)
     }
-    tuple_lines(s, c, roles, out, at)
 }
 
 // The lines of a declaration's body.
@@ -207,19 +168,13 @@ fn body_lines(s: &[u8], d: ItemAt, roles: &mut [u8], out: &mut [u8], at: usize) 
     ensures { (b : Body) (zs : List ℤ) → InsideAt (body_of (kind_of d.kind)) s.now d.body b →
         body_numbers b ≡ numbers zs → Put out.old out.new at result (body_lines zs b) }
 {
-    let c = d.body;
-    match peek(s, c) {
-        Peeked::Nothing => at,
-        Peeked::Leaf(_) => at,
-        Peeked::Group(t) => {
-            let inside = past(s, c, t);
-            let delimiter = t.byte;
-            let kind = d.kind;
-            match kind {
-                DataType::Struct => struct_lines(s, inside, delimiter, roles, out, at),
-                DataType::Enum => variant_lines(s, inside, roles, out, at),
-            }
-        }
+    let Peeked::Group(t) = peek(s, d.body) else {
+        return at;
+    };
+    let inside = past(s, d.body, t);
+    match d.kind {
+        DataType::Struct => struct_lines(s, inside, t.byte, roles, out, at),
+        DataType::Enum => variant_lines(s, inside, roles, out, at),
     }
 }
 
@@ -230,14 +185,12 @@ fn put_listing(s: &[u8], d: ItemAt, roles: &mut [u8], out: &mut [u8]) -> usize
         body_numbers x.body ≡ numbers zs → Put out.old out.new 0 result (listing zs x) }
 {
     let item = put_item(s, d, out);
-    let name = d.name;
-    let c = name.next;
-    let parameters = generics_lines(s, c, roles, out, item);
+    let parameters = generics_lines(s, d.name.next, roles, out, item);
     body_lines(s, d, roles, out, parameters)
 }
 
 // Measures the listing, and writes it where no variant is at fault and the output is long enough.
-fn fit_listing(s: &[u8], d: ItemAt, roles: &mut [u8], out: &mut [u8]) -> Written
+fn fit_listing(s: &[u8], d: ItemAt, roles: &mut [u8], out: &mut [u8]) -> Result<usize, Refusal>
     requires item_of { (x : Declaration) × ItemOf s.now d x × (length (body_names x.body) ≤ MANY) }
     requires s_len_bound { length s.now ≤ MAX_BYTES }
     ensures written_as { (p : Point) (x : Declaration) → ItemOf s.now d x →
@@ -248,25 +201,20 @@ fn fit_listing(s: &[u8], d: ItemAt, roles: &mut [u8], out: &mut [u8]) -> Written
         CursorAt s.now (body_at p) d.body →
         FaultsIn s.now (fault_place p) (numbers_of x) }
 {
-    match body_faults(s, d, roles) {
-        Faults::Refused(r) => Written::Refused(r),
-        Faults::None => {
-            let mut nowhere = [0u8; 1];
-            let needed = put_listing(s, d, roles, &mut nowhere);
-            if out.len() < needed {
-                return Written::Refused(Refusal {
-                    number: 8,
-                    place: END,
-                });
-            }
-            let end = put_listing(s, d, roles, out);
-            Written::Text(end)
-        }
+    body_faults(s, d, roles)?;
+    let mut nowhere = [0u8; 1];
+    let needed = put_listing(s, d, roles, &mut nowhere);
+    if out.len() < needed {
+        return Err(Refusal {
+            number: refusal::SHORT_BUFFER,
+            place: END,
+        });
     }
+    Ok(put_listing(s, d, roles, out))
 }
 
 // The listing of a list that passes the check.
-fn read_listing(s: &[u8], out: &mut [u8], roles: &mut [u8]) -> Written
+fn read_listing(s: &[u8], out: &mut [u8], roles: &mut [u8]) -> Result<usize, Refusal>
     requires in_list { InList s.now (start_of s.now) }
     requires s_len_bound { length s.now ≤ MAX_BYTES }
     requires s_bound { size (at s.now (first_row s.now)).here ≤ MAX_ROWS }
@@ -275,27 +223,20 @@ fn read_listing(s: &[u8], out: &mut [u8], roles: &mut [u8]) -> Written
         (item_answer (start s.now) (item 0 (at s.now (first_row s.now)).here))) result }
     ensures item_faults_in { ItemFaultsIn s.now (item 0 (at s.now (first_row s.now)).here) }
 {
-    let c = start(s);
-    match item(s, c, roles) {
-        ItemStep::Refused(r) => Written::Refused(r),
-        ItemStep::At(d) => fit_listing(s, d, roles, out),
-    }
+    let d = item(s, start(s), roles)?;
+    fit_listing(s, d, roles, out)
 }
 
 // Writes the listing of the declaration at the start of the output; on a refusal nothing is written.
-pub fn write_listing(list: &[u8], out: &mut [u8]) -> Written
+pub fn write_listing(list: &[u8], out: &mut [u8]) -> Result<usize, Refusal>
     ensures written_as { WrittenAs out.old out.new
         (answer list.now (length out.old)) result }
     ensures by_index { (n p : ℕ) → answer list.now (length out.old) ≡ refused n p →
         OneRefusal listing_number list.now n p }
 {
-    match check(list) {
-        Checked::Refused(r) => Written::Refused(r),
-        Checked::Passed(_) => {
-            let mut roles = [0u8; MAX_ROWS];
-            read_listing(list, out, &mut roles)
-        }
-    }
+    check(list)?;
+    let mut roles = [0u8; MAX_ROWS];
+    read_listing(list, out, &mut roles)
 }
 
 // Writes the listing or the refusal at the start of the output; answers its length, at most 176,145.

@@ -1,5 +1,5 @@
 // A variant's value: where its text stands, and that text.
-ghost use Rattle.std.specs.Prelude.{◌≡◌, true, List, ℕ, ◌≤◌, length};
+ghost use Rattle.std.specs.Prelude.{◌≡◌, true, List, ℕ, ◌≤◌, length, Ok};
 ghost use Rattle.std.proofs.Math.Seq.{slice};
 ghost use Rattle.token_list.specs.Layout.{first_row, MAX_BYTES};
 ghost use Rattle.token_list.specs.Stream.{at};
@@ -19,24 +19,22 @@ ghost use Rattle.describe.specs.Contract.{ValueAs, Placed, part_of};
 
 use output::put::{put_byte, put_number};
 use parse::data_type::DataType;
-use parse::item::{ItemAt, ItemStep, item};
-use parse::utils::past;
-use parse::variants::{ValueAt, VariantStep, variant};
-use token_list::check::{Checked, Cursor, END, Refusal, check, start};
+use parse::item::{ItemAt, item};
+use parse::utils::{Next, past};
+use parse::variants::{ValueAt, variant};
+use token_list::check::{Cursor, END, Refusal, check, start};
 use token_list::layout::MAX_ROWS;
+use token_list::refusal;
 use token_list::stream::{Peeked, peek};
 
 // The scratch must have so many bytes, enough for every list.
 pub const SCRATCH_BYTES: usize = 20;
 
-// Where a value's text stands: nowhere, from one place of the list to another, or in so many bytes
-// at the start of the scratch.
+// Where a value's text stands: from one place of the list to another, or in so many bytes at the start of the scratch.
 #[derive(Clone, Copy)]
 pub enum ValuePlace {
-    None,
     InList(usize, usize),
     InScratch(usize),
-    Refused(Refusal),
 }
 
 // The worth of a text of digits.
@@ -47,12 +45,8 @@ pub fn worth(s: &[u8], start: usize, end: usize) -> usize
     ensures upper_bound { result ≤ MAX_I64 }
 {
     let mut n: usize = 0;
-    let mut i = start;
-    while i < end {
-        let digit = s[i] - b'0';
-        let tens = n * 10;
-        n = tens + digit as usize;
-        i += 1;
+    for digit in &s[start.min(end)..end] {
+        n = n * 10 + (*digit - b'0') as usize;
     }
     n
 }
@@ -76,23 +70,14 @@ fn find(s: &[u8], from: Cursor, roles: &mut [u8], position: usize) -> ValueAt
 {
     let mut c = from;
     let mut left = position;
-    loop {
-        match variant(s, c, roles) {
-            VariantStep::One(v) => {
-                if left == 0 {
-                    return v.value;
-                }
-                c = v.next;
-                left -= 1;
-            }
-            VariantStep::Done(_) => {
-                return ValueAt::Absent;
-            }
-            VariantStep::Refused(_) => {
-                return ValueAt::Absent;
-            }
+    while let Ok(Next::One(v)) = variant(s, c, roles) {
+        if left == 0 {
+            return v.value;
         }
+        c = v.next;
+        left -= 1;
     }
+    ValueAt::Absent
 }
 
 // The value of the variant at this position of a declaration.
@@ -102,50 +87,41 @@ fn value(s: &[u8], d: ItemAt, roles: &mut [u8], position: usize) -> ValueAt
         ValueAs s.now (variant_at position (inside (point s.now d.body))) result
         (body_value position b) }
 {
-    let kind = d.kind;
-    match kind {
-        DataType::Struct => ValueAt::Absent,
-        DataType::Enum => {
-            let c = d.body;
-            match peek(s, c) {
-                Peeked::Nothing => ValueAt::Absent,
-                Peeked::Leaf(_) => ValueAt::Absent,
-                Peeked::Group(t) => {
-                    let inside = past(s, c, t);
-                    find(s, inside, roles, position)
-                }
-            }
-        }
-    }
+    let DataType::Enum = d.kind else {
+        return ValueAt::Absent;
+    };
+    let Peeked::Group(t) = peek(s, d.body) else {
+        return ValueAt::Absent;
+    };
+    let inside = past(s, d.body, t);
+    find(s, inside, roles, position)
 }
 
 // Writes a negative into the scratch; a literal stays where it is.
-fn put_value(s: &[u8], v: ValueAt, scratch: &mut [u8]) -> ValuePlace
+fn put_value(s: &[u8], v: ValueAt, scratch: &mut [u8]) -> Option<ValuePlace>
     requires value_of { (w : Value) × ValueOf s.now v w }
     requires s_len_bound { length s.now ≤ MAX_BYTES }
     ensures { (x : Point) (w : Value) → ValueAs s.now x v w →
         SCRATCH_BYTES ≤ length scratch.old →
-        Placed s.now scratch.old scratch.new (value_answer (value_row x w) w) result }
+        Placed s.now scratch.old scratch.new (value_answer (value_row x w) w) (Ok result) }
 {
     match v {
-        ValueAt::Absent => ValuePlace::None,
-        ValueAt::Literal(t, _) => {
-            let start = t.start;
-            let end = t.end;
-            ValuePlace::InList(start, end)
-        }
+        ValueAt::Absent => None,
+        ValueAt::Literal(t, _) => Some(ValuePlace::InList(t.start, t.end)),
         ValueAt::Negative(t) => {
-            let start = t.start;
-            let end = t.end;
-            let n = worth(s, start, end);
-            let len = put_negative(scratch, 0, n);
-            ValuePlace::InScratch(len)
+            let n = worth(s, t.start, t.end);
+            Some(ValuePlace::InScratch(put_negative(scratch, 0, n)))
         }
     }
 }
 
 // The value in a list that passes the check.
-fn read_value(s: &[u8], position: usize, scratch: &mut [u8], roles: &mut [u8]) -> ValuePlace
+fn read_value(
+    s: &[u8],
+    position: usize,
+    scratch: &mut [u8],
+    roles: &mut [u8],
+) -> Result<Option<ValuePlace>, Refusal>
     requires in_list { InList s.now (start_of s.now) }
     requires in_bounds { SCRATCH_BYTES ≤ length scratch.old }
     requires s_len_bound { length s.now ≤ MAX_BYTES }
@@ -153,60 +129,46 @@ fn read_value(s: &[u8], position: usize, scratch: &mut [u8], roles: &mut [u8]) -
         (item_answer (start s.now) position
         (item 0 (at s.now (first_row s.now)).here)) result }
 {
-    let c = start(s);
-    match item(s, c, roles) {
-        ItemStep::Refused(r) => ValuePlace::Refused(r),
-        ItemStep::At(d) => {
-            let v = value(s, d, roles, position);
-            put_value(s, v, scratch)
-        }
-    }
+    let d = item(s, start(s), roles)?;
+    let v = value(s, d, roles, position);
+    Ok(put_value(s, v, scratch))
 }
 
 // Where the value of the variant at this position stands. The scratch is written in the one case
 // that the answer is a part of it.
-pub fn value_of(list: &[u8], position: usize, scratch: &mut [u8]) -> ValuePlace
+pub fn value_of(
+    list: &[u8],
+    position: usize,
+    scratch: &mut [u8],
+) -> Result<Option<ValuePlace>, Refusal>
     ensures placed { Placed list.now scratch.old scratch.new
         (answer list.now position (length scratch.old)) result }
     ensures by_index { (n p : ℕ) → answer list.now position (length scratch.old) ≡ refused n p →
         OneRefusal read_number list.now n p }
 {
-    match check(list) {
-        Checked::Refused(r) => ValuePlace::Refused(r),
-        Checked::Passed(_) => {
-            if scratch.len() < SCRATCH_BYTES {
-                return ValuePlace::Refused(Refusal {
-                    number: 8,
-                    place: END,
-                });
-            }
-            let mut roles = [0u8; MAX_ROWS];
-            read_value(list, position, scratch, &mut roles)
-        }
+    check(list)?;
+    if scratch.len() < SCRATCH_BYTES {
+        return Err(Refusal {
+            number: refusal::SHORT_BUFFER,
+            place: END,
+        });
     }
+    let mut roles = [0u8; MAX_ROWS];
+    read_value(list, position, scratch, &mut roles)
 }
 
 // The text that stands there: a part of the list or of the scratch, empty where there is none.
-pub fn value_text<'a>(list: &'a [u8], scratch: &'a [u8], place: ValuePlace) -> &'a [u8]
-    ensures { result.now ≡ part_of list.now scratch.now place }
+pub fn value_text<'a>(
+    list: &'a [u8],
+    scratch: &'a [u8],
+    answer: Result<Option<ValuePlace>, Refusal>,
+) -> &'a [u8]
+    ensures { result.now ≡ part_of list.now scratch.now answer }
 {
-    match place {
-        ValuePlace::None => &list[..0],
-        ValuePlace::Refused(_) => &list[..0],
-        ValuePlace::InList(start, end) => {
-            if list.len() < end {
-                return &list[..0];
-            }
-            if end < start {
-                return &list[..0];
-            }
-            &list[start..end]
-        }
-        ValuePlace::InScratch(len) => {
-            if scratch.len() < len {
-                return &list[..0];
-            }
-            &scratch[..len]
-        }
+    match answer {
+        Ok(Some(ValuePlace::InList(start, end))) if start <= end && end <= list.len() =>
+            &list[start..end],
+        Ok(Some(ValuePlace::InScratch(len))) if len <= scratch.len() => &scratch[..len],
+        _ => &[],
     }
 }

@@ -1,21 +1,23 @@
 -- Laws on keys.
 use mathlib.Core.Path.{◌≡◌, refl, sym, ◌∙◌, ap}
 use mathlib.Core.Bool.{Bool, true, false, cond, ◌&&◌, false≢true}
-use mathlib.Core.List.{List, ◌∷◌}
-use Prim.Native.Nat.{ℕ, zero, suc, ◌+◌, ◌*◌, ◌%◌, ◌-◌, ◌≤◌, ◌<◌}
+use mathlib.Core.List.{List, [], ◌∷◌}
+use Prim.Native.Nat.{ℕ, suc, ◌+◌, ◌-◌, ◌≤◌}
 use native.Mathlib.Omega.{arith}
-use borrow.Author.Tests.{eq-eqb, eqb-true, leb-true, leb-false}
-use lib.Dec.{eqb, leb, eqb-suc-suc}
+use borrow.Author.Tests.{eq-eqb, eqb-true}
+use lib.Dec.{eqb, eqb-suc-suc}
 use lib.IntN.{ℤ, pos, negsuc}
-use lib.ListN.{length, get_or}
-use lib.Seq.{slice}
+use lib.ListN.{length, take, drop, length-take}
+use lib.Seq.{slice, drop-drop}
+use Rattle.std.specs.List.{starts_with}
+use Rattle.token_list.proofs.Texts.{drop_of_take, eqb_swap}
 use Rattle.token_list.specs.Byte.{HASH, code}
 use Rattle.token_list.specs.Text.{same}
-use Rattle.token_list.proofs.Texts.{and_both, chosen, passed_over}
-use Rattle.token_list.proofs.Texts.{same_self, same_path, slice-none, slice_next}
+use Rattle.token_list.proofs.Texts.{chosen, passed_over}
+use Rattle.token_list.proofs.Texts.{same_self, same_path}
 use Rattle.doubles.specs.Same.{bare, same_name, same_integer}
-use Rattle.doubles.specs.Key.{same_key, FACTOR, BOUND, hash, text_key, name_key, integer_key}
-use Rattle.doubles.specs.Contract.{MINUS_SIGN, signed, BareAt, KeyIn}
+use Rattle.doubles.specs.Key.{same_key, hash, text_key, name_key, integer_key}
+use Rattle.doubles.specs.Contract.{BareAt, KeyIn}
 
 -- ## Names
 
@@ -66,69 +68,37 @@ equal_integer x y e = ap (same_integer x) (sym e) ∙ integer_self x
 
 -- ## The key of an integer
 
-pub minus-key : (below : Bool) (n : ℕ) → below ≡ true → (n ≡ 0 → ⊥) →
-    KeyIn MINUS_SIGN 1 (integer_key (signed below n)) (record { start = 0; end = 1; number = n })
-minus-key true zero e h = absurd (h refl)
-minus-key true (suc n) e h = record { key = refl; order = omega arith; within = omega arith }
-minus-key false n e h = absurd (false≢true e)
-
-pub plain_key : (below : Bool) (n : ℕ) → (below ≡ true → n ≡ 0) →
-    KeyIn MINUS_SIGN 1 (integer_key (signed below n)) (record { start = 0; end = 0; number = n })
-plain_key true zero h = record { key = refl; order = omega arith; within = omega arith }
-plain_key true (suc n) h = absurd (omega (arith, h refl))
-plain_key false n h = record { key = refl; order = omega arith; within = omega arith }
-
 -- ## A name without its `r#`
 
-not_both : (a b m n : ℕ) → (a ≡ b → m ≡ n → ⊥) → (eqb a b && eqb m n) ≡ false
-not_both a b m n h = go (eqb a b) (eqb m n) refl refl
-  where
-    go : (p q : Bool) → eqb a b ≡ p → eqb m n ≡ q → (p && q) ≡ false
-    go true true e f = absurd (h (eqb-true a b e) (eqb-true m n f))
-    go true false e f = refl
-    go false q e f = refl
+abbrev RAW : List ℕ
+RAW = code "r" ∷ HASH ∷ []
 
-module _ (s : List ℕ) (start end : ℕ) (fits : end ≤ length s) where
-  module _ (order : start ≤ end) where
-    pub bare-short : end - start < 2 → BareAt s start end start
-    bare-short h = record { text = go (leb end start) refl; order = order }
-      where
-        go : (b : Bool) → leb end start ≡ b → slice start end s ≡ bare (slice start end s)
-        go true q = rw (slice-none s start end (leb-true _ _ q))
-        go false q =
-            let less = leb-false end start q in
-            rw (slice_next s start end less fits, slice-none s (start + 1) end (omega arith))
+raw_start : (t : List ℕ) → bare t ≡ cond (starts_with eqb t RAW) (drop 2 t) t
+raw_start [] = refl
+raw_start (r ∷ []) = sym (passed_over _ _ _ (and_none (eqb (code "r") r)))
+raw_start (r ∷ h ∷ t) =
+    λ i. cond (eqb_swap r (code "r") i && (eqb_swap h HASH ∙ sym (and_true (eqb HASH h))) i) t (r ∷ h ∷ t)
 
-  module _ (long : start + 2 ≤ end) where
-    abbrev raw : Bool
-    raw = eqb (get_or s start 0) (code "r") && eqb (get_or s (start + 1) 0) HASH
+module _ (s : List ℕ) (start end : ℕ) (order : start ≤ end) where
+  abbrev text : List ℕ
+  text = take (end - start) (drop start s)
 
-    two : slice start end s ≡ get_or s start 0 ∷ get_or s (start + 1) 0 ∷ slice (start + 2) end s
-    two =
-        let n : start + 1 + 1 ≡ start + 2 = omega arith in
-        rw (slice_next s start end (omega arith) fits, slice_next s (start + 1) end (omega arith) fits, n)
+  part : slice start end s ≡ text
+  part = drop_of_take start end s
 
-    bare_parts : bare (slice start end s) ≡ cond raw (slice (start + 2) end s) (slice start end s)
-    bare_parts = ap bare two ∙ ap (cond raw (slice (start + 2) end s)) (sym two)
+  pub bare_raw : starts_with eqb text RAW ≡ true → 2 ≤ length text → BareAt s start end (start + 2)
+  bare_raw e long = record {
+    text = sym (raw_start (slice start end s)
+        ∙ chosen _ _ _ (ap (λ (t : List ℕ). starts_with eqb t RAW) part ∙ e) ∙ drop-drop 2 start (take end s));
+    order = omega (arith, long, length-take (end - start) (drop start s));
+  }
 
-    pub bare_plain : (get_or s start 0 ≡ code "r" → get_or s (start + 1) 0 ≡ HASH → ⊥) → BareAt s start end start
-    bare_plain h =
-        let plain = not_both (get_or s start 0) (code "r") (get_or s (start + 1) 0) HASH h in
-        record { text = sym (bare_parts ∙ passed_over _ _ _ plain); order = omega arith }
-
-    pub bare_raw : get_or s start 0 ≡ code "r" → get_or s (start + 1) 0 ≡ HASH → BareAt s start end (start + 2)
-    bare_raw p q =
-        let both = and_both _ _ (eq-eqb _ _ p) (eq-eqb _ _ q) in
-        record { text = sym (bare_parts ∙ chosen _ _ _ both); order = long }
-
--- ## The number of a text
-
-pub hash_next : (s : List ℕ) (i end h : ℕ) → i < end → end ≤ length s →
-    hash h (slice i end s) ≡ hash ((h * FACTOR + get_or s i 0) % BOUND) (slice (i + 1) end s)
-hash_next s i end h l fits = ap (hash h) (slice_next s i end l fits)
-
-pub hash-ended : (s : List ℕ) (i end h : ℕ) → end ≤ i → hash h (slice i end s) ≡ h
-hash-ended s i end h l = ap (hash h) (slice-none s i end l)
+  pub bare_plain : starts_with eqb text RAW ≡ false → BareAt s start end start
+  bare_plain e = record {
+    text = sym (raw_start (slice start end s)
+        ∙ passed_over _ _ _ (ap (λ (t : List ℕ). starts_with eqb t RAW) part ∙ e));
+    order = order;
+  }
 
 -- ## The key of a name
 

@@ -1,19 +1,20 @@
 -- Laws on the table of keys.
 use mathlib.Core.Path.{◌≡◌, refl, sym, ◌∙◌, ap, subst}
-use mathlib.Core.Bool.{Bool, true, false, ◌&&◌, true≢false}
+use mathlib.Core.Bool.{Bool, true, false, true≢false}
 use mathlib.Core.List.{List, [], ◌∷◌, ◌++◌}
 use Prim.Native.Nat.{ℕ, ◌+◌, ◌*◌, ◌-◌, ◌%◌, ◌≤◌, ◌<◌}
 use native.Mathlib.Nat.{mod-lt}
 use native.Mathlib.Omega.{arith}
 use borrow.Author.Count.{below_more}
-use borrow.Author.Tests.{eq-eqb, ne_eqb, eqb-true, eqb-false, leb-true, leb-false}
+use borrow.Author.Tests.{eq-eqb, eqb-true, eqb-false, leb-true, leb-false}
 use lib.Dec.{eqb, leb}
 use lib.ListN.{length, get_or, set, take, drop, replicate, length-append, length-set, length-replicate}
 use lib.ListN.{get_or-replicate}
 use lib.ListN.{get_or-append}
 use lib.Seq.{slice, get_or_at, get_or-set_same, get_or-set_other}
 use Rattle.token_list.specs.Text.{same}
-use Rattle.token_list.proofs.Texts.{and_last, and_fails, and_parts, drop_of_take}
+use Rattle.token_list.proofs.Texts.{and_last, and_parts, drop_of_take}
+use Rattle.token_list.proofs.Texts.{same_swap}
 use Rattle.doubles.specs.Double.{stands}
 use Rattle.doubles.specs.Key.{Key, same_key}
 use Rattle.doubles.specs.Contract.{key_of, words_at, key_at, NO_KEY, remainder, Last, Holds, Added}
@@ -44,24 +45,11 @@ nothing_seen s n few =
 
 -- ## Whether a key is this one
 
-same_turned : (s t : List ℕ) → same s t ≡ same t s
-same_turned [] [] = refl
-same_turned [] (b ∷ t) = refl
-same_turned (a ∷ s) [] = refl
-same_turned (a ∷ s) (b ∷ t) = let rest = same_turned s t in λ i. turned (eqb a b) refl i && rest i
-  where
-    turned : (p : Bool) → eqb a b ≡ p → p ≡ eqb b a
-    turned true e = sym (eq-eqb b a (sym (eqb-true a b e)))
-    turned false e = sym (ne_eqb b a (λ q. eqb-false a b e (sym q)))
-
-pub other-number : (x y : Key) → (x.number ≡ y.number → ⊥) → false ≡ same_key x y
-other-number x y h = sym (and_fails _ _ (ne_eqb _ _ h))
-
 pub text_told : (s : List ℕ) (k : KeyAt) (y : Key) → k.number ≡ y.number →
     same y.text (take (k.end - k.start) (drop k.start s)) ≡ same_key (key_of s k) y
 text_told s k y e =
     let part = drop_of_take k.start k.end s in
-    ap (same y.text) (sym part) ∙ same_turned y.text _ ∙ sym (and_last _ _ (eq-eqb _ _ e))
+    ap (same y.text) (sym part) ∙ same_swap y.text _ ∙ sym (and_last _ _ (eq-eqb _ _ e))
 
 -- ## Whether a key stands in the table
 

@@ -10,7 +10,8 @@ const FACTOR: usize = 65599;
 
 const BOUND: usize = 140737488355328;
 
-// Where a key's text begins and ends, and its number.
+// Where a key's text begins and ends, and its number. That it stands in the bytes (`Standing`) is no invariant of it:
+// it would hold the bytes, as a cursor would its list (`token_list::check::Cursor`).
 #[derive(Clone, Copy)]
 pub struct KeyAt {
     pub start: usize,
@@ -24,30 +25,20 @@ fn bare(s: &[u8], start: usize, end: usize) -> usize
     requires end_in_bounds { end ≤ length s.now }
     ensures { BareAt s.now start end result }
 {
-    if end - start < 2 {
-        return start;
+    if s[start..end].starts_with(b"r#") {
+        start + 2
+    } else {
+        start
     }
-    if s[start] != b'r' {
-        return start;
-    }
-    if s[start + 1] != b'#' {
-        return start;
-    }
-    start + 2
 }
 
 // A number that equal texts have in common.
-fn hash(s: &[u8], start: usize, end: usize) -> usize
-    requires { end ≤ length s.now }
-    ensures { result ≡ hash 0 (slice start end s.now) }
+fn hash(text: &[u8]) -> usize
+    ensures { result ≡ hash 0 text.now }
 {
-    let mut i = start;
-    let mut h: usize = 0;
-    while i < end {
-        let b = s[i] as usize;
-        let sum = h * FACTOR + b;
-        h = sum % BOUND;
-        i += 1;
+    let mut h = 0;
+    for &b in text {
+        h = (h * FACTOR + usize::from(b)) % BOUND;
     }
     h
 }
@@ -59,11 +50,10 @@ pub fn name_key(s: &[u8], start: usize, end: usize) -> KeyAt
     ensures { KeyIn s.now end (name_key (slice start end s.now)) result }
 {
     let from = bare(s, start, end);
-    let number = hash(s, from, end);
     KeyAt {
         start: from,
         end,
-        number,
+        number: hash(&s[from..end]),
     }
 }
 
@@ -71,18 +61,10 @@ pub fn name_key(s: &[u8], start: usize, end: usize) -> KeyAt
 pub fn integer_key(below: bool, size: usize) -> KeyAt
     ensures { KeyIn MINUS_SIGN 1 (integer_key (signed below size)) result }
 {
-    if below {
-        if size != 0 {
-            return KeyAt {
-                start: 0,
-                end: 1,
-                number: size,
-            };
-        }
-    }
+    let end = if below && size != 0 { 1 } else { 0 };
     KeyAt {
         start: 0,
-        end: 0,
+        end,
         number: size,
     }
 }

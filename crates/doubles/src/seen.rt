@@ -17,16 +17,14 @@ fn is_at(bytes: &[u8], key: KeyAt, words: &[u16], numbers: &[usize], k: usize) -
     ensures { result ≡ same_key (key_of bytes.now key)
         (key_at bytes.now words.now numbers.now k) }
 {
-    let number = key.number;
-    if number != numbers[k] {
-        return false;
-    }
     let at = numbers.len() + 3 * k;
-    let from = words[at] as usize;
-    let to = words[at + 1] as usize;
-    let start = key.start;
-    let end = key.end;
-    text_is(bytes, from, to, &bytes[start..end])
+    key.number == numbers[k]
+        && text_is(
+            bytes,
+            usize::from(words[at]),
+            usize::from(words[at + 1]),
+            &bytes[key.start..key.end],
+        )
 }
 
 // Whether the key stands in the table: keys whose numbers have its number's remainder are looked at, the last first.
@@ -37,16 +35,15 @@ fn is_in(bytes: &[u8], key: KeyAt, words: &[u16], numbers: &[usize]) -> bool
     ensures { (ks : List Key) → Holds bytes.now words.now numbers.now ks →
         result ≡ stands same_key (key_of bytes.now key) ks }
 {
-    let number = key.number;
-    let bucket = number % numbers.len();
-    let mut link = words[bucket] as usize;
+    let mut link = usize::from(words[key.number % numbers.len()]);
+    // From key to key by the links between them, in lent slices of a fixed length: no map, since there is no heap.
     while link != 0 {
         let k = link - 1;
         if is_at(bytes, key, words, numbers, k) {
             return true;
         }
         let at = numbers.len() + 3 * k;
-        link = words[at + 2] as usize;
+        link = usize::from(words[at + 2]);
     }
     false
 }
@@ -61,19 +58,14 @@ fn add(key: KeyAt, words: &mut [u16], numbers: &mut [usize], count: usize)
     ensures { Added words.old words.new numbers.old numbers.new key
         count }
 {
-    let room = numbers.len();
-    let number = key.number;
-    let start = key.start;
-    let end = key.end;
-    let bucket = number % room;
-    let at = room + 3 * count;
-    let link = count + 1;
+    let bucket = key.number % numbers.len();
+    let at = numbers.len() + 3 * count;
     let last = words[bucket];
-    words[at] = start as u16;
-    words[at + 1] = end as u16;
+    words[at] = key.start as u16;
+    words[at + 1] = key.end as u16;
     words[at + 2] = last;
-    words[bucket] = link as u16;
-    numbers[count] = number;
+    words[bucket] = (count + 1) as u16;
+    numbers[count] = key.number;
 }
 
 // Whether the key was seen before; afterwards it is in the table, which held `count` keys.

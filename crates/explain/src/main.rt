@@ -2,39 +2,17 @@
 // and the rows near its place.
 #![tactic(auto)]
 
-ghost use Rattle.std.specs.Prelude.{◌≡◌, length};
+use explanation::explain::report_explanation;
+use program::{LIST, ROLES, STDIN, STDOUT};
 
-// The descriptors of standard input and output.
-const STDIN: i32 = 0;
-
-const STDOUT: i32 = 1;
-
-// One byte more than a list may have: enough to see that it has too many.
-fn list_buffer() -> [u8; 65537]
-    ensures { 65537 ≡ length result }
-{
-    [0; 65537]
-}
-
-// A byte for each row that a list may have.
-fn role_buffer() -> [u8; 4096]
-    ensures { 4096 ≡ length result }
-{
-    [0; 4096]
-}
-
-// As long as an explanation can be.
-fn output() -> [u8; 426048]
-    ensures { 426048 ≡ length result }
-{
-    [0; 426048]
-}
+// As long as an explanation can be: MOST in explanation/specs/Explanation.antt.
+const OUTPUT: usize = 426048;
 
 fn main() {
-    let mut list = list_buffer();
+    let mut list = [0; LIST];
     let n = io::read_full(STDIN, &mut list);
-    let mut roles = role_buffer();
-    let mut out = output();
-    let k = explanation::explain::report_explanation(&list[..n], &mut roles, &mut out);
+    let mut roles = [0; ROLES];
+    let mut out = [0; OUTPUT];
+    let k = report_explanation(&list[..n], &mut roles, &mut out);
     io::write_all(STDOUT, &out[..k]);
 }

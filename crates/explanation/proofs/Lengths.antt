@@ -7,7 +7,7 @@ use native.Mathlib.Omega.{arith}
 use native.Mathlib.Decide.{dec_le}
 use borrow.Author.Tests.{eq-eqb, ne_eqb, le-leb, lt-leb, leb-true, eqb-true, eqb-false}
 use lib.Dec.{leb, ltb, eqb}
-use lib.ListN.{length, take, drop, length-append, length-take, length-drop}
+use lib.ListN.{length, get_or, take, drop, length-append, length-take, length-drop}
 use Rattle.token_list.specs.Layout.{marked, first_row}
 use Rattle.token_list.specs.Byte.{LF}
 use Rattle.token_list.specs.Text.{printable}
@@ -22,10 +22,9 @@ use Rattle.report.proofs.Lines.{few_roles, by_answer}
 use Rattle.output.specs.Text.{decimal, refusal_text}
 use Rattle.output.proofs.Texts.{decimal-within, decimal_few}
 use Rattle.explanation.specs.Row.{shown_byte, shown, blank, column}
-use Rattle.explanation.specs.Words.{first, ROLES, MEANINGS, role_words, meaning}
+use Rattle.explanation.specs.Words.{ROLES, MEANINGS, role_words, meaning}
 use Rattle.explanation.specs.Explanation.{ROW_BYTES, names_line, role_line, role_rows, near, sign, near_line}
-use Rattle.explanation.specs.Explanation.{near_of_first, near_rows}
-use Rattle.explanation.specs.Explanation.{explanation, MOST}
+use Rattle.explanation.specs.Explanation.{near_rows, explanation, MOST}
 
 -- ## A row's parts
 
@@ -55,19 +54,18 @@ abbrev short : ℕ → List (List ℕ) → Bool
 short w [] = true
 short w (l ∷ ls) = leb (length l) w && short w ls
 
-first_few : (w k : ℕ) (ls : List (List ℕ)) → short w ls ≡ true → length (first (drop k ls)) ≤ w
-first_few w zero [] h = omega arith
-first_few w zero (l ∷ ls) h = leb-true _ _ (and_parts (leb (length l) w) (short w ls) h).0
-first_few w (suc k) [] h = omega arith
-first_few w (suc k) (l ∷ ls) h = first_few w k ls (and_parts (leb (length l) w) (short w ls) h).1
+word_few : (w k : ℕ) (ls : List (List ℕ)) → short w ls ≡ true → length (get_or ls k []) ≤ w
+word_few w k [] h = omega arith
+word_few w zero (l ∷ ls) h = leb-true _ _ (and_parts (leb (length l) w) (short w ls) h).0
+word_few w (suc k) (l ∷ ls) h = word_few w k ls (and_parts (leb (length l) w) (short w ls) h).1
 
 role_few : (r : ℕ) → length (role_words r) ≤ 29
 unfolding role_words
-role_few r = first_few 29 r (bytes_from ROLES 0) refl
+role_few r = word_few 29 r ROLES refl
 
 pub meaning_few : (n : ℕ) → length (meaning n) ≤ 160
 unfolding meaning
-meaning_few n = first_few 160 n (bytes_from MEANINGS 0) refl
+meaning_few n = word_few 160 n MEANINGS refl
 
 -- ## Rows with their roles
 
@@ -105,6 +103,9 @@ few (b ∷ t) = go (eqb b LF) (lines t) (few t)
     go false (tail (c ∷ cs)) f = record { bytes = omega (arith, f.bytes); rows = omega arith }
     go false (line l ls) f = record { bytes = omega (arith, f.bytes); rows = omega (arith, f.rows) }
 
+pub rows-within : (s : List ℕ) (i : ℕ) → length (bytes_from s i) ≤ length s
+rows-within s i = omega (arith, (few (drop i s)).rows, length-drop i s)
+
 -- ## Rows near a place
 
 sign_few : (p n : ℕ) → length (sign p n) ≤ 2
@@ -133,11 +134,11 @@ both_few : (a b y z : ℕ) → a ≤ 1048 → b ≤ y → 1048 + y ≤ z → a +
 both_few a b y z h k l = omega arith
 
 module _ (p c : ℕ) (small : c < 2 ^ 64) where
-  near-any : (n : ℕ) (b : List ℕ) (bs : List (List ℕ)) → n < c → length (near_of_first p c n (b ∷ bs)) ≤ 1048
-  near-any n b bs h = either_few (near p c n) _ _ 1048 (near-line_few p n b (omega arith)) (omega arith)
+  near-any : (n : ℕ) (b : List ℕ) → n < c → length (cond (near p c n) (near_line p n b) []) ≤ 1048
+  near-any n b h = either_few (near p c n) _ _ 1048 (near-line_few p n b (omega arith)) (omega arith)
 
-  near_no : (n : ℕ) (b : List ℕ) (bs : List (List ℕ)) → near p c n ≡ false → length (near_of_first p c n (b ∷ bs)) ≡ 0
-  near_no n b bs e = ap (λ (x : Bool). length (cond x (near_line p n b) [])) e
+  near_no : (n : ℕ) (b : List ℕ) → near p c n ≡ false → length (cond (near p c n) (near_line p n b) []) ≡ 0
+  near_no n b e = ap (λ (x : Bool). length (cond x (near_line p n b) [])) e
 
   -- the last three
   last_few : p ≡ list.END → (n : ℕ) (bs : List (List ℕ)) → n + length bs ≡ c →
@@ -147,9 +148,9 @@ module _ (p c : ℕ) (small : c < 2 ^ 64) where
     where
       go : Dec (c - n ≤ 3) → length (near_rows p c (suc n) bs) ≤ 1048 * min (length bs) 3 →
           length (near_rows p c n (b ∷ bs)) ≤ 1048 * min (length (b ∷ bs)) 3
-      go (yes k) more = simp length-append (omega (arith, near-any n b bs (omega arith)))
+      go (yes k) more = simp length-append (omega (arith, near-any n b (omega arith)))
       go (no k) more =
-          let none = near_no n b bs (rw (eq-eqb p list.END e) (lt-leb (c - n) 3 (omega arith))) in
+          let none = near_no n b (rw (eq-eqb p list.END e) (lt-leb (c - n) 3 (omega arith))) in
           simp length-append (omega (arith, none))
 
   -- the five around a row
@@ -161,13 +162,13 @@ module _ (p c : ℕ) (small : c < 2 ^ 64) where
       go : Dec (p - n ≤ 2) → Dec (n - p ≤ 2) → length (near_rows p c (suc n) bs) ≤ 1048 * min 5 (p + 3 - suc n) →
           length (near_rows p c n (b ∷ bs)) ≤ 1048 * min 5 (p + 3 - n)
       go (yes k) (yes l) more =
-          let here = near-any n b bs (omega arith) in
+          let here = near-any n b (omega arith) in
           simp length-append (both_few _ _ _ _ here more (one_of_five p n (omega arith) (omega arith)))
       go (no k) l more =
-          let none = near_no n b bs (rw (ne_eqb p list.END e, lt-leb (p - n) 2 (omega arith))) in
+          let none = near_no n b (rw (ne_eqb p list.END e, lt-leb (p - n) 2 (omega arith))) in
           simp length-append (rest_few _ _ _ _ none more (fewer_of_five p n))
       go (yes k) (no l) more =
-          let none = near_no n b bs (rw (ne_eqb p list.END e, le-leb (p - n) 2 k, lt-leb (n - p) 2 (omega arith))) in
+          let none = near_no n b (rw (ne_eqb p list.END e, le-leb (p - n) 2 k, lt-leb (n - p) 2 (omega arith))) in
           simp length-append (rest_few _ _ _ _ none more (fewer_of_five p n))
 
   near_few : (bs : List (List ℕ)) → length bs ≡ c → length (near_rows p c 0 bs) ≤ 5240

@@ -1,4 +1,3 @@
 -- Laws on the definitions, which the proofs of the functions cite.
-pub mod Shows
 pub mod Texts
 pub mod Lengths

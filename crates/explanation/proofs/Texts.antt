@@ -1,103 +1,80 @@
--- Laws on what is written of rows.
-use mathlib.Core.Path.{◌≡◌, refl, ap, ◌∙◌, sym}
-use mathlib.Core.Bool.{Bool, true, false, cond, ◌&&◌}
-use mathlib.Core.List.{List, [], ◌∷◌, ◌++◌, append_assoc, append-nil}
-use Prim.Native.Nat.{ℕ, zero, suc, ◌+◌, ◌-◌, ◌≤◌, ◌<◌}
-use native.Mathlib.Nat.{add-zero, add-suc, suc-add}
-use native.Mathlib.Numerals.{add-one}
+-- Laws on what is written of a row, and of the rows after it.
+use mathlib.Core.Path.{◌≡◌, refl, ap, ◌∙◌, sym, subst}
+use mathlib.Core.Bool.{Bool, true, false}
+use mathlib.Core.List.{List, [], ◌∷◌, ◌++◌}
+use Prim.Native.Nat.{ℕ, suc, ◌+◌, ◌/◌, ◌%◌, ◌≤◌, ◌<◌}
 use native.Mathlib.Omega.{arith}
-use borrow.Author.Tests.{eq-eqb, ne_eqb, le-leb}
-use lib.Dec.{leb}
-use lib.ListN.{length, get_or, take, drop}
-use lib.Seq.{take-suc, length-take-le}
-use Rattle.token_list.specs.Check.{END}
-use Rattle.explanation.specs.Explanation.{role_line, role_of_first, role_rows, near, near_line, near_of_first}
-use Rattle.explanation.specs.Explanation.{near_rows}
+use lib.ListN.{length, take, length-append}
+use Rattle.token_list.specs.Byte.{bytes, LF}
+use Rattle.token_list.specs.Text.{printable}
+use Rattle.token_list.specs.Row.{Lines, tail, line, lines}
+use Rattle.token_list.specs.Reader.{onward, GoesOn}
+use Rattle.token_list.specs.declared.check.Cursor.{Cursor}
+use Rattle.token_list.proofs.Lines.{joined as joined_rows, joined_lines}
+use Rattle.output.specs.Contract.{FAR, Put, Printed}
+use Rattle.output.proofs.Texts.{joined}
+use Rattle.explanation.specs.Row.{hex_digit, shown_byte, shown}
+use Rattle.explanation.specs.Explanation.{role_line, role_rows, near, near_line, near_rows}
 
--- ## Rows with their roles
+-- ## Bytes
 
-rows_more : (n : ℕ) (rs : List ℕ) (r : ℕ) (bs : List (List ℕ)) →
-    role_rows n (rs ++ r ∷ []) bs ≡ role_rows n rs bs ++ role_of_first (n + length rs) r (drop (length rs) bs)
-rows_more n [] r [] = refl
-rows_more n [] r (b ∷ bs) = append-nil _ ∙ ap (λ (k : ℕ). role_line k r b) (sym (add-zero n))
-rows_more n (q ∷ rs) r [] = refl
-rows_more n (q ∷ rs) r (b ∷ bs) =
-    ap (λ (t : List ℕ). role_line n q b ++ t) (rows_more (suc n) rs r bs)
-    ∙ sym
-    (append_assoc (role_line n q b) (role_rows (suc n) rs bs)
-    (role_of_first (suc n + length rs) r (drop (length rs) bs)))
-    ∙ ap (λ (k : ℕ). (role_line n q b ++ role_rows (suc n) rs bs) ++ role_of_first k r (drop (length rs) bs))
-    (suc-add n (length rs) ∙ sym (add-suc n (length rs)))
+module _ {k l : List ℕ} {h i : ℕ} (b : ℕ) {p : Bool} (tested : p ≡ printable b) where
+  pub shown_plain : p ≡ true → Put k l h i (b ∷ []) → Put k l h i (shown_byte b)
+  unfolding shown_byte
+  shown_plain e put = rw (sym tested ∙ e) put
 
--- one more row
-pub roles_more : (t : List ℕ) (i : ℕ) (bs : List (List ℕ)) → i < length t →
-    role_rows 0 (take (i + 1) t) bs ≡ role_rows 0 (take i t) bs ++ role_of_first i (get_or t i 0) (drop i bs)
-roles_more t i bs h =
-    let count : length (take i t) ≡ i = length-take-le i t (omega arith) in
-    let shift : 0 + length (take i t) ≡ i = omega (arith, count) in
-    ap (λ (l : List ℕ). role_rows 0 l bs) (ap (λ (k : ℕ). take k t) (add-one i) ∙ take-suc t i 0 h)
-    ∙ rows_more 0 (take i t) (get_or t i 0) bs
-    ∙ ap (λ (k : ℕ). role_rows 0 (take i t) bs ++ role_of_first k (get_or t i 0) (drop (length (take i t)) bs)) shift
-    ∙ ap (λ (k : ℕ). role_rows 0 (take i t) bs ++ role_of_first i (get_or t i 0) (drop k bs)) count
+  pub shown_hex : {m n : List ℕ} {g j x y : ℕ} → p ≡ false → x ≡ hex_digit (b / 16) → y ≡ hex_digit (b % 16) →
+      Put k m h g (bytes "\\x") → Put m n g j (x ∷ []) → Put n l j i (y ∷ []) → Put k l h i (shown_byte b)
+  unfolding shown_byte
+  shown_hex {x = x} {y = y} e p q sign high low =
+      rw (sym tested ∙ e) (joined sign (joined (rw p at high) (rw q at low)))
 
-pub role_here : (n r : ℕ) {bs cs : List (List ℕ)} {b : List ℕ} → bs ≡ b ∷ cs → role_line n r b ≡ role_of_first n r bs
-role_here n r e = sym (ap (role_of_first n r) e)
+-- the first n of some bytes are the first of them and the first m of the others
+pub shown_next : {s t : List ℕ} {b : ℕ} (n m : ℕ) → s ≡ b ∷ t → m + 1 ≡ n →
+    shown_byte b ++ shown (take m t) ≡ shown (take n s)
+shown_next n m e k = let l : n ≡ suc m = omega arith in rw (e, l)
 
-pub role_none : (n r : ℕ) {bs : List (List ℕ)} → bs ≡ [] → [] ≡ role_of_first n r bs
-role_none n r e = sym (ap (role_of_first n r) e)
+-- ## Rows, of which one is number i = n
 
--- ## Rows near a place
+pub roles_next : {rs qs : List ℕ} {bs cs : List (List ℕ)} {r : ℕ} {b : List ℕ} (i n m : ℕ) →
+    rs ≡ r ∷ qs → bs ≡ b ∷ cs → i ≡ n → m ≡ n + 1
+    → role_line i r b ++ role_rows m qs cs ≡ role_rows n rs bs
+roles_next i n m e f k h = let l : m ≡ suc n = omega arith in rw (e, f, k, l)
+
+pub roles_end : {bs : List (List ℕ)} (n : ℕ) (rs : List ℕ) → bs ≡ [] → [] ≡ role_rows n rs bs
+roles_end n [] e = refl
+roles_end n (r ∷ rs) e = rw e
+
+pub roles_none : (n : ℕ) (rs : List ℕ) (bs : List (List ℕ)) → length rs ≡ 0 → [] ≡ role_rows n rs bs
+roles_none n [] bs e = refl
+roles_none n (r ∷ rs) bs e = absurd (omega arith)
 
 module _ (p c : ℕ) where
-  near-row : (n i : ℕ) (bs : List (List ℕ)) →
-      near_rows p c n (take (suc i) bs) ≡ near_rows p c n (take i bs) ++ near_of_first p c (n + i) (drop i bs)
-  near-row n zero [] = refl
-  near-row n zero (b ∷ bs) =
-      append-nil _ ∙ ap (λ (k : ℕ). near_of_first p c k (b ∷ bs)) (sym (add-zero n))
-  near-row n (suc i) [] = refl
-  near-row n (suc i) (b ∷ bs) =
-      ap (λ (t : List ℕ). near_of_first p c n (b ∷ []) ++ t) (near-row (suc n) i bs)
-      ∙ sym
-      (append_assoc (near_of_first p c n (b ∷ [])) (near_rows p c (suc n) (take i bs))
-      (near_of_first p c (suc n + i) (drop i bs)))
-      ∙ ap (λ (k : ℕ). (near_of_first p c n (b ∷ []) ++ near_rows p c (suc n) (take i bs)) ++ near_of_first p c k
-      (drop i bs))
-      (suc-add n i ∙ sym (add-suc n i))
+  pub near_next : {bs cs : List (List ℕ)} {b : List ℕ} (i n m : ℕ) → true ≡ near p c i →
+      bs ≡ b ∷ cs → i ≡ n → m ≡ n + 1
+      → near_line p i b ++ near_rows p c m cs ≡ near_rows p c n bs
+  near_next i n m h e k g = let l : m ≡ suc n = omega arith in rw (e, l, ← k, ← h)
 
-  -- one more row
-  pub near-more : (i : ℕ) (bs : List (List ℕ)) →
-      near_rows p c 0 (take (i + 1) bs) ≡ near_rows p c 0 (take i bs) ++ near_of_first p c i (drop i bs)
-  near-more i bs =
-      let shift : 0 + i ≡ i = omega arith in
-      ap (λ (k : ℕ). near_rows p c 0 (take k bs)) (add-one i) ∙ near-row 0 i bs
-      ∙ ap (λ (k : ℕ). near_rows p c 0 (take i bs) ++ near_of_first p c k (drop i bs)) shift
+  pub near_passed : {bs cs : List (List ℕ)} {b : List ℕ} (i n m : ℕ) → false ≡ near p c i →
+      bs ≡ b ∷ cs → i ≡ n → m ≡ n + 1
+      → near_rows p c m cs ≡ near_rows p c n bs
+  near_passed i n m h e k g = let l : m ≡ suc n = omega arith in rw (e, l, ← k, ← h)
 
-  pub near_here : (n : ℕ) {bs cs : List (List ℕ)} {b : List ℕ} → near p c n ≡ true → bs ≡ b ∷ cs →
-      near_line p n b ≡ near_of_first p c n bs
-  near_here n {bs} {cs} {b} t e =
-      sym (ap (near_of_first p c n) e ∙ ap (λ (x : Bool). cond x (near_line p n b) []) t)
+-- a short text at the start of an output, before others
+pub from_printed : {k l x : List ℕ} {r : ℕ} → Printed k l r x → r ≤ 64 → length k < FAR → Put k l 0 r x
+from_printed p few short = record { next = omega (arith, p.counted); bytes = p.bytes; short = short }
 
-  pub near_none : (n : ℕ) {bs : List (List ℕ)} → bs ≡ [] → [] ≡ near_of_first p c n bs
-  near_none n e = sym (ap (near_of_first p c n) e)
-
-  pub not_near : (n : ℕ) (bs : List (List ℕ)) → near p c n ≡ false → [] ≡ near_of_first p c n bs
-  not_near n [] t = refl
-  not_near n (b ∷ bs) t = sym (ap (λ (x : Bool). cond x (near_line p n b) []) t)
-
-  -- ### The test
-
-  and_true : (b : Bool) → b ≡ (b && true)
-  and_true true = refl
-  and_true false = refl
-
-  pub near_past : (n : ℕ) → p ≡ END → c ≤ n → true ≡ near p c n
-  near_past n e h = sym (rw (eq-eqb p END e) (le-leb (c - n) 3 (omega arith)))
-
-  pub near_end : (n : ℕ) → p ≡ END → leb (c - n) 3 ≡ near p c n
-  near_end n e = rw (eq-eqb p END e)
-
-  pub near_before : (n : ℕ) → (p ≡ END → ⊥) → n < p → leb (p - n) 2 ≡ near p c n
-  near_before n e h = rw (ne_eqb p END e, le-leb (n - p) 2 (omega arith)) (and_true _)
-
-  pub near-after : (n : ℕ) → (p ≡ END → ⊥) → p ≤ n → leb (n - p) 2 ≡ near p c n
-  near-after n e h = rw (ne_eqb p END e, le-leb (p - n) 2 (omega arith))
+-- the row after the first of a list starts within it
+pub went_within : (s : List ℕ) {d : Cursor} → GoesOn s (record { at = 0; row = 0 }) d → d.at ≤ length s
+went_within s {d} went = go (lines s) refl
+  where
+    go : (ls : Lines) → lines s ≡ ls → d.at ≤ length s
+    go ls e =
+        subst (λ (x : Cursor). x.at ≤ length s) (sym (went.answer ∙ ap (onward (record { at = 0; row = 0 })) e))
+        (within ls (ap length (sym (ap joined_rows e) ∙ joined_lines s)))
+      where
+        within : (ls : Lines) → length (joined_rows ls) ≡ length s
+            → (onward (record { at = 0; row = 0 }) ls).at ≤ length s
+        within (tail []) h = omega arith
+        within (tail (b ∷ bs)) h = omega (arith, h)
+        within (line l ls) h = omega (arith, h, length-append l (LF ∷ joined_rows ls))

@@ -22,11 +22,7 @@ unfoldable pub role_line : ℕ → ℕ → List ℕ → List ℕ
 role_line n role b =
     column n ++ (bytes "  " ++ (role_words role ++ (shown (take ROW_BYTES b) ++ LF ∷ [])))
 
--- of the first of some rows
-abbrev pub role_of_first : ℕ → ℕ → List (List ℕ) → List ℕ
-role_of_first n role [] = []
-role_of_first n role (b ∷ bs) = role_line n role b
-
+-- a line for each role and the row that it is of
 abbrev pub role_rows : ℕ → List ℕ → List (List ℕ) → List ℕ
 role_rows n [] bs = []
 role_rows n (r ∷ rs) [] = []
@@ -52,14 +48,11 @@ sign place n = cond (eqb n place) (bytes "> ") (bytes "  ")
 unfoldable pub near_line : ℕ → ℕ → List ℕ → List ℕ
 near_line place n b = sign place n ++ (column n ++ (bytes "  " ++ (shown (take CUT b) ++ LF ∷ [])))
 
--- of the first of some rows, where it is near
-abbrev pub near_of_first : ℕ → ℕ → ℕ → List (List ℕ) → List ℕ
-near_of_first place count n [] = []
-near_of_first place count n (b ∷ bs) = cond (near place count n) (near_line place n b) []
-
+-- those of some rows that are near
 abbrev pub near_rows : ℕ → ℕ → ℕ → List (List ℕ) → List ℕ
 near_rows place count n [] = []
-near_rows place count n (b ∷ bs) = near_of_first place count n (b ∷ bs) ++ near_rows place count (suc n) bs
+near_rows place count n (b ∷ bs) =
+    cond (near place count n) (near_line place n b) [] ++ near_rows place count (suc n) bs
 
 -- ## The whole
 

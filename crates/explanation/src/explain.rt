@@ -8,7 +8,7 @@ ghost use Rattle.explanation.specs.Explanation.{names_line, explanation, MOST};
 use crate::rows::{put_near, put_roles};
 use crate::words::put_meaning;
 use output::put::{put_byte, put_bytes, put_names, put_refusal};
-use report::roles::{Roles, read_roles};
+use report::roles::read_roles;
 use token_list::check::Refusal;
 use token_list::layout::is_marked;
 
@@ -43,8 +43,8 @@ pub fn report_explanation(list: &[u8], roles: &mut [u8], out: &mut [u8]) -> usiz
         OneRefusal read_number list.now n p }
 {
     match read_roles(list, roles) {
-        Roles::Refused(r) => put_refused(out, list, r),
-        Roles::Rows(n) => {
+        Err(r) => put_refused(out, list, r),
+        Ok(n) => {
             let names = put_names_line(out, is_marked(list));
             put_roles(out, names, list, &roles[..n])
         }

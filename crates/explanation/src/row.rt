@@ -9,20 +9,14 @@ use output::put::{put_byte, put_bytes, put_number};
 fn is_printable(b: u8) -> bool
     ensures { result ≡ printable b }
 {
-    if b < 32 {
-        return false;
-    }
-    b <= 126
+    (b' '..=b'~').contains(&b)
 }
 
 fn hex_digit(n: u8) -> u8
     requires { n < 16 }
     ensures { result ≡ hex_digit n }
 {
-    if n < 10 {
-        return b'0' + n;
-    }
-    n + 87
+    if n < 10 { b'0' + n } else { b'a' + (n - 10) }
 }
 
 // A byte as it stands, or as `\xNN`.
@@ -41,14 +35,9 @@ fn put_shown(out: &mut [u8], at: usize, b: u8) -> usize
 pub fn put_row(out: &mut [u8], at: usize, row: &[u8], most: usize) -> usize
     ensures { Put out.old out.new at result (shown (take most row.now)) }
 {
-    let mut i = 0;
     let mut end = at;
-    while i < row.len() {
-        if i == most {
-            return end;
-        }
-        end = put_shown(out, end, row[i]);
-        i += 1;
+    for b in row.iter().take(most) {
+        end = put_shown(out, end, *b);
     }
     end
 }
@@ -58,9 +47,10 @@ fn put_blank(out: &mut [u8], at: usize, n: usize, bound: usize) -> usize
     ensures { Put out.old out.new at result (blank n bound) }
 {
     if n < bound {
-        return put_byte(out, at, b' ');
+        put_byte(out, at, b' ')
+    } else {
+        at
     }
-    at
 }
 
 // A number with blanks in front, in a column of four.

@@ -1,17 +1,17 @@
 // The rows of a list: each with its role, or those near a refusal's place.
 ghost use Rattle.std.specs.Prelude.{◌≡◌, length};
+ghost use Rattle.std.specs.Iterator.{YieldsFirstRef, item_count};
 ghost use Rattle.token_list.specs.Layout.{first_row};
 ghost use Rattle.token_list.specs.Reader.{bytes_from};
 ghost use Rattle.output.specs.Contract.{Put};
-ghost use Rattle.explanation.specs.Explanation.{role_line, role_of_first, role_rows, sign, near, near_line};
-ghost use Rattle.explanation.specs.Explanation.{near_of_first, near_rows};
+ghost use Rattle.explanation.specs.Explanation.{role_line, role_rows, sign, near, near_line, near_rows};
 
 use crate::row::{put_column, put_row};
 use crate::words::put_role;
 use output::put::{put_byte, put_bytes};
 use token_list::check::END;
 use token_list::layout::first_row;
-use token_list::reader::{Shown, next_at, peek_at};
+use token_list::reader::{row_after, row_from};
 
 // A well-formed row has at most so many bytes.
 pub const MAX_ROW_BYTES: usize = 259;
@@ -19,18 +19,37 @@ pub const MAX_ROW_BYTES: usize = 259;
 // How many bytes of a row are shown where a list is refused.
 pub const CUT: usize = 255;
 
+// The rows of what is left of a list, right or not, each without its LF.
+#[derive(Drop)]
+struct Rows<'a>(&'a [u8]);
+
+impl<'a> Iterator for Rows<'a> {
+    type Item = &'a [u8];
+
+    ghost next_gives = { YieldsFirstRef (λ s. bytes_from s.0.now 0) };
+
+    ghost remaining = { item_count (λ s. bytes_from s.0.now 0) };
+
+    fn next(&mut self) -> Option<&'a [u8]> {
+        let (start, end) = row_from(self.0, 0)?;
+        let row = &self.0[start..end];
+        self.0 = &self.0[row_after(self.0, 0, 0).at..];
+        Some(row)
+    }
+}
+
+// Those of a whole list.
+fn rows_of(list: &[u8]) -> Rows<'_>
+    ensures { bytes_from result.0.now 0 ≡ bytes_from list.now (first_row list.now) }
+{
+    Rows(&list[first_row(list).min(list.len())..])
+}
+
 // How many rows begin in the list.
 pub fn count_rows(list: &[u8]) -> usize
     ensures { result ≡ length (bytes_from list.now (first_row list.now)) }
 {
-    let mut row = 0;
-    let mut at = first_row(list);
-    while at < list.len() {
-        let c = next_at(list, row, at);
-        row = c.row;
-        at = c.at;
-    }
-    row
+    rows_of(list).count()
 }
 
 // A row's number, its role in words, its kind and its text.
@@ -44,32 +63,14 @@ fn put_role_line(out: &mut [u8], at: usize, row: &[u8], n: usize, role: u8) -> u
     put_byte(out, text, b'\n')
 }
 
-// The same of the row at an offset, where one is left.
-fn put_role_of(out: &mut [u8], at: usize, list: &[u8], from: usize, n: usize, role: u8) -> usize
-    ensures { Put out.old out.new at result
-        (role_of_first n role (bytes_from list.now from)) }
-{
-    match peek_at(list, n, from) {
-        Shown::Row(start, end) => put_role_line(out, at, &list[start..end], n, role),
-        Shown::End => at,
-    }
-}
-
 // A line for each role and the row that it is of.
 pub fn put_roles(out: &mut [u8], at: usize, list: &[u8], roles: &[u8]) -> usize
     ensures { Put out.old out.new at result
         (role_rows 0 roles.now (bytes_from list.now (first_row list.now))) }
 {
-    let mut i = 0;
-    let mut row = 0;
-    let mut from = first_row(list);
     let mut end = at;
-    while i < roles.len() {
-        end = put_role_of(out, end, list, from, i, roles[i]);
-        let c = next_at(list, row, from);
-        row = c.row;
-        from = c.at;
-        i += 1;
+    for (n, (row, role)) in rows_of(list).zip(roles).enumerate() {
+        end = put_role_line(out, end, row, n, *role);
     }
     end
 }
@@ -80,24 +81,16 @@ fn is_near(place: usize, count: usize, n: usize) -> bool
     ensures { result ≡ near place count n }
 {
     if place == END {
-        if count <= n {
-            return true;
-        }
-        return count - n <= 3;
+        count.saturating_sub(n) <= 3
+    } else {
+        place.abs_diff(n) <= 2
     }
-    if n < place {
-        return place - n <= 2;
-    }
-    n - place <= 2
 }
 
 fn put_sign(out: &mut [u8], at: usize, place: usize, n: usize) -> usize
     ensures { Put out.old out.new at result (sign place n) }
 {
-    if n == place {
-        return put_bytes(out, at, b"> ");
-    }
-    put_bytes(out, at, b"  ")
+    put_bytes(out, at, if n == place { b"> " } else { b"  " })
 }
 
 // A row's number and its first bytes, with a sign where it is the place.
@@ -111,28 +104,6 @@ fn put_near_line(out: &mut [u8], at: usize, row: &[u8], n: usize, place: usize) 
     put_byte(out, text, b'\n')
 }
 
-// The same of the row at an offset, where one is left and it is near.
-fn put_near_of(
-    out: &mut [u8],
-    at: usize,
-    list: &[u8],
-    from: usize,
-    n: usize,
-    place: usize,
-    count: usize,
-) -> usize
-    ensures { Put out.old out.new at result
-        (near_of_first place count n (bytes_from list.now from)) }
-{
-    if !is_near(place, count, n) {
-        return at;
-    }
-    match peek_at(list, n, from) {
-        Shown::Row(start, end) => put_near_line(out, at, &list[start..end], n, place),
-        Shown::End => at,
-    }
-}
-
 // The rows near a place.
 pub fn put_near(out: &mut [u8], at: usize, list: &[u8], place: usize) -> usize
     ensures { Put out.old out.new at result
@@ -140,16 +111,11 @@ pub fn put_near(out: &mut [u8], at: usize, list: &[u8], place: usize) -> usize
         (bytes_from list.now (first_row list.now))) }
 {
     let count = count_rows(list);
-    let mut i = 0;
-    let mut row = 0;
-    let mut from = first_row(list);
     let mut end = at;
-    while i < count {
-        end = put_near_of(out, end, list, from, i, place, count);
-        let c = next_at(list, row, from);
-        row = c.row;
-        from = c.at;
-        i += 1;
+    for (n, row) in rows_of(list).enumerate() {
+        if is_near(place, count, n) {
+            end = put_near_line(out, end, row, n, place);
+        }
     }
     end
 }

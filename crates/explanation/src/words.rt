@@ -1,119 +1,110 @@
-// The words for a role and for a refusal: the lines of two texts, by their numbers.
+// The words for a role and for a refusal, by their numbers.
+ghost use Rattle.std.specs.Prelude.{[], map, slice_index_or};
 ghost use Rattle.output.specs.Contract.{Put};
-ghost use Rattle.explanation.specs.Words.{line_of, role_words, meaning};
-ghost use Rattle.explanation.specs.Contract.{Sought};
+ghost use Rattle.explanation.specs.Words.{role_words, meaning};
 
 use output::put::put_bytes;
-use token_list::check::Cursor;
-use token_list::reader::{Shown, next_at, peek_at};
 
-// Where line k of the text starts.
-fn seek(text: &[u8], k: usize) -> Cursor
-    ensures { Sought text.now k result }
+// The roles, each with blanks up to the width of its column.
+static ROLES: [&[u8]; 19] = [
+    b"left over                    ",
+    b"attribute mark               ",
+    b"attribute group              ",
+    b"idle mark                    ",
+    b"visibility                   ",
+    b"visibility scope             ",
+    b"item word                    ",
+    b"item name                    ",
+    b"generics angle               ",
+    b"parameter name               ",
+    b"separator                    ",
+    b"bound, default or const type ",
+    b"where                        ",
+    b"where run                    ",
+    b"delimiter                    ",
+    b"variant name                 ",
+    b"value                        ",
+    b"field name                   ",
+    b"type                         ",
+];
+
+// What the refusals mean; nothing where a number is none.
+static MEANINGS: [&[u8]; 52] = [
+    b"",
+    b"more than 65,536 bytes",
+    b"the line of names differs",
+    b"the row's form, its text's length or its LF is wrong",
+    b"a further row begins after 4,096",
+    b"a close without its matching open",
+    b"a 33rd open group",
+    b"the list ends; the row of the innermost open group",
+    b"a lent buffer is too short: a role buffer needs a byte a row, scratch 20 bytes, an output what is \
+      written (176,145 bytes are enough without added names)",
+    b"",
+    b"",
+    b"struct or enum, the item's name or a variant's name is missing",
+    b"# with a group that is not [",
+    b"# followed by anything else",
+    b"in generics: not ', > or a name; at the end, the row of <",
+    b"> with nothing open",
+    b"a struct's body is neither a group nor ;",
+    b"a struct's body is a [ or 0 group",
+    b"an enum's body is neither a group nor ;",
+    b"a variant's group is [ or 0",
+    b"after a variant without value: not ,",
+    b"no literal after = or -",
+    b"a field's name is missing",
+    b": is missing",
+    b"no name after '; at the end, the row of '",
+    b"another item word; the row of the word itself",
+    b"the literal after - is not digits alone, or worth more than 9,223,372,036,854,775,807",
+    b"no name after const",
+    b"tagged: no , after a value",
+    b"tagged: neither a key nor a key and a value",
+    b"an added name is no name of at most 255 bytes, or has r#",
+    b"tagged: the list is not one group; the first row outside it, or -",
+    b"",
+    b"",
+    b"",
+    b"",
+    b"",
+    b"",
+    b"",
+    b"",
+    b"source: no token begins there, or a bracket does not match",
+    b"source: the list would pass a limit",
+    b"listing: a variant's value is no integer, or above 9,223,372,036,854,775,807",
+    b"listing: a variant without value after the number 9,223,372,036,854,775,807",
+    b"",
+    b"",
+    b"",
+    b"",
+    b"",
+    b"",
+    b"listing: the name of an earlier variant, r# aside",
+    b"listing: the number of an earlier variant",
+];
+
+// Word k; nothing past the last.
+fn put_word(out: &mut [u8], at: usize, words: &[&[u8]], k: usize) -> usize
+    ensures { Put out.old out.new at result (slice_index_or (map (λ word. word.now) words.now) k []) }
 {
-    let mut row = 0;
-    let mut at = 0;
-    let mut i = 0;
-    while i < k {
-        let c = next_at(text, row, at);
-        row = c.row;
-        at = c.at;
-        i += 1;
+    match words.get(k) {
+        Some(word) => put_bytes(out, at, word),
+        None => at,
     }
-    Cursor { at, row }
 }
 
-// Line k of the text.
-fn put_line(out: &mut [u8], at: usize, text: &[u8], k: usize) -> usize
-    ensures { Put out.old out.new at result (line_of k text.now) }
-{
-    let c = seek(text, k);
-    match peek_at(text, c.row, c.at) {
-        Shown::Row(start, end) => put_bytes(out, at, &text[start..end]),
-        Shown::End => at,
-    }
-}
-
-// A role in words, with blanks up to the width of its column.
+// A role in words.
 pub fn put_role(out: &mut [u8], at: usize, role: u8) -> usize
     ensures { Put out.old out.new at result (role_words role) }
 {
-    let k = role as usize;
-    put_line(
-        out,
-        at,
-        b"left over                    \n\
-          attribute mark               \n\
-          attribute group              \n\
-          idle mark                    \n\
-          visibility                   \n\
-          visibility scope             \n\
-          item word                    \n\
-          item name                    \n\
-          generics angle               \n\
-          parameter name               \n\
-          separator                    \n\
-          bound, default or const type \n\
-          where                        \n\
-          where run                    \n\
-          delimiter                    \n\
-          variant name                 \n\
-          value                        \n\
-          field name                   \n\
-          type                         \n",
-        k,
-    )
+    put_word(out, at, &ROLES, role as usize)
 }
 
 // What a refusal means.
 pub fn put_meaning(out: &mut [u8], at: usize, number: u8) -> usize
     ensures { Put out.old out.new at result (meaning number) }
 {
-    let k = number as usize;
-    put_line(
-        out,
-        at,
-        b"\n\
-          more than 65,536 bytes\n\
-          the line of names differs\n\
-          the row's form, its text's length or its LF is wrong\n\
-          a further row begins after 4,096\n\
-          a close without its matching open\n\
-          a 33rd open group\n\
-          the list ends; the row of the innermost open group\n\
-          a lent buffer is too short: a role buffer needs a byte a row, scratch 20 bytes, an output what \
-          is written (176,145 bytes are enough without added names)\n\
-          \n\
-          \n\
-          struct or enum, the item's name or a variant's name is missing\n\
-          # with a group that is not [\n\
-          # followed by anything else\n\
-          in generics: not ', > or a name; at the end, the row of <\n\
-          > with nothing open\n\
-          a struct's body is neither a group nor ;\n\
-          a struct's body is a [ or 0 group\n\
-          an enum's body is neither a group nor ;\n\
-          a variant's group is [ or 0\n\
-          after a variant without value: not ,\n\
-          no literal after = or -\n\
-          a field's name is missing\n\
-          : is missing\n\
-          no name after '; at the end, the row of '\n\
-          another item word; the row of the word itself\n\
-          the literal after - is not digits alone, or worth more than 9,223,372,036,854,775,807\n\
-          no name after const\n\
-          tagged: no , after a value\n\
-          tagged: neither a key nor a key and a value\n\
-          an added name is no name of at most 255 bytes, or has r#\n\
-          tagged: the list is not one group; the first row outside it, or -\n\
-          \n\n\n\n\n\n\n\n\
-          source: no token begins there, or a bracket does not match\n\
-          source: the list would pass a limit\n\
-          listing: a variant's value is no integer, or above 9,223,372,036,854,775,807\n\
-          listing: a variant without value after the number 9,223,372,036,854,775,807\n\
-          \n\n\n\n\n\n\
-          listing: the name of an earlier variant, r# aside\n\
-          listing: the number of an earlier variant\n",
-        k,
-    )
+    put_word(out, at, &MEANINGS, number as usize)
 }

@@ -12,23 +12,21 @@ use lib.ListN.{length}
 use lib.Seq.{length-take-le}
 use Rattle.token_list.specs.Pairs.{pairs}
 use Rattle.token_list.specs.Check as list
-use Rattle.token_list.specs.Contract.{ComparedAs}
+use Rattle.token_list.specs.Contract.{ComparedAs, checked}
 use Rattle.token_list.specs.Place.{OneRefusal, check_number}
 use Rattle.token_list.specs.declared.check.Refusal.{Refusal}
 use Rattle.token_list.specs.declared.text.Compared.{Compared}
 use Rattle.token_list.proofs.Texts.{chosen, passed_over}
 use Rattle.token_list.proofs.Bounds.{bounds, check-refusal}
+use Rattle.std.specs.Prelude.{Option, Some, None, Result, Ok, Err, MatchResult, IsOkAnd}
 use Rattle.reading.specs.Declaration.{Kind, struct, enum}
 use Rattle.reading.specs.Answer as answers
 use Rattle.reading.specs.Answer.{read_number}
 use Rattle.reading.proofs.Places.{answer_read}
 use Rattle.output.specs.Answer as outputs
 use Rattle.output.specs.Written.{WrittenAs}
-use Rattle.output.specs.declared.written.Written.{Written}
-use Rattle.output.specs.declared.written.Written.TheVariants as writtens
-use Rattle.parse.specs.Contract.{ParsedAs}
+use Rattle.parse.specs.Contract.{ParsedAs, kind_of}
 use Rattle.parse.specs.declared.item.ItemAt.{ItemAt}
-use Rattle.parse.specs.declared.item.Parse.TheVariants as parses
 use Rattle.describe.specs.Listing as listing
 use Rattle.describe.specs.Value as value
 use Rattle.describe.specs.Contract.{InRange, text_start, text_end, place_of, Placed}
@@ -36,7 +34,8 @@ use Rattle.describe.specs.declared.value.ValuePlace.{ValuePlace}
 use Rattle.describe.specs.declared.value.ValuePlace.TheVariants as places
 use Rattle.describe.proofs.Length.{fits}
 use Rattle.exports.specs.Code.{IN_LIST, Case, accepted, refusal, REFUSED, code, decoded, Coded, check_case}
-use Rattle.exports.specs.Code.{kind_code, read_case, written_case, written_code, LowPlace, WrittenInto, place_case}
+use Rattle.exports.specs.Code.{kind_code, read_case, written_case, answer_case}
+use Rattle.exports.specs.Code.{LowPlace, WrittenInto, place_number, place_case}
 use Rattle.exports.specs.Code.{decoded_place, ValueInto, NamesCompared}
 
 -- ## A number gives back its case, number and place
@@ -84,16 +83,16 @@ coded_as {c = c} t e =
         subst (λ (i : ℕ). OneRefusal f s i p) number (subst (OneRefusal f s m) place k)
 
 -- a value's place too
-pub place_back : (p : ValuePlace) → InRange p → decoded_place (place_case p) ≡ p
+pub place_back : (p : Result (Option ValuePlace) Refusal) → InRange p → decoded_place (place_case p) ≡ p
 unfolding decoded_place
-place_back places.None h = refl
-place_back (places.InScratch n) h =
+place_back (Ok None) h = refl
+place_back (Ok (Some (places.InScratch n))) h =
     passed_over _ _ _ (ne_eqb n 0 (λ e. omega (arith, h.0, e))) ∙ chosen _ _ _ (lt-ltb n 65536 (omega (arith, h.1)))
-place_back (places.InList a e) h =
+place_back (Ok (Some (places.InList a e))) h =
     passed_over _ _ _ (ne_eqb (a * 65536 + e) 0 (λ q. omega (arith, h.0, q)))
     ∙ passed_over _ _ _ (le-ltb (a * 65536 + e) 65536 (omega (arith, h.0)))
-    ∙ (λ i. places.InList (upper 65536 a e (omega arith) h.2 i) (lower 65536 a e h.2 i))
-place_back (places.Refused r) h = refl
+    ∙ (λ i. Ok (Some (places.InList (upper 65536 a e (omega arith) h.2 i) (lower 65536 a e h.2 i))))
+place_back (Err r) h = refl
 
 -- ## The cases are small
 
@@ -146,69 +145,86 @@ placed_told s (value.in_list row t) h k =
 placed_told s (value.in_scratch t) h k = small {v = length t} (omega (arith, h.1))
 placed_told s (value.refused n p) h k = let o = k n p refl in one (read_small o).0 o
 
--- ## The number of an answer, by the case of the reader's enum
+-- ## The code's answer tells its case
 
-pub struct_code : (s : List ℕ) (i : ItemAt) (a : answers.Answer) → ParsedAs s (parses.Struct i) a →
-    0 ≡ code (read_case a)
-struct_code s i (answers.declared d rs) h = sym (ap kind_code h.0)
-struct_code s i (answers.refused n p) h = absurd h
-
-pub enum_code : (s : List ℕ) (i : ItemAt) (a : answers.Answer) → ParsedAs s (parses.Enum i) a → 1 ≡ code (read_case a)
-enum_code s i (answers.declared d rs) h = sym (ap kind_code h.0)
-enum_code s i (answers.refused n p) h = absurd h
-
-pub refused_case : (s : List ℕ) (r : Refusal) (a : answers.Answer) → ParsedAs s (parses.Refused r) a →
-    a ≡ answers.refused r.number r.place
-refused_case s r (answers.declared d rs) h = absurd h
-refused_case s r (answers.refused n p) h = λ i. answers.refused (sym h.0 i) (sym h.1 i)
-
-place_refused : (s : List ℕ) (a : value.Answer) (r : Refusal) → place_of s a ≡ places.Refused r →
-    a ≡ value.refused r.number r.place
-place_refused s value.none r e = let z : ◌≡◌ {A = ℕ} 0 1 = cc in absurd (omega arith)
-place_refused s (value.in_list row t) r e = let z : ◌≡◌ {A = ℕ} 0 1 = cc in absurd (omega arith)
-place_refused s (value.in_scratch t) r e = let z : ◌≡◌ {A = ℕ} 0 1 = cc in absurd (omega arith)
-place_refused s (value.refused n p) r e =
-    let same : record { number = n; place = p } ≡ r = cc in
-    ap (λ (x : Refusal). value.refused x.number x.place) same
-
--- ## A text that was written
-
-module _ {f : ℕ → Bool} {s x y : List ℕ} {a : outputs.Answer} (t : Told f s (written_case a)) where
-  pub low_place : (w : Written) → WrittenAs x y a w → LowPlace w
-  low_place (writtens.Text n) h = tt
-  low_place (writtens.Refused r) h = low (subst (λ (b : outputs.Answer). Told f s (written_case b)) (sym h.answer) t)
+module _ {f : ℕ → Bool} {s : List ℕ} {c : Case} (t : Told f s c) (w : Result ℕ Refusal) (same : answer_case w ≡ c) where
+  pub low_case : LowPlace w
+  low_case = go w same
     where
       low : {n p : ℕ} → Told f s (refusal n p) → p ≤ list.END
       low (one k o) = place_low o
 
-  pub written_into : (w : Written) {r : ℕ} → WrittenAs x y a w → r ≡ written_code w → WrittenInto f s x y a r
-  written_into w h e = record { coded = coded_as t (e ∙ same w h); output = h.output }
-    where
-      same : (w : Written) → WrittenAs x y a w → written_code w ≡ code (written_case a)
-      same (writtens.Text n) h =
-          sym (length-take-le n y h.room) ∙ ap (λ (b : outputs.Answer). code (written_case b)) h.answer
-      same (writtens.Refused r) h = ap (λ (b : outputs.Answer). code (written_case b)) h.answer
+      go : (w : Result ℕ Refusal) → answer_case w ≡ c → LowPlace w
+      go (Ok v) e = tt
+      go (Err r) e = low (subst (Told f s) (sym e) t)
+
+  pub case_coded : {r : ℕ} → r ≡ code (answer_case w) → Coded f s c r
+  case_coded e = coded_as t (e ∙ ap code same)
+
+-- an answer whose acceptance is told by a number
+abbrev pub numbered : {T E : Type 0} → (T → ℕ) → Result T E → Result ℕ E
+numbered v (Ok x) = Ok (v x)
+numbered v (Err e) = Err e
+
+-- what `map` says, where the call's answer is that number
+pub mapped : {T E : Type 0} (v : T → ℕ) {P : T → ℕ → Type 0} (r : Result T E) (w : Result ℕ E)
+    → MatchResult r (λ x. IsOkAnd w (P x)) (λ e. w ≡ Err e) → ((x : T) (n : ℕ) → P x n → n ≡ v x)
+    → w ≡ numbered v r
+mapped v (Ok x) (Ok n) h g = ap Ok (g x n h)
+mapped v (Ok x) (Err e) h g = absurd h
+mapped v (Err e) w h g = h
+
+pub checked_case : (w : Result ℕ Refusal) → answer_case w ≡ check_case (checked w)
+checked_case (Ok n) = refl
+checked_case (Err r) = refl
+
+pub read_same : (s : List ℕ) (r : Result ItemAt Refusal) (a : answers.Answer) → ParsedAs s r a →
+    answer_case (numbered (λ i. kind_code (kind_of i.kind)) r) ≡ read_case a
+read_same s (Ok i) (answers.declared d rs) h = sym (ap (λ (k : Kind). accepted (kind_code k)) h.0.kind)
+read_same s (Ok i) (answers.refused n p) h = absurd h
+read_same s (Err r) (answers.declared d rs) h = absurd h
+read_same s (Err r) (answers.refused n p) h = λ i. refusal (h.0 i) (h.1 i)
+
+pub place_same : (r : Result (Option ValuePlace) Refusal) → answer_case (numbered place_number r) ≡ place_case r
+place_same (Ok p) = refl
+place_same (Err r) = refl
+
+pub written_same : {x y : List ℕ} {a : outputs.Answer} (w : Result ℕ Refusal) → WrittenAs x y a w →
+    answer_case w ≡ written_case a
+written_same {y = y} (Ok n) h = ap accepted (sym (length-take-le n y h.room)) ∙ ap written_case h.answer
+written_same (Err r) h = ap written_case h.answer
+
+pub written_into : {f : ℕ → Bool} {s x y : List ℕ} {a : outputs.Answer} → Told f s (written_case a)
+    → (w : Result ℕ Refusal) → WrittenAs x y a w → {r : ℕ} → r ≡ code (answer_case w) → WrittenInto f s x y a r
+written_into t w h e = record { coded = case_coded t w (written_same w h) e; output = h.output }
 
 -- ## A value's place
 
-module _ (s : List ℕ) (position : ℕ) (x y : List ℕ) {r : ValuePlace}
+module _ (s : List ℕ) (position : ℕ) (x y : List ℕ) {r : Result (Option ValuePlace) Refusal}
     (h : Placed s x y (value.answer s position (length x)) r)
-    (k : (n p : ℕ) → value.answer s position (length x) ≡ value.refused n p → OneRefusal read_number s n p) where
+    (k : (n p : ℕ) → value.answer s position (length x) ≡ value.refused n p → OneRefusal read_number s n p)
+    (w : Result ℕ Refusal) (same : w ≡ numbered place_number r) where
   abbrev a : value.Answer
   a = value.answer s position (length x)
 
-  pub value_low : (f : Refusal) → r ≡ places.Refused f → f.place ≤ 65535
-  value_low f e = (read_small (k f.number f.place (place_refused s a f (sym h.place ∙ e)))).1
+  range : InRange (place_of s a)
+  range = subst InRange h.place h.range
 
-  pub value_into : {p : ValuePlace} {c : ℕ} → r ≡ p → c ≡ code (place_case p) → ValueInto s position x y c
-  value_into {p} {c} e q =
-      let range = subst InRange h.place h.range in
-      let coded =
-      coded_as (placed_told s a range k) (q ∙ ap (λ (z : ValuePlace). code (place_case z)) (sym e ∙ h.place)) in
+  told : Told read_number s (place_case (place_of s a))
+  told = placed_told s a range k
+
+  tells : answer_case w ≡ place_case (place_of s a)
+  tells = ap answer_case same ∙ place_same r ∙ ap place_case h.place
+
+  pub value_low : LowPlace w
+  value_low = low_case told w tells
+
+  pub value_into : {c : ℕ} → c ≡ code (answer_case w) → ValueInto s position x y c
+  value_into q =
+      let coded = case_coded told w tells q in
       record {
         coded = coded;
-        back = ap decoded_place coded.back ∙ place_back (place_of s
-            a) range;
+        back = ap decoded_place coded.back ∙ place_back (place_of s a) range;
         scratch = h.scratch;
       }
 

@@ -7,13 +7,14 @@ use lib.ListN.{length, take, drop}
 use lib.Seq.{length-take-le}
 use Rattle.output.specs.Answer as outputs
 use Rattle.output.specs.Written.{WrittenAs}
-use Rattle.output.specs.declared.written.Written.{Written}
+use Rattle.token_list.specs.declared.check.Refusal.{Refusal}
+use Rattle.std.specs.Prelude.{Result}
 use Rattle.output.proofs.Answers.{widened, fitted_length}
 use Rattle.writing.specs.Answer.{Writer, answer, full_answer, write_number}
 use Rattle.writing.proofs.Refusals.{write_refusal}
 use Rattle.generate.specs.Contract.{Answered}
-use Rattle.exports.specs.Code.{written_case, written_code, LowPlace, MAX_OUTPUT, GeneratedInto}
-use Rattle.exports.proofs.Codes.{Told, small, one, from_one, low_place, written_into}
+use Rattle.exports.specs.Code.{code, written_case, answer_case, LowPlace, MAX_OUTPUT, GeneratedInto}
+use Rattle.exports.proofs.Codes.{Told, small, one, from_one, low_case, written_same, written_into}
 
 wrote_short : (w : Writer) (s : List ℕ) (n : ℕ) {t : List ℕ} → answer w s n ≡ outputs.wrote t → length t ≤ n
 unfolding answer
@@ -31,7 +32,7 @@ module _ (w : Writer) (s x : List ℕ) (e : ℕ) (same : e ≡ min (length x) MA
   pub used_length : e ≡ length (take e x)
   used_length = sym (length-take-le e x (omega arith))
 
-  module _ {y : List ℕ} {r : Written} (h : Answered w s (take e x) y r) where
+  module _ {y : List ℕ} {r : Result ℕ Refusal} (h : Answered w s (take e x) y r) where
     number : length (take e x) ≡ min (length x) MAX_OUTPUT
     number = sym used_length ∙ same
 
@@ -40,7 +41,7 @@ module _ (w : Writer) (s x : List ℕ) (e : ℕ) (same : e ≡ min (length x) MA
         widened x e (omega arith) r (subst (λ (n : ℕ). WrittenAs (take e x) y (answer w s n) r) number h.answered)
 
     pub generated_low : LowPlace r
-    generated_low = low_place (told w s (min (length x) MAX_OUTPUT) (omega arith)) r written
+    generated_low = low_case (told w s (min (length x) MAX_OUTPUT) (omega arith)) r (written_same r written)
 
-    pub generated_into : {c : ℕ} → c ≡ written_code r → GeneratedInto w s x (y ++ drop e x) c
+    pub generated_into : {c : ℕ} → c ≡ code (answer_case r) → GeneratedInto w s x (y ++ drop e x) c
     generated_into q = written_into (told w s (min (length x) MAX_OUTPUT) (omega arith)) r written q

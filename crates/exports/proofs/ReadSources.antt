@@ -1,22 +1,24 @@
 -- The number of the answer about a source text that is read in one call.
-use mathlib.Core.Path.{◌≡◌, refl, ap, ◌∙◌, sym}
+use mathlib.Core.Path.{◌≡◌, refl, ap, ◌∙◌, sym, subst}
 use mathlib.Core.Logic.{◌⊎◌, inl, inr}
 use mathlib.Core.List.{List}
 use Prim.Native.Nat.{ℕ, ◌≤◌}
 use native.Mathlib.Omega.{arith}
 use lib.ListN.{length}
 use Rattle.token_list.specs.Check.{END}
-use Rattle.token_list.specs.declared.check.Refusal.{Refusal}
 use Rattle.reading.specs.Declaration.{Kind, struct, enum}
 use Rattle.reading.specs.Answer.{read_number}
 use Rattle.from_source.specs.Answer as reads
 use Rattle.from_source.specs.Answer.{TextRefusal, long, in_list, read_answer}
 use Rattle.from_source.specs.Contract.{kind_read, read_by, ReadAs}
-use Rattle.from_source.specs.declared.roles.SourceRead.{SourceRead}
-use Rattle.from_source.specs.declared.roles.SourceRead.TheVariants as sources
+use Rattle.std.specs.Prelude.{Result}
+use Rattle.parse.specs.Contract.{kind_of}
+use Rattle.parse.specs.declared.data_type.DataType.{DataType}
+use Rattle.source.specs.declared.tokens.SourceError.{SourceError}
 use Rattle.exports.specs.Code.{accepted, refusal, code, decoded, kind_code}
-use Rattle.exports.specs.ReadSource.{TextCase, told, at, case_of, place_told, TextCoded, source_case, ReadSourceInto}
-use Rattle.exports.proofs.Codes.{Small, gives_back, kind_small, read_small}
+use Rattle.exports.specs.SourceCode.{TextCase, told, case_of, place_told, text_case, LowTextPlace}
+use Rattle.exports.specs.ReadSource.{TextCoded, source_case, ReadSourceInto}
+use Rattle.exports.proofs.Codes.{Small, gives_back, kind_small, read_small, numbered}
 
 -- a case that is small, and the place that goes with it
 text_coded : {c d : TextCase} {p q r : ℕ} → c ≡ d → Small (case_of d) → r ≡ code (case_of c) → q ≡ place_told p c
@@ -30,42 +32,42 @@ text_small : {s : List ℕ} {n p : ℕ} → TextRefusal read_number s n p → (1
 text_small (long e n p) = (omega (arith, n), omega (arith, p))
 text_small (in_list e o) = read_small o
 
-abbrev pub read_told_lem : SourceRead → TextCase
-read_told_lem sources.Struct = told (accepted 0)
-read_told_lem sources.Enum = told (accepted 1)
-read_told_lem (sources.FaultAt offset) = at offset
-read_told_lem (sources.Refused f) = told (refusal f.number f.place)
-
-read_told : (a : reads.Answer) → read_told_lem (read_by a) ≡ source_case a
+-- what the code's answer tells
+read_told : (a : reads.Answer) → text_case (numbered (λ k. kind_code (kind_of k)) (read_by a)) ≡ source_case a
 read_told (reads.declared d rs) = kinds d.kind
   where
-    kinds : (k : Kind) → read_told_lem (kind_read k) ≡ told (accepted (kind_code k))
+    kinds : (k : Kind) → text_case (numbered (λ k. kind_code (kind_of k)) (kind_read k)) ≡ told (accepted (kind_code k))
     kinds struct = refl
     kinds enum = refl
 read_told (reads.fault_at offset) = refl
 read_told (reads.refused n p) = refl
 
-read_refused : (a : reads.Answer) {f : Refusal} → read_by a ≡ sources.Refused f
-    → a ≡ reads.refused f.number f.place
-read_refused (reads.declared d rs) {f} e = absurd (kinds d.kind e)
-  where
-    kinds : (k : Kind) → kind_read k ≡ sources.Refused f → ⊥
-    kinds struct e = let z : ◌≡◌ {A = ℕ} 0 1 = cc in omega arith
-    kinds enum e = let z : ◌≡◌ {A = ℕ} 0 1 = cc in omega arith
-read_refused (reads.fault_at offset) e = let z : ◌≡◌ {A = ℕ} 0 1 = cc in absurd (omega arith)
-read_refused (reads.refused n p) {f} e =
-    let same : record { number = n; place = p } ≡ f = cc in
-    ap (λ (x : Refusal). reads.refused x.number x.place) same
+module _ (s : List ℕ) {x y : List ℕ} {t : Result DataType SourceError} (h : ReadAs s x y t) (w : Result ℕ SourceError)
+    (same : w ≡ numbered (λ k. kind_code (kind_of k)) t) where
+  tells : text_case w ≡ source_case (read_answer (length x) s)
+  tells =
+      ap text_case (same ∙ ap (numbered (λ k. kind_code (kind_of k))) h.answer)
+      ∙ read_told (read_answer (length x) s)
 
-module _ (s : List ℕ) {x y : List ℕ} {t : SourceRead} (h : ReadAs s x y t) where
-  pub read_low : (f : Refusal) → t ≡ sources.Refused f → f.place ≤ END
-  read_low f e = (text_small (h.refusal _ _ (read_refused _ (sym h.answer ∙ e)))).1
+  low : (a : reads.Answer) → read_answer (length x) s ≡ a
+      → LowTextPlace (numbered (λ k. kind_code (kind_of k)) (read_by a))
+  low (reads.declared d rs) e = kinds d.kind
+    where
+      kinds : (k : Kind) → LowTextPlace (numbered (λ k. kind_code (kind_of k)) (kind_read k))
+      kinds struct = tt
+      kinds enum = tt
+  low (reads.fault_at offset) e = tt
+  low (reads.refused n p) e = (text_small (h.refusal n p e)).1
 
-  pub read_into : (w : SourceRead) {p q r : ℕ} → t ≡ w → r ≡ code (case_of (read_told_lem w))
-      → q ≡ place_told p (read_told_lem w) → ReadSourceInto s x y p q r
-  read_into w {p} {q} e c f =
-      let same = ap read_told_lem (sym e ∙ h.answer) ∙ read_told (read_answer (length x) s) in
-      let coded = text_coded same (small (read_answer (length x) s) refl) c f in
+  pub read_low : LowTextPlace w
+  read_low =
+      subst LowTextPlace (sym (same ∙ ap (numbered (λ k. kind_code (kind_of k))) h.answer))
+      (low (read_answer (length x) s) refl)
+
+  pub read_into : {p q r : ℕ} → r ≡ code (case_of (text_case w)) → q ≡ place_told p (text_case w)
+      → ReadSourceInto s x y p q r
+  read_into {p} {q} c f =
+      let coded = text_coded tells (small (read_answer (length x) s) refl) c f in
       record {
         coded = coded;
         buffer = h.buffer;

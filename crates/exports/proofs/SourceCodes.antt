@@ -10,17 +10,17 @@ use lib.Seq.{length-take-le}
 use Rattle.token_list.specs.Row.{Row}
 use Rattle.token_list.specs.Rows.{list_of}
 use Rattle.token_list.specs.Check.{END}
-use Rattle.token_list.specs.declared.check.Refusal.{Refusal}
 use Rattle.source.specs.Brackets.{Matched, sound, faulty, brackets}
 use Rattle.source.specs.Lex.{lex}
 use Rattle.source.specs.Answer.{Answer, wrote, fault_at, refused, rows_of, within_limits, fitted, matched_answer}
 use Rattle.source.specs.Answer.{answer}
 use Rattle.source.specs.Tokens.{TokensAs}
-use Rattle.source.specs.declared.tokens.Tokens.{Tokens}
-use Rattle.source.specs.declared.tokens.Tokens.TheVariants as answers
+use Rattle.source.specs.declared.tokens.SourceError.{SourceError}
+use Rattle.source.specs.declared.tokens.SourceError.TheVariants as errors
+use Rattle.std.specs.Prelude.{Result, Ok, Err}
 use Rattle.source.proofs.Reports.{answer_few}
-use Rattle.exports.specs.Code.{refusal, code, decoded}
-use Rattle.exports.specs.SourceCode.{tokens_case, place_after, TokensInto}
+use Rattle.exports.specs.Code.{accepted, code, decoded}
+use Rattle.exports.specs.SourceCode.{case_of, place_told, text_case, LowTextPlace, tokens_case, place_after, TokensInto}
 use Rattle.exports.proofs.Codes.{Small, gives_back}
 
 -- 41 and 8 have the end mark
@@ -57,37 +57,35 @@ tokens_small n s = go (answer n s) refl
     go (fault_at offset) e = (omega arith, omega arith)
     go (refused m p) e = let h = answer_refused n s m p e in (omega (arith, h.0), omega (arith, h.1))
 
-module _ (s : List ℕ) {x y : List ℕ} {t : Tokens} (h : TokensAs x y (answer (length x) s) t) where
-  pub tokens_low : (f : Refusal) → t ≡ answers.Refused f → f.place ≤ END
-  tokens_low f e =
-      let k : TokensAs x y (answer (length x) s) (answers.Refused f) = rw e at h in
-      omega (arith, (answer_refused (length x) s f.number f.place (sym k.answer)).1)
+module _ (s : List ℕ) {x y : List ℕ} (w : Result ℕ SourceError) (h : TokensAs x y (answer (length x) s) w) where
+  pub tokens_low : LowTextPlace w
+  tokens_low = go w h
+    where
+      go : (w : Result ℕ SourceError) → TokensAs x y (answer (length x) s) w → LowTextPlace w
+      go (Ok n) k = tt
+      go (Err (errors.FaultAt offset)) k = tt
+      go (Err (errors.Refused r)) k =
+          omega (arith, (answer_refused (length x) s r.number r.place (sym k.answer)).1)
 
-  into : {p q r : ℕ} → r ≡ code (tokens_case (answer (length x) s)) → q ≡ place_after p (answer (length x) s)
+  tells : (w : Result ℕ SourceError) → TokensAs x y (answer (length x) s) w
+      → case_of (text_case w) ≡ tokens_case (answer (length x) s)
+  tells (Ok n) k = ap accepted (sym (length-take-le n y k.room)) ∙ ap tokens_case k.answer
+  tells (Err (errors.FaultAt offset)) k = ap tokens_case k.answer
+  tells (Err (errors.Refused r)) k = ap tokens_case k.answer
+
+  places : (p : ℕ) (w : Result ℕ SourceError) → TokensAs x y (answer (length x) s) w
+      → place_told p (text_case w) ≡ place_after p (answer (length x) s)
+  places p (Ok n) k = ap (place_after p) k.answer
+  places p (Err (errors.FaultAt offset)) k = ap (place_after p) k.answer
+  places p (Err (errors.Refused r)) k = ap (place_after p) k.answer
+
+  pub tokens_into : {p q r : ℕ} → r ≡ code (case_of (text_case w)) → q ≡ place_told p (text_case w)
       → TokensInto s x y p q r
-  into c q =
+  tokens_into {p} c q =
+      let number = c ∙ ap code (tells w h) in
       record {
-        code = c;
-        back = ap decoded c ∙ gives_back (tokens_case (answer (length x) s)) (tokens_small (length x) s);
+        code = number;
+        back = ap decoded number ∙ gives_back (tokens_case (answer (length x) s)) (tokens_small (length x) s);
         output = h.output;
-        place = q;
+        place = q ∙ places p w h;
       }
-
-  pub list_into : (n : ℕ) {p : ℕ} → t ≡ answers.List n → TokensInto s x y p p n
-  list_into n {p} e =
-      let k : TokensAs x y (answer (length x) s) (answers.List n) = rw e at h in
-      into
-      (sym (length-take-le n y k.room) ∙ ap (λ (a : Answer). code (tokens_case a)) k.answer)
-      (ap (place_after p) k.answer)
-
-  pub fault_into : (offset : ℕ) {p r : ℕ} → t ≡ answers.FaultAt offset → r ≡ code (refusal 40 END)
-      → TokensInto s x y p offset r
-  fault_into offset {p} e c =
-      let k : TokensAs x y (answer (length x) s) (answers.FaultAt offset) = rw e at h in
-      into (c ∙ ap (λ (a : Answer). code (tokens_case a)) k.answer) (ap (place_after p) k.answer)
-
-  pub refusal_into : (f : Refusal) {p r : ℕ} → t ≡ answers.Refused f → r ≡ code (refusal f.number f.place)
-      → TokensInto s x y p p r
-  refusal_into f {p} e c =
-      let k : TokensAs x y (answer (length x) s) (answers.Refused f) = rw e at h in
-      into (c ∙ ap (λ (a : Answer). code (tokens_case a)) k.answer) (ap (place_after p) k.answer)

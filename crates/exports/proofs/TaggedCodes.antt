@@ -9,9 +9,11 @@ use Rattle.tagged_reading.specs.Answer.{answer, tagged_number}
 use Rattle.tagged_reading.proofs.Promise.{answer-refusal}
 use Rattle.tagged_attribute.specs.Contract.{TaggedAs}
 use Rattle.tagged_attribute.specs.declared.utils.EntriesAt.{EntriesAt}
-use Rattle.tagged_attribute.specs.declared.utils.Tagged.TheVariants as taggeds
-use Rattle.exports.specs.Code.{code, tagged_case}
-use Rattle.exports.proofs.Codes.{Told, small, one, from_one, place_low}
+use Rattle.token_list.specs.declared.check.Refusal.{Refusal}
+use Rattle.std.specs.Prelude.{Option, Some, None, Result, Ok, Err, is_some}
+use mir.Val.{bool_byte}
+use Rattle.exports.specs.Code.{refusal, answer_case, tagged_case}
+use Rattle.exports.proofs.Codes.{Told, small, one, from_one, place_low, numbered}
 
 pub tagged_small : {s : List ℕ} {n p : ℕ} → OneRefusal tagged_number s n p → (1 ≤ n) × (p ≤ 65535)
 tagged_small {n = n} o = (from_one tagged_number refl n o.one, place_low o)
@@ -24,15 +26,15 @@ tagged_told prefix s room = go (answer prefix s room) refl
     go (tagged.read es rs) e = small {v = 1} (omega arith)
     go (tagged.refused n p) e = let o = answer-refusal prefix s room n p e in one (tagged_small o).0 o
 
--- ## By the case of the reader's enum
-
-pub absent_code : (s : List ℕ) (a : tagged.Answer) → TaggedAs s taggeds.Absent a → 0 ≡ code (tagged_case a)
-absent_code s tagged.none h = refl
-absent_code s (tagged.read es rs) h = absurd h
-absent_code s (tagged.refused n p) h = absurd h
-
-pub read_code : (s : List ℕ) (e : EntriesAt) (a : tagged.Answer) → TaggedAs s (taggeds.Read e) a →
-    1 ≡ code (tagged_case a)
-read_code s e tagged.none h = absurd h
-read_code s e (tagged.read es rs) h = refl
-read_code s e (tagged.refused n p) h = absurd h
+-- the code's answer
+pub tagged_same : (s : List ℕ) (r : Result (Option EntriesAt) Refusal) (a : tagged.Answer) → TaggedAs s r a →
+    answer_case (numbered (λ o. bool_byte (is_some o)) r) ≡ tagged_case a
+tagged_same s (Ok None) tagged.none h = refl
+tagged_same s (Ok None) (tagged.read es rs) h = absurd h
+tagged_same s (Ok None) (tagged.refused n p) h = absurd h
+tagged_same s (Ok (Some e)) tagged.none h = absurd h
+tagged_same s (Ok (Some e)) (tagged.read es rs) h = refl
+tagged_same s (Ok (Some e)) (tagged.refused n p) h = absurd h
+tagged_same s (Err r) tagged.none h = absurd h
+tagged_same s (Err r) (tagged.read es rs) h = absurd h
+tagged_same s (Err r) (tagged.refused n p) h = λ i. refusal (h.0 i) (h.1 i)

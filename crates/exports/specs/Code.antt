@@ -1,6 +1,7 @@
 -- Answers as one number: below 2^32 nothing was refused, else the number is 2^32 times the refusal's number, plus its
 -- place (a row, or the end mark 65,535).
 use Rattle.std.specs.Prelude.{◌≡◌, Bool, cond, List, ℕ, ◌+◌, ◌*◌, ◌/◌, ◌%◌, ◌≤◌, min, eqb, ltb, length}
+use Rattle.std.specs.Prelude.{Option, Some, None, Result, Ok, Err}
 use Rattle.token_list.specs.Text.{same}
 use Rattle.token_list.specs.Pairs.{pairs}
 use Rattle.token_list.specs.Check as list
@@ -8,8 +9,7 @@ use Rattle.token_list.specs.Place.{OneRefusal}
 use Rattle.reading.specs.Declaration.{Kind, struct, enum}
 use Rattle.reading.specs.Answer as answers
 use Rattle.output.specs.Answer as outputs
-use Rattle.output.specs.declared.written.Written.{Written}
-use Rattle.output.specs.declared.written.Written.TheVariants as writtens
+use Rattle.token_list.specs.declared.check.Refusal.{Refusal}
 use Rattle.tagged_reading.specs.Reading as tagged
 use Rattle.tagged_reading.specs.Answer as tagged_answers
 use Rattle.writing.specs.Answer as writing
@@ -67,14 +67,14 @@ abbrev pub written_case : outputs.Answer → Case
 written_case (outputs.wrote text) = accepted (length text)
 written_case (outputs.refused n p) = refusal n p
 
--- the same by the code's enum, whose refusals have a row or the end mark
-abbrev pub written_code : Written → ℕ
-written_code (writtens.Text n) = n
-written_code (writtens.Refused r) = code (refusal r.number r.place)
+-- the case that the code's answer tells, whose refusal has a row or the end mark
+abbrev pub answer_case : Result ℕ Refusal → Case
+answer_case (Ok v) = accepted v
+answer_case (Err r) = refusal r.number r.place
 
-abbrev pub LowPlace : Written → Type 0
-LowPlace (writtens.Text n) = Unit
-LowPlace (writtens.Refused r) = r.place ≤ list.END
+abbrev pub LowPlace : Result ℕ Refusal → Type 0
+LowPlace (Ok v) = Unit
+LowPlace (Err r) = r.place ≤ list.END
 
 -- the answer a for a list s, and the whole output
 pub record WrittenInto (numbers : ℕ → Bool) (s before after : List ℕ) (a : outputs.Answer) (r : ℕ) : Type 0 where
@@ -96,17 +96,20 @@ IN_LIST = 65536
 
 -- 0 for no value, below IN_LIST the length of a part of the scratch, else IN_LIST times the start of a part of the
 -- list, plus its end
-abbrev pub place_case : ValuePlace → Case
-place_case places.None = accepted 0
-place_case (places.InScratch n) = accepted n
-place_case (places.InList a e) = accepted (a * IN_LIST + e)
-place_case (places.Refused r) = refusal r.number r.place
+abbrev pub place_number : Option ValuePlace → ℕ
+place_number None = 0
+place_number (Some (places.InScratch n)) = n
+place_number (Some (places.InList a e)) = a * IN_LIST + e
 
-unfoldable pub decoded_place : Case → ValuePlace
+abbrev pub place_case : Result (Option ValuePlace) Refusal → Case
+place_case (Ok p) = accepted (place_number p)
+place_case (Err r) = refusal r.number r.place
+
+unfoldable pub decoded_place : Case → Result (Option ValuePlace) Refusal
 decoded_place (accepted v) =
-    cond (eqb v 0) places.None
-    (cond (ltb v IN_LIST) (places.InScratch v) (places.InList (v / IN_LIST) (v % IN_LIST)))
-decoded_place (refusal n p) = places.Refused (record { number = n; place = p })
+    cond (eqb v 0) (Ok None)
+    (cond (ltb v IN_LIST) (Ok (Some (places.InScratch v))) (Ok (Some (places.InList (v / IN_LIST) (v % IN_LIST)))))
+decoded_place (refusal n p) = Err (record { number = n; place = p })
 
 -- the place of the value of the variant of s at a position, and the whole scratch
 pub record ValueInto (s : List ℕ) (position : ℕ) (before after : List ℕ) (r : ℕ) : Type 0 where

@@ -1,25 +1,10 @@
 -- The answer about a source text that is read in one call, as one number.
 use Rattle.std.specs.Prelude.{◌≡◌, ◌⊎◌, List, ℕ, length}
-use Rattle.token_list.specs.Check.{END}
 use Rattle.reading.specs.Answer.{read_number}
 use Rattle.from_source.specs.Answer as reads
 use Rattle.from_source.specs.Answer.{TextRefusal, read_answer, buffer}
-use Rattle.exports.specs.Code.{Case, accepted, refusal, code, decoded, kind_code}
-
--- what is told of a text: a case, or 40 at an offset
-pub data TextCase : Type 0 where
-  told : Case → TextCase
-  at : ℕ → TextCase
-
--- 40 has the end mark, since its offset stands elsewhere
-abbrev pub case_of : TextCase → Case
-case_of (told c) = c
-case_of (at offset) = refusal 40 END
-
--- the offset of 40; else the number p that stood there
-abbrev pub place_told : ℕ → TextCase → ℕ
-place_told p (told c) = p
-place_told p (at offset) = offset
+use Rattle.exports.specs.Code.{accepted, refusal, code, decoded, kind_code}
+use Rattle.exports.specs.SourceCode.{TextCase, told, at, case_of, place_told}
 
 -- the number r, which gives back its case; and the place, which was p and is q
 pub record TextCoded (c : TextCase) (p q r : ℕ) : Type 0 where

@@ -1,18 +1,16 @@
 -- What is printed of a source text.
-use mathlib.Core.Path.{◌≡◌, refl, ap, ◌∙◌, sym}
+use mathlib.Core.Path.{◌≡◌, refl, ap, sym}
 use mathlib.Core.List.{List}
 use Prim.Native.Nat.{ℕ, ◌^◌, ◌≤◌, ◌<◌}
 use native.Mathlib.Omega.{arith}
 use lib.ListN.{length, take, length-append}
 use lib.Seq.{length-take-le}
 use Rattle.token_list.specs.Layout.{MAX_BYTES}
-use Rattle.token_list.specs.declared.check.Refusal.{Refusal}
 use Rattle.output.specs.Contract.{Printed}
 use Rattle.output.specs.Answer as outputs
 use Rattle.output.proofs.Texts.{decimal_few, place_few}
 use Rattle.source.specs.Answer as source
 use Rattle.source.specs.Answer.{Answer, wrote, fault_at, refused, output}
-use Rattle.source.specs.Report.{fault_text}
 use Rattle.source.proofs.Reports.{position_few}
 use Rattle.describe.specs.Listing as listing
 use Rattle.describe.specs.Listing.{MOST, listing_number}
@@ -20,31 +18,11 @@ use Rattle.describe.proofs.Length.{fits}
 use Rattle.from_source.specs.Answer.{written_answer, listed_answer, listing_answer, listed_fully, full_answer}
 use Rattle.from_source.specs.Answer.{TextRefusal}
 use Rattle.from_source.specs.Report.{place_offset, placed_text, listing_text}
-use Rattle.from_source.specs.Contract.{SourceWrittenAs, at_most, ReportedListing}
-use Rattle.from_source.specs.declared.listing.SourceWritten.{SourceWritten}
-use Rattle.from_source.specs.declared.listing.SourceWritten.TheVariants as listings
-
--- ## An answer by its variant
-
-module _ (s : List ℕ) {x y : List ℕ} {a : Answer} where
-  pub text_printed : {n : ℕ} → SourceWrittenAs x y a (listings.Text n) → Printed x y n (listing_text s a)
-  text_printed {n} l =
-      let q : a ≡ wrote (take n y) = sym l.answer in
-      rw q (record { counted = sym (length-take-le n y l.room); bytes = l.output ∙ ap (output x) q })
-
-  pub fault_printed : {z : List ℕ} {n offset : ℕ} → SourceWrittenAs x y a (listings.FaultAt offset)
-      → Printed y z n (fault_text s offset) → Printed x z n (listing_text s a)
-  fault_printed {z} {n} {offset} l p =
-      let q : a ≡ fault_at offset = sym l.answer in
-      let same : y ≡ x = l.output ∙ ap (output x) q in
-      rw q (rw same at p)
-
-  pub refusal_printed : {z : List ℕ} {n : ℕ} {r : Refusal} → SourceWrittenAs x y a (listings.Refused r)
-      → Printed y z n (placed_text s r.number r.place) → Printed x z n (listing_text s a)
-  refusal_printed {z} {n} {r} l p =
-      let q : a ≡ refused r.number r.place = sym l.answer in
-      let same : y ≡ x = l.output ∙ ap (output x) q in
-      rw q (rw same at p)
+use Rattle.from_source.specs.Contract.{at_most, ReportedListing}
+use Rattle.source.specs.declared.tokens.SourceError.{SourceError}
+use Rattle.source.specs.declared.tokens.SourceError.TheVariants as errors
+use Rattle.source.specs.Tokens.{TokensAs}
+use Rattle.std.specs.Prelude.{Result, Ok, Err}
 
 -- ## Lengths
 
@@ -93,10 +71,10 @@ reported s {x} p short refusal =
       refusal = refusal;
     }
 
-pub report_short : (s : List ℕ) {x y : List ℕ} (r : SourceWritten)
-    → SourceWrittenAs x y (listing_answer (length x) s) r → at_most r ≤ MOST
-report_short s {x} {y} (listings.Text n) h =
+pub report_short : (s : List ℕ) {x y : List ℕ} (r : Result ℕ SourceError)
+    → TokensAs x y (listing_answer (length x) s) r → at_most r ≤ MOST
+report_short s {x} {y} (Ok n) h =
     let text = listing_few (length x) s (take n y) (sym h.answer) in
     omega (arith, text, length-take-le n y h.room)
-report_short s (listings.FaultAt offset) h = omega arith
-report_short s (listings.Refused r) h = omega arith
+report_short s (Err (errors.FaultAt offset)) h = omega arith
+report_short s (Err (errors.Refused r)) h = omega arith

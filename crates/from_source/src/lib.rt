@@ -2,7 +2,6 @@
 // card 1).
 #![tactic(auto)]
 
-mod list;
 pub mod listing;
 pub mod report;
 pub mod roles;

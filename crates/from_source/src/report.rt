@@ -3,12 +3,14 @@ ghost use Rattle.std.specs.Prelude.{◌≡◌, List, ℕ, ◌≤◌};
 ghost use Rattle.output.specs.Contract.{Printed};
 ghost use Rattle.source.specs.Answer.{Answer};
 ghost use Rattle.from_source.specs.Report.{place_offset, placed_text, listing_text};
-ghost use Rattle.from_source.specs.Contract.{SourceWrittenAs, at_most, ReportedListing};
+ghost use Rattle.source.specs.Tokens.{TokensAs};
+ghost use Rattle.from_source.specs.Contract.{at_most, ReportedListing};
 
-use crate::listing::{SourceWritten, write_listing};
+use crate::listing::write_listing;
 use output::put::{put_byte, put_bytes, put_number, put_place};
 use source::places::row_place;
 use source::report::{put_fault, put_position};
+use source::tokens::SourceError;
 use token_list::check::{END, Refusal};
 
 // Where a refusal's row stands in the text; the end mark stands at the text's end.
@@ -18,8 +20,7 @@ fn place_offset(s: &[u8], place: usize) -> usize
     if place == END {
         return s.len();
     }
-    let p = row_place(s, place);
-    p.offset
+    row_place(s, place).offset
 }
 
 // A refusal, at the start of the output: the line `refused place`, and a line with number, place and position. Answers
@@ -40,15 +41,15 @@ fn put_placed(out: &mut [u8], s: &[u8], refusal: Refusal) -> usize
 }
 
 // The answer as a program prints it: a refusal is written where the listing would stand.
-fn put_listing(out: &mut [u8], s: &[u8], answer: SourceWritten) -> usize
-    ensures by_index { (before : List ℕ) (a : Answer) → SourceWrittenAs before out.old a answer →
+fn put_listing(out: &mut [u8], s: &[u8], answer: Result<usize, SourceError>) -> usize
+    ensures by_index { (before : List ℕ) (a : Answer) → TokensAs before out.old a answer →
         Printed before out.new result (listing_text s.now a) }
     ensures upper_bound { result ≤ at_most answer }
 {
     match answer {
-        SourceWritten::Text(n) => n,
-        SourceWritten::FaultAt(offset) => put_fault(out, s, offset),
-        SourceWritten::Refused(r) => put_placed(out, s, r),
+        Ok(n) => n,
+        Err(SourceError::FaultAt(offset)) => put_fault(out, s, offset),
+        Err(SourceError::Refused(r)) => put_placed(out, s, r),
     }
 }
 

@@ -6,19 +6,24 @@ use Prim.Native.Nat.{ℕ, suc, ◌≤◌}
 use native.Mathlib.Omega.{arith}
 use borrow.Author.Tests.{ne_eqb}
 use lib.Dec.{eqb}
+use Rattle.std.specs.Prelude.{Result, Ok, Err}
 use lib.ListN.{length, take}
 use lib.Seq.{length-take-le}
 use Rattle.token_list.specs.Byte.{LF, LESS, GREATER}
 use Rattle.token_list.specs.Row.{Row, Lines, tail, line, lines, byte}
-use Rattle.token_list.specs.Rows.{punct}
+use Rattle.token_list.specs.Rows.{punct, list_of}
 use Rattle.token_list.specs.Check as list
+use Rattle.token_list.specs.declared.check.Refusal.{Refusal}
 use Rattle.token_list.specs.Stream.{Trees}
+use Rattle.token_list.specs.Layout.{marked}
+use Rattle.token_list.specs.Contract.{start_of}
+use Rattle.token_list.specs.declared.check.Cursor.{Cursor}
+use Rattle.parse.specs.Contract.{stream}
+use Rattle.reading.specs.Reading.{item}
 use Rattle.token_list.proofs.Texts.{chosen, passed_over}
-use Rattle.output.specs.Contract.{Printed}
+use Rattle.output.specs.Contract.{Put, Printed}
 use Rattle.output.specs.Answer.{Answer, fitted, answer_text}
 use Rattle.output.specs.Written.{WrittenAs, at_most}
-use Rattle.output.specs.declared.written.Written.{Written}
-use Rattle.output.specs.declared.written.Written.TheVariants as writtens
 use Rattle.output.proofs.Answers.{written_as, fitted_wrote}
 use Rattle.reading.specs.Declaration.{Parameter, Generics, without, Declaration}
 use Rattle.reading.specs.Took.{Took, took}
@@ -28,7 +33,7 @@ use Rattle.writing.specs.Answer.{Writer, impl_generics_lem, type_generics_lem, w
 use Rattle.writing.specs.Answer.{answer}
 use Rattle.writing.specs.Answer.{full_answer, MOST, most_added, Fits}
 use Rattle.writing.proofs.Written.{still_first, parted_append}
-use Rattle.writing.proofs.Refusals.{write_refusal}
+use Rattle.writing.proofs.Refusals.{write_refusal, write_read}
 use Rattle.writing.proofs.Lengths.{type_fits, additional_fits, added_most}
 use Rattle.generate.specs.Contract.{Appended, Built, shaped, goes_out, parameters_by, writer, Answered}
 use Rattle.generate.specs.Contract.{Reported}
@@ -53,13 +58,13 @@ shaped-sent : (names : Bool) (ps : List Parameter)
 shaped-sent names [] = refl
 shaped-sent names (p ∷ ps) = ap (λ (qs : List Parameter). goes_out names p ∷ qs) (shaped-sent names ps)
 
-pub angled : {k l m o q : List ℕ} {b c d e r : StreamBuilder} {first : Bool} (names : Bool) (ls ts : List ℕ)
-    (ps : List Parameter) → first ≡ eqb (length ls) 0 → Appended k l b c (punct LESS ∷ [])
-    → Appended l m c d (parted true (map added_lifetime (names_of ls)))
-    → Appended m o d e (parted first (map (goes_out names) ps ++ map added_type (names_of ts)))
-    → Appended o q e r (punct GREATER ∷ [])
-    → Appended k q b r (angled_rows (parameters_by names ls ts (map sent_parameter ps)))
-angled {k} {q = q} {b} {r = r} {first = first} names ls ts ps f less lifetimes others greater =
+pub angled : {b c d e r : StreamBuilder} {first : Bool} (names : Bool) (ls ts : List ℕ)
+    (ps : List Parameter) → first ≡ eqb (length ls) 0 → Appended b c (punct LESS ∷ [])
+    → Appended c d (parted true (map added_lifetime (names_of ls)))
+    → Appended d e (parted first (map (goes_out names) ps ++ map added_type (names_of ts)))
+    → Appended e r (punct GREATER ∷ [])
+    → Appended b r (angled_rows (parameters_by names ls ts (map sent_parameter ps)))
+angled {b} {r = r} {first = first} names ls ts ps f less lifetimes others greater =
     let front = map added_lifetime (names_of ls) in
     let back = map (goes_out names) ps ++ map added_type (names_of ts) in
     let still : first ≡ still_first true front = f ∙ sym (first_still ls) in
@@ -67,35 +72,43 @@ angled {k} {q = q} {b} {r = r} {first = first} names ls ts ps f less lifetimes o
     ap (λ (x : Bool). parted true front ++ parted x back) still ∙ sym (parted_append true front back) in
     let sent = ap (λ (qs : List Parameter). parted true (front ++ (qs ++ map added_type (names_of ts))))
     (shaped-sent names ps) in
-    subst (λ (rs : List Row). Appended k q b r (punct LESS ∷ rs ++ punct GREATER ∷ [])) (rows ∙ sent)
+    subst (λ (rs : List Row). Appended b r (punct LESS ∷ rs ++ punct GREATER ∷ [])) (rows ∙ sent)
     (then less (then (then lifetimes others) greater))
 
 -- ## Generics
 
 -- none stand there
-pub none_built : {v w : Bool} {k l : List ℕ} {r : StreamBuilder} (f : List Parameter → List Parameter) {g : Generics}
-    → v ≡ w → g ≡ without → Built v k l r [] → Built w k l r (generics_rows f g)
-none_built {v} {k = k} {l = l} {r = r} f {g} w e h =
-    subst (λ (x : Bool). Built x k l r (generics_rows f g)) w
-    (subst (λ (g : Generics). Built v k l r (generics_rows f g)) (sym e) h)
+pub none_put : {v w : Bool} {k : List ℕ} {r : StreamBuilder} (f : List Parameter → List Parameter) {g : Generics}
+    → v ≡ w → g ≡ without → Built v k r [] → Put k r.out.now 0 r.bytes (list_of w (generics_rows f g))
+none_put {v} {k = k} {r} f {g} w e h =
+    subst (λ (x : Bool). Put k r.out.now 0 r.bytes (list_of x (generics_rows f g))) w
+    (subst (λ (g : Generics). Put k r.out.now 0 r.bytes (list_of v (generics_rows f g))) (sym e) h.put)
 
-pub some_built : {v w : Bool} {k l m : List ℕ} {b r : StreamBuilder} (f : List Parameter → List Parameter)
-    {g : Generics}
-    (ps : List Parameter) → v ≡ w → g ≡ Generics.angled ps → Built v k l b []
-    → Appended l m b r (angled_rows (f (map sent_parameter ps))) → Built w k m r (generics_rows f g)
-some_built {v} {k = k} {m = m} {r = r} f {g} ps w e h a =
-    subst (λ (x : Bool). Built x k m r (generics_rows f g)) w
-    (subst (λ (g : Generics). Built v k m r (generics_rows f g)) (sym e) (further_built h a))
+pub some_put : {v w : Bool} {k : List ℕ} {b r : StreamBuilder} (f : List Parameter → List Parameter)
+    {g : Generics} (ps : List Parameter) → v ≡ w → g ≡ Generics.angled ps → Built v k b []
+    → Appended b r (angled_rows (f (map sent_parameter ps))) → Put k r.out.now 0 r.bytes (list_of w (generics_rows f g))
+some_put {v} {k = k} {r = r} f {g} ps w e h a =
+    subst (λ (x : Bool). Put k r.out.now 0 r.bytes (list_of x (generics_rows f g))) w
+    (subst (λ (g : Generics). Put k r.out.now 0 r.bytes (list_of v (generics_rows f g))) (sym e)
+    (further_built h a).put)
 
 -- ## A declaration that was read
 
-module _ (m : Bool) (w : Writer) (n : ℕ) {d : Declaration} {rs : List ℕ} {us : Trees} {t : Took Declaration}
-    (e : t ≡ took d rs us) where
-  pub right_answer : w.right ≡ true → fitted n (item_answer m w t) ≡ fitted n (Answer.wrote (text m w d))
-  right_answer r = ap (λ (t : Took Declaration). fitted n (item_answer m w t)) e ∙ ap (fitted n) (chosen _ _ _ r)
+module _ (w : Writer) (s : List ℕ) (m : ℕ) {n : ℕ} (passed : list.passed n ≡ list.check s) {c : Cursor}
+    (start : c ≡ start_of s) where
+  pub read_answer : {t : Took Declaration} → item c.row (stream s c) ≡ t
+      → answer w s m ≡ fitted m (item_answer (marked s) w t)
+  read_answer e =
+      write_read w s m (sym passed)
+      ∙ ap (λ (t : Took Declaration). fitted m (item_answer (marked s) w t))
+      (ap (λ (x : Cursor). item x.row (stream s x)) (sym start) ∙ e)
 
-  pub wrong_answer : w.right ≡ false → fitted n (item_answer m w t) ≡ Answer.refused 30 list.END
-  wrong_answer r = ap (λ (t : Took Declaration). fitted n (item_answer m w t)) e ∙ ap (fitted n) (passed_over _ _ _ r)
+  module _ {d : Declaration} {rs : List ℕ} {us : Trees} (e : item c.row (stream s c) ≡ took d rs us) where
+    pub right_answer : w.right ≡ true → answer w s m ≡ fitted m (Answer.wrote (text (marked s) w d))
+    right_answer r = read_answer e ∙ ap (fitted m) (chosen _ _ _ r)
+
+    pub wrong_answer : w.right ≡ false → answer w s m ≡ Answer.refused 30 list.END
+    wrong_answer r = read_answer e ∙ ap (fitted m) (passed_over _ _ _ r)
 
 -- ## The three writers
 
@@ -118,7 +131,7 @@ additional-writer ls ts = λ i. record {
 pub type-writer : writer true [] [] ≡ type_generics_lem
 type-writer = λ i. record { parameters = λ ps. append-nil (map (shaped true) ps) i; right = true }
 
-pub answered : {s x y : List ℕ} {r : Written} {v w : Writer} → v ≡ w → WrittenAs x y (answer v s (length x)) r
+pub answered : {s x y : List ℕ} {r : Result ℕ Refusal} {v w : Writer} → v ≡ w → WrittenAs x y (answer v s (length x)) r
     → Answered w s x y r
 answered {s} {x} {w = w} e h =
     record {
@@ -129,16 +142,16 @@ answered {s} {x} {w = w} e h =
 -- ## What is printed
 
 -- no text that is printed is longer
-answer_length : (w : Writer) {most : ℕ} {s x y : List ℕ} → Fits w most s (length x) → 64 ≤ most → (r : Written)
+answer_length : (w : Writer) {most : ℕ} {s x y : List ℕ} → Fits w most s (length x) → 64 ≤ most → (r : Result ℕ Refusal)
     → WrittenAs x y (answer w s (length x)) r → at_most r ≤ most
 unfolding answer
-answer_length w {s = s} {x} {y} f l (writtens.Text n) h =
+answer_length w {s = s} {x} {y} f l (Ok n) h =
     let same = fitted_wrote (length x) (full_answer w s) (sym h.answer) in
     omega (arith, f.longest (take n y) same, length-take-le n y h.room)
-answer_length w f l (writtens.Refused r) h = l
+answer_length w f l (Err r) h = l
 
 reported : (w : Writer) {most more n : ℕ} {s x y z : List ℕ} → Fits w most s (length x) → most ≤ more → 64 ≤ most
-    → (r : Written) → WrittenAs x z (answer w s (length x)) r → n ≤ at_most r
+    → (r : Result ℕ Refusal) → WrittenAs x z (answer w s (length x)) r → n ≤ at_most r
     → Printed x y n (answer_text (answer w s (length x))) → Reported w more s x y n
 reported w {s = s} {x} f l m r h few p =
     record {
@@ -148,13 +161,13 @@ reported w {s = s} {x} f l m r h few p =
       refusal = write_refusal w s (length x);
     }
 
-pub reported_type : {n : ℕ} (s x : List ℕ) {y z : List ℕ} (r : Written) → Answered type_generics_lem s x z r
+pub reported_type : {n : ℕ} (s x : List ℕ) {y z : List ℕ} (r : Result ℕ Refusal) → Answered type_generics_lem s x z r
     → n ≤ at_most r
     → Printed x y n (answer_text (answer type_generics_lem s (length x))) → Reported type_generics_lem MOST s x y n
 reported_type s x r h few p =
     reported type_generics_lem (type_fits s (length x)) (omega arith) (omega arith) r h.answered few p
 
-pub reported_additional : {n : ℕ} (ls ts s x : List ℕ) {y z : List ℕ} (r : Written)
+pub reported_additional : {n : ℕ} (ls ts s x : List ℕ) {y z : List ℕ} (r : Result ℕ Refusal)
     → Answered (with_additional_lem ls ts) s x z r → n ≤ at_most r
     → Printed x y n (answer_text (answer (with_additional_lem ls ts) s (length x)))
     → Reported (with_additional_lem ls ts) (most_added (length ls) (length ts)) s x y n

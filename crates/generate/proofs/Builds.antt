@@ -11,7 +11,7 @@ use Rattle.token_list.specs.Layout.{names}
 use Rattle.token_list.specs.Row.{Row, mark_column_lem, written}
 use Rattle.token_list.specs.Rows.{list_of}
 use Rattle.token_list.proofs.Rows.{written_append}
-use Rattle.output.specs.Contract.{FAR, further, Put}
+use Rattle.output.specs.Contract.{FAR, Put}
 use Rattle.output.proofs.Texts.{joined, nothing, retold}
 use Rattle.writing.proofs.Copied.{part_of}
 use Rattle.generate.specs.Contract.{row, Appended, Built}
@@ -20,39 +20,37 @@ use Rattle.generate.specs.declared.stream_builder.StreamBuilder.{StreamBuilder}
 -- ## Parts of a list
 
 -- rows made of a part of a list
-pub of_part : {k l : List ℕ} {a b : StreamBuilder} (rows : List ℕ → List Row) (f t : ℕ) (s : List ℕ)
-    → Appended k l a b (rows (take (t - f) (drop f s))) → Appended k l a b (rows (slice f t s))
-of_part {k} {l} {a} {b} rows f t s h = subst (λ (x : List ℕ). Appended k l a b (rows x)) (part_of f t s) h
+pub of_part : {a b : StreamBuilder} (rows : List ℕ → List Row) (f t : ℕ) (s : List ℕ)
+    → Appended a b (rows (take (t - f) (drop f s))) → Appended a b (rows (slice f t s))
+of_part {a} {b} rows f t s h = subst (λ (x : List ℕ). Appended a b (rows x)) (part_of f t s) h
 
 -- ## Rows one after the other
 
 -- a row, by its five parts
-pub row_put : {k l m n o p t : List ℕ} {a b c d e f kind rows counted : ℕ} {w j : Bool} → Put k l a b (kind ∷ [])
+pub row_put : {k l m n o p t : List ℕ} {a b c d e f kind : ℕ} (w j : Bool) → Put k l a b (kind ∷ [])
     → Put l m b c (SPACE ∷ []) → Put m n c d (mark_column_lem w j)
-    → Put n o d e t → Put o p e f (LF ∷ []) → counted ≡ further rows 1
-    → Appended k p (record { rows = rows; bytes = a; marked = w }) (record { rows = counted; bytes = f; marked = w })
-    (row kind j t ∷ [])
-row_put p q x r s h = record { marked = refl; rows = h; put = joined p (joined q (joined x (joined r s))) }
+    → Put n o d e t → Put o p e f (LF ∷ []) → Put k p a f (written w (row kind j t ∷ []))
+row_put w j p q x r s = joined p (joined q (joined x (joined r s)))
 
-pub then : {k l m : List ℕ} {a b c : StreamBuilder} {rs qs : List Row} → Appended k l a b rs → Appended l m b c qs →
-    Appended k m a c (rs ++ qs)
-then {k} {l} {m} {a} {b} {c} {rs} {qs} p q =
-    let second : Put l m b.bytes c.bytes (written a.marked qs) =
+pub then : {a b c : StreamBuilder} {rs qs : List Row} → Appended a b rs → Appended b c qs → Appended a c (rs ++ qs)
+then {a} {b} {c} {rs} {qs} p q =
+    let second : Put b.out.now c.out.now b.bytes c.bytes (written a.marked qs) =
     retold (ap (λ (w : Bool). written w qs) p.marked) q.put in
     record {
+      same_output = q.same_output ∙ p.same_output;
       marked = q.marked ∙ p.marked;
       rows = omega (arith, p.rows, q.rows, length-append rs qs);
       put = retold (sym (written_append a.marked rs qs)) (joined p.put second);
     }
 
 -- a list that was begun, with rows added to it
-pub further_built : {w : Bool} {k l m : List ℕ} {b c : StreamBuilder} {rs qs : List Row} → Built w k l b rs →
-    Appended l m b c qs → Built w k m c (rs ++ qs)
-further_built {w} {k} {l} {m} {b} {c} {rs} {qs} p q =
+pub further_built : {w : Bool} {k : List ℕ} {b c : StreamBuilder} {rs qs : List Row} → Built w k b rs →
+    Appended b c qs → Built w k c (rs ++ qs)
+further_built {w} {k} {b} {c} {rs} {qs} p q =
     let text : list_of w rs ++ written w qs ≡ list_of w (rs ++ qs) =
     append_assoc (names w) (written w rs) (written w qs)
     ∙ ap (λ (t : List ℕ). names w ++ t) (sym (written_append w rs qs)) in
-    let second : Put l m b.bytes c.bytes (written w qs) =
+    let second : Put b.out.now c.out.now b.bytes c.bytes (written w qs) =
     retold (ap (λ (x : Bool). written x qs) p.marked) q.put in
     record {
       marked = q.marked ∙ p.marked;
@@ -61,5 +59,5 @@ further_built {w} {k} {l} {m} {b} {c} {rs} {qs} p q =
     }
 
 -- no rows
-pub unchanged : {k : List ℕ} {b : StreamBuilder} → length k < FAR → Appended k k b b []
-unchanged {k} {b} h = record { marked = refl; rows = omega arith; put = nothing k b.bytes h }
+pub unchanged : {b : StreamBuilder} → length b.out.now < FAR → Appended b b []
+unchanged {b} h = record { same_output = refl; marked = refl; rows = omega arith; put = nothing b.out.now b.bytes h }

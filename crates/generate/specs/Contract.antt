@@ -1,20 +1,20 @@
 -- What ties a StreamBuilder's counts and the output to the rows that were added.
 use Rattle.std.specs.Prelude.{◌≡◌, List, [], ◌∷◌, ◌++◌, map, Bool, true, false, cond, ◌&&◌, ◌||◌, ℕ, ◌+◌, ◌-◌, ◌≤◌, ◌<◌}
-use Rattle.std.specs.Prelude.{eqb, length, take, drop}
+use Rattle.std.specs.Prelude.{eqb, length, take, drop, Result}
 use Rattle.std.proofs.Math.Seq.{slice}
-use Rattle.token_list.specs.Byte.{QUOTE}
+use Rattle.token_list.specs.Byte.{QUOTE, COMMA}
 use Rattle.token_list.specs.Layout.{PUNCT, NAMES_DIFFER, marked}
 use Rattle.token_list.specs.Row.{Row, written}
-use Rattle.token_list.specs.Rows.{ident, list_of}
+use Rattle.token_list.specs.Rows.{ident, punct, list_of}
 use Rattle.token_list.specs.Stream.{Trees, rows_at}
 use Rattle.token_list.specs.Contract.{RightRows}
 use Rattle.token_list.specs.Place.{OneRefusal}
 use Rattle.token_list.specs.declared.check.Cursor.{Cursor}
+use Rattle.token_list.specs.declared.check.Refusal.{Refusal}
 use Rattle.token_list.specs.declared.stream.Token.{Token}
 use Rattle.output.specs.Contract.{further, Put, Printed}
 use Rattle.output.specs.Answer.{refused, answer_text}
 use Rattle.output.specs.Written.{WrittenAs}
-use Rattle.output.specs.declared.written.Written.{Written}
 use Rattle.writing.specs.Rows.{run_rows, sent_row, sent}
 use Rattle.writing.specs.Names.{names_of, right_names, name_line, quoted}
 use Rattle.writing.specs.Answer.{Writer, full_answer, answer, write_number}
@@ -29,6 +29,7 @@ use Rattle.parse.specs.declared.generics.RunPart.{RunPart}
 use Rattle.parse.specs.declared.generics.RunPart.TheVariants as run_parts
 use Rattle.parse.specs.declared.runs.Run.{Run}
 use Rattle.parse.specs.declared.generics.ParameterAt.{ParameterAt}
+use Rattle.generate.specs.declared.generics.Form.{Form}
 use Rattle.generate.specs.declared.parameter.ConstraintsAt.{ConstraintsAt}
 use Rattle.generate.specs.declared.stream_builder.StreamBuilder.{StreamBuilder}
 use Rattle.generate.specs.declared.names.Gathered.{Gathered}
@@ -40,18 +41,24 @@ row k j t = record { kind = k; joint = j; text = t }
 abbrev pub sent_mark_lem : ℕ → Bool → ℕ → Bool
 sent_mark_lem k j b = j || eqb k PUNCT && eqb b QUOTE
 
--- an output was `before` and is `after`: the list of the rows rs, with marks or without, stands from its start on, as
--- far as there is room
-pub record Built (m : Bool) (before after : List ℕ) (r : StreamBuilder) (rs : List Row) : Type 0 where
+-- an output was `before`: the list of the rows rs, with marks or without, stands from its start on, as far as there is
+-- room
+pub record Built (m : Bool) (before : List ℕ) (r : StreamBuilder) (rs : List Row) : Type 0 where
   pub marked : r.marked ≡ m
   pub rows : r.rows ≡ further 0 (length rs)
-  pub put : Put before after 0 r.bytes (list_of m rs)
+  pub put : Put before r.out.now 0 r.bytes (list_of m rs)
 
--- the rows rs stand behind those of the builder b
-pub record Appended (before after : List ℕ) (b r : StreamBuilder) (rs : List Row) : Type 0 where
+-- the rows rs stand behind those of the builder b, in the same output
+pub record Appended (b r : StreamBuilder) (rs : List Row) : Type 0 where
+  pub same_output : r.out.ghost_name ≡ b.out.ghost_name
   pub marked : r.marked ≡ b.marked
   pub rows : r.rows ≡ further b.rows (length rs)
-  pub put : Put before after b.bytes r.bytes (written b.marked rs)
+  pub put : Put b.out.now r.out.now b.bytes r.bytes (written b.marked rs)
+
+-- a `,`, but not before the first
+abbrev pub comma : Bool → List Row
+comma true = []
+comma false = punct COMMA ∷ []
 
 -- the rows of the list s from a cursor up to another
 abbrev pub between : List ℕ → Cursor → Cursor → List Row
@@ -68,8 +75,8 @@ pub record Part (s : List ℕ) (from to : Cursor) : Type 0 where
   pub right_rows : RightRows s from.at
 
 -- they are appended as they go out
-abbrev pub Extended : (s : List ℕ) (from to : Cursor) (before after : List ℕ) (b r : StreamBuilder) → Type 0
-Extended s from to before after b r = Appended before after b r (map sent_row (between s from to))
+abbrev pub Extended : (s : List ℕ) (from to : Cursor) (b r : StreamBuilder) → Type 0
+Extended s from to b r = Appended b r (map sent_row (between s from to))
 
 -- the first name of the text t from `from` on ends at e; the next ones begin after the LF there
 pub record NameEnd (t : List ℕ) (from e : ℕ) : Type 0 where
@@ -83,10 +90,8 @@ added true t = added_lifetime t
 added false t = added_type t
 
 -- whichever run the rows between two cursors are, the rows that f makes of it as it goes out are appended
-abbrev pub RunWritten : (s : List ℕ) (from to : Cursor) (before after : List ℕ) (b r : StreamBuilder)
-    → (Trees → List Row) → Type 0
-RunWritten s from to before after b r f =
-    (ts : Trees) → between s from to ≡ run_rows ts → Appended before after b r (f (sent ts))
+abbrev pub RunWritten : (s : List ℕ) (from to : Cursor) (b r : StreamBuilder) → (Trees → List Row) → Type 0
+RunWritten s from to b r f = (ts : Trees) → between s from to ≡ run_rows ts → Appended b r (f (sent ts))
 
 -- `:` and a run: always, as a const has it, or where it is not empty
 abbrev pub constrained : Bool → Trees → List Row
@@ -157,8 +162,15 @@ right_texts ls ts = right_names (names_of ls) && right_names (names_of ts)
 abbrev pub writer : Bool → List ℕ → List ℕ → Writer
 writer names ls ts = record { parameters = parameters_by names ls ts; right = right_texts ls ts }
 
+-- the same by the code's record of them
+abbrev pub parameters_in : Form → List Parameter → List Parameter
+parameters_in f = parameters_by f.names f.lifetimes.now f.types.now
+
+abbrev pub writer_in : Form → Writer
+writer_in f = writer f.names f.lifetimes.now f.types.now
+
 -- the whole answer of a writer for a list s, the whole output, and what holds of a refusal
-pub record Answered (w : Writer) (s before after : List ℕ) (r : Written) : Type 0 where
+pub record Answered (w : Writer) (s before after : List ℕ) (r : Result ℕ Refusal) : Type 0 where
   pub answered : WrittenAs before after (answer w s (length before)) r
   pub refusal : (n p : ℕ) → answer w s (length before) ≡ refused n p → OneRefusal write_number s n p
 

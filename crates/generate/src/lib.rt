@@ -2,7 +2,6 @@
 #![tactic(auto)]
 
 pub mod generics;
-pub mod lent;
 pub mod names;
 pub mod parameter;
 pub mod stream_builder;

@@ -5,17 +5,18 @@ ghost use Rattle.std.proofs.Math.Seq.{slice};
 ghost use Rattle.token_list.specs.Row.{mark_byte, mark_column_lem};
 ghost use Rattle.token_list.specs.Rows.{ident, punct, lifetime_rows};
 ghost use Rattle.output.specs.Contract.{further, Put};
-ghost use Rattle.generate.specs.Contract.{row, sent_mark_lem, Built, Appended, Extended, Part};
+ghost use Rattle.generate.specs.Contract.{row, sent_mark_lem, Built, Appended, Extended, Part, comma};
 
 use output::put::{FAR, put_byte, put_bytes, put_names};
 use token_list::check::Cursor;
 use token_list::layout::is_marked;
 use token_list::stream::{Token, token_at};
 
-// How many rows and bytes the list has, where both stop at a number past every output; and whether
-// its rows have marks.
-#[derive(Clone, Copy)]
-pub struct StreamBuilder {
+// The output, how many rows and bytes its list has, where both stop at a number past every output; and whether its
+// rows have marks.
+#[derive(Drop)]
+pub struct StreamBuilder<'a> {
+    pub out: &'a mut [u8],
     pub rows: usize,
     pub bytes: usize,
     pub marked: bool,
@@ -26,22 +27,17 @@ fn counted(rows: usize, n: usize) -> usize
     ensures { result ≡ further rows n }
 {
     if FAR <= rows {
-        return rows;
+        rows
+    } else {
+        rows + n.min(FAR - rows)
     }
-    if FAR - rows < n {
-        return FAR;
-    }
-    rows + n
 }
 
 // The byte of a mark.
 fn mark_byte(joint: bool) -> u8
     ensures { result ≡ mark_byte joint }
 {
-    if joint {
-        return b'1';
-    }
-    b'0'
+    if joint { b'1' } else { b'0' }
 }
 
 // The column of a mark, where rows have one.
@@ -59,22 +55,18 @@ fn put_mark(out: &mut [u8], at: usize, marked: bool, joint: bool) -> usize
 fn sent_mark(t: Token) -> bool
     ensures { result ≡ sent_mark_lem t.kind t.joint t.byte }
 {
-    if t.joint {
-        return true;
-    }
-    if t.kind != b'p' {
-        return false;
-    }
-    t.byte == b'\''
+    t.joint || t.kind == b'p' && t.byte == b'\''
 }
 
-impl StreamBuilder {
+impl<'a> StreamBuilder<'a> {
     // A list without rows: its line of names.
-    pub fn new(out: &mut [u8], marked: bool) -> StreamBuilder
-        ensures { Built marked out.old out.new result [] }
+    pub fn new(out: &'a mut [u8], marked: bool) -> StreamBuilder<'a>
+        ensures same_output { result.out.ghost_name ≡ out.entry.ghost_name }
+        ensures built { Built marked out.old result [] }
     {
         let bytes = put_names(out, 0, marked);
         StreamBuilder {
+            out,
             rows: 0,
             bytes,
             marked,
@@ -82,106 +74,89 @@ impl StreamBuilder {
     }
 
     // A row of this kind.
-    fn row(self, out: &mut [u8], kind: u8, joint: bool, text: &[u8]) -> StreamBuilder
-        ensures { Appended out.old out.new self result
-            (row kind joint text.now ∷ []) }
+    fn row(&mut self, kind: u8, joint: bool, text: &[u8])
+        ensures { Appended self.old self.new (row kind joint text.now ∷ []) }
     {
-        let space = put_byte(out, self.bytes, kind);
-        let mark = put_byte(out, space, b' ');
-        let start = put_mark(out, mark, self.marked, joint);
-        let end = put_bytes(out, start, text);
-        let bytes = put_byte(out, end, b'\n');
-        let rows = counted(self.rows, 1);
-        StreamBuilder {
-            rows,
-            bytes,
-            marked: self.marked,
-        }
+        let space = put_byte(self.out, self.bytes, kind);
+        let mark = put_byte(self.out, space, b' ');
+        let start = put_mark(self.out, mark, self.marked, joint);
+        let end = put_bytes(self.out, start, text);
+        self.bytes = put_byte(self.out, end, b'\n');
+        self.rows = counted(self.rows, 1);
     }
 
     // A punctuation, joint where it is a `'`.
-    pub fn punct(self, out: &mut [u8], p: u8) -> StreamBuilder
-        ensures { Appended out.old out.new self result (punct p ∷ []) }
+    pub fn punct(&mut self, p: u8)
+        ensures { Appended self.old self.new (punct p ∷ []) }
     {
-        let text = [p];
-        self.row(out, b'p', p == b'\'', &text)
+        self.row(b'p', p == b'\'', &[p]);
+    }
+
+    // The `,` between parameters: not before the first.
+    pub fn part(&mut self, first: bool)
+        ensures { Appended self.old self.new (comma first) }
+    {
+        if !first {
+            self.punct(b',');
+        }
     }
 
     // A name.
-    pub fn ident_str(self, out: &mut [u8], name: &[u8]) -> StreamBuilder
-        ensures { Appended out.old out.new self result (ident name.now ∷ []) }
+    pub fn ident_str(&mut self, name: &[u8])
+        ensures { Appended self.old self.new (ident name.now ∷ []) }
     {
-        self.row(out, b'i', false, name)
+        self.row(b'i', false, name);
     }
 
     // The name that a token of the list s is.
-    pub fn ident(self, out: &mut [u8], s: &[u8], t: Token) -> StreamBuilder
+    pub fn ident(&mut self, s: &[u8], t: Token)
         requires { (t.start ≤ t.end) × (t.end ≤ length s.now) }
-        ensures { Appended out.old out.new self result
+        ensures { Appended self.old self.new
             (ident (slice t.start t.end s.now) ∷ []) }
     {
-        let start = t.start;
-        let end = t.end;
-        self.ident_str(out, &s[start..end])
+        self.ident_str(&s[t.start..t.end]);
     }
 
     // `'` and a name.
-    pub fn lifetime_str(self, out: &mut [u8], name: &[u8]) -> StreamBuilder
-        ensures { Appended out.old out.new self result (lifetime_rows name.now) }
+    pub fn lifetime_str(&mut self, name: &[u8])
+        ensures { Appended self.old self.new (lifetime_rows name.now) }
     {
-        let quoted = self.punct(out, b'\'');
-        quoted.ident_str(out, name)
+        self.punct(b'\'');
+        self.ident_str(name);
     }
 
     // `'` and the name that a token of the list s is.
-    pub fn lifetime(self, out: &mut [u8], s: &[u8], t: Token) -> StreamBuilder
+    pub fn lifetime(&mut self, s: &[u8], t: Token)
         requires { (t.start ≤ t.end) × (t.end ≤ length s.now) }
-        ensures { Appended out.old out.new self result
+        ensures { Appended self.old self.new
             (lifetime_rows (slice t.start t.end s.now)) }
     {
-        let start = t.start;
-        let end = t.end;
-        self.lifetime_str(out, &s[start..end])
+        self.lifetime_str(&s[t.start..t.end]);
     }
 
     // The rows of the list s from a cursor up to another, each as it goes out.
-    fn copy_rows(self, out: &mut [u8], s: &[u8], from: Cursor, to: Cursor) -> StreamBuilder
+    fn copy_rows(&mut self, s: &[u8], from: Cursor, to: Cursor)
         requires { Part s.now from to }
-        ensures { Extended s.now from to out.old out.new self result }
+        ensures { Extended s.now from to self.old self.new }
     {
-        let mut builder = self;
         let mut at = from.at;
-        let mut row = from.row;
-        while row < to.row {
+        for _row in from.row..to.row {
             let t = token_at(s, at);
-            let start = t.start;
-            let end = t.end;
-            builder = builder.row(out, t.kind, sent_mark(t), &s[start..end]);
+            self.row(t.kind, sent_mark(t), &s[t.start..t.end]);
             at = t.next;
-            row += 1;
         }
-        builder
     }
 
     // The same; where neither list has marks, the rows are copied as one part.
-    pub fn extend(self, out: &mut [u8], s: &[u8], from: Cursor, to: Cursor) -> StreamBuilder
+    pub fn extend(&mut self, s: &[u8], from: Cursor, to: Cursor)
         requires { Part s.now from to }
-        ensures { Extended s.now from to out.old out.new self result }
+        ensures { Extended s.now from to self.old self.new }
     {
-        if self.marked {
-            return self.copy_rows(out, s, from, to);
-        }
-        if is_marked(s) {
-            return self.copy_rows(out, s, from, to);
-        }
-        let start = from.at;
-        let end = to.at;
-        let bytes = put_bytes(out, self.bytes, &s[start..end]);
-        let rows = counted(self.rows, to.row - from.row);
-        StreamBuilder {
-            rows,
-            bytes,
-            marked: self.marked,
+        if self.marked || is_marked(s) {
+            self.copy_rows(s, from, to);
+        } else {
+            self.bytes = put_bytes(self.out, self.bytes, &s[from.at..to.at]);
+            self.rows = counted(self.rows, to.row - from.row);
         }
     }
 }

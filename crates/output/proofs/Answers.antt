@@ -1,4 +1,5 @@
 -- Laws on the answers of functions that write a text.
+use Rattle.std.specs.Prelude.{Result, Ok, Err}
 use mathlib.Core.Path.{◌≡◌, refl, ap, ◌∙◌, sym, subst⁻¹}
 use mathlib.Core.Logic.{◌⊎◌, inl, inr}
 use mathlib.Core.Bool.{Bool, true, false, cond}
@@ -16,21 +17,19 @@ use Rattle.output.specs.Text.{refusal_text}
 use Rattle.output.specs.Contract.{further, Put, Printed}
 use Rattle.output.specs.Answer.{Answer, wrote, refused, fitted, output, answer_text}
 use Rattle.output.specs.Written.{answer_of, WrittenAs}
-use Rattle.output.specs.declared.written.Written.{Written}
-use Rattle.output.specs.declared.written.Written.TheVariants as writtens
 use Rattle.output.proofs.Texts.{kept, shown}
 
 -- ## A text that was measured
 
 module _ {x : List ℕ} (text : List ℕ) where
   pub fits_not : (n : ℕ) → n ≡ further 0 (length text) → length x < n →
-      WrittenAs x x (fitted (length x) (wrote text)) (writtens.Refused (record { number = 8; place = list.END }))
+      WrittenAs x x (fitted (length x) (wrote text)) (Err (record { number = 8; place = list.END }))
   fits_not n e h =
       let q = chosen _ (refused 8 list.END) (wrote text) (lt-ltb (length x) (length text) (omega (arith, e, h))) in
       record { room = tt; answer = sym q; output = sym (ap (output x) q) }
 
   pub fits : {y : List ℕ} (n : ℕ) → n ≡ further 0 (length text) → n ≤ length x → {r : ℕ} → Put x y 0 r text →
-      WrittenAs x y (fitted (length x) (wrote text)) (writtens.Text r)
+      WrittenAs x y (fitted (length x) (wrote text)) (Ok r)
   fits {y} n e h {r} p =
       let short = le-ltb (length x) (length text) (omega (arith, p.short)) in
       let q = passed_over _ (refused 8 list.END) (wrote text) short in
@@ -43,11 +42,11 @@ module _ {x : List ℕ} (text : List ℕ) where
 
 -- ## An answer by its steps
 
-pub written_as : {x y : List ℕ} {r : Written} {a b : Answer} → b ≡ a → WrittenAs x y a r → WrittenAs x y b r
+pub written_as : {x y : List ℕ} {r : Result ℕ Refusal} {a b : Answer} → b ≡ a → WrittenAs x y a r → WrittenAs x y b r
 written_as {x} {y} {r} e p = subst⁻¹ (λ (z : Answer). WrittenAs x y z r) e p
 
 pub written_refused : {x : List ℕ} {r : Refusal} {a : Answer} → a ≡ refused r.number r.place →
-    WrittenAs x x a (writtens.Refused r)
+    WrittenAs x x a (Err r)
 written_refused {x} e = record { room = tt; answer = sym e; output = sym (ap (output x) e) }
 
 -- the first e bytes of an output x were lent
@@ -67,8 +66,9 @@ module _ (x : List ℕ) (e : ℕ) (within : e ≤ length x) where
       ∙ ap (drop (0 + length t)) (take-append-drop e x))
       ∙ sym (sets-eq t x 0 (omega arith))
 
-  pub widened : {y : List ℕ} {a : Answer} (r : Written) → WrittenAs (take e x) y a r → WrittenAs x (y ++ drop e x) a r
-  widened {y} {a} (writtens.Text n) h =
+  pub widened : {y : List ℕ} {a : Answer} (r : Result ℕ Refusal)
+      → WrittenAs (take e x) y a r → WrittenAs x (y ++ drop e x) a r
+  widened {y} {a} (Ok n) h =
       let text = take n y in
       let same : a ≡ wrote text = sym h.answer in
       let filled : y ≡ sets (take e x) 0 text = h.output ∙ ap (output (take e x)) same in
@@ -79,7 +79,7 @@ module _ (x : List ℕ) (e : ℕ) (within : e ≤ length x) where
         answer = ap wrote (take-append-le n y (drop e x) h.room) ∙ h.answer;
         output = ap (λ (l : List ℕ). l ++ drop e x) filled ∙ sets_front text few ∙ sym (ap (output x) same);
       }
-  widened {y} {a} (writtens.Refused r) h =
+  widened {y} {a} (Err r) h =
       let same : a ≡ refused r.number r.place = sym h.answer in
       let kept = h.output ∙ ap (output (take e x)) same in
       record {
@@ -134,12 +134,12 @@ fitted-same n (refused m p) h l = refl
 -- ## What is printed
 
 module _ {x y : List ℕ} {a : Answer} where
-  pub text_printed : {n : ℕ} → WrittenAs x y a (writtens.Text n) → Printed x y n (answer_text a)
+  pub text_printed : {n : ℕ} → WrittenAs x y a (Ok n) → Printed x y n (answer_text a)
   text_printed {n} l =
-      let q : a ≡ answer_of y (writtens.Text n) = sym l.answer in
+      let q : a ≡ answer_of y (Ok n) = sym l.answer in
       rw q (record { counted = sym (length-take-le n y l.room); bytes = l.output ∙ ap (output x) q })
 
-  pub refusal_printed : {z : List ℕ} {n : ℕ} {r : Refusal} → WrittenAs x y a (writtens.Refused r) →
+  pub refusal_printed : {z : List ℕ} {n : ℕ} {r : Refusal} → WrittenAs x y a (Err r) →
       Printed y z n (refusal_text r.number r.place) → Printed x z n (answer_text a)
   refusal_printed {z} {n} {r} l p =
       let q : a ≡ refused r.number r.place = sym l.answer in

@@ -25,10 +25,6 @@ appended_stored {k} {l} {s} {h} fits p = record {
   full = λ over. absurd (omega arith);
 }
 
--- a text for which there is no room
-pub appended_not : {l s : List ℕ} {h i : ℕ} → length l < h + length s → length l < i → Appended l l h i s
-appended_not over past = record { kept = refl; room = λ fits. absurd (omega arith); full = λ _. past }
-
 -- the same text by another name
 pub appended_as : {k l s t : List ℕ} {h i : ℕ} → s ≡ t → Appended k l h i s → Appended k l h i t
 appended_as {k} {l} {s} {t} {h} {i} e p = subst (λ (x : List ℕ). Appended k l h i x) e p

@@ -34,10 +34,6 @@ sets_further l i n t h = go (dec_le (i + n) FAR)
 pub nothing : (l : List ℕ) (i : ℕ) → length l < FAR → Put l l i i []
 nothing l i h = record { next = omega arith; bytes = refl; short = h }
 
--- a byte for which there is no room
-pub left_out : {l : List ℕ} {i r b : ℕ} → length l ≤ i → length l < FAR → r ≡ further i 1 → Put l l i r (b ∷ [])
-left_out {l} {i} {r} {b} past h e = record { next = e; bytes = sym (set_out l i b past); short = h }
-
 -- the same text by another name
 pub retold : {k l s t : List ℕ} {h i : ℕ} → s ≡ t → Put k l h i s → Put k l h i t
 retold {k} {l} {s} {t} {h} {i} e p = subst (λ (x : List ℕ). Put k l h i x) e p

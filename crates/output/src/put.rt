@@ -1,7 +1,7 @@
 // Texts, numbers and refusals, written from a place of the output on. Each function answers where
 // the next text goes. What does not fit is left out: put_.. count it all the same, up to a place that
 // no output has, and append.. answer a place past the output.
-ghost use Rattle.std.specs.Prelude.{◌+◌, ◌≤◌, ◌≡◌, [], ◌∷◌, ◌++◌, length};
+ghost use Rattle.std.specs.Prelude.{◌+◌, ◌≤◌, ◌≡◌, [], ◌∷◌, ◌++◌, length, leb};
 ghost use Rattle.std.proofs.lemmas.List.Edits.{sets};
 ghost use Rattle.token_list.specs.Byte.{SPACE, LF};
 ghost use Rattle.token_list.specs.Layout.{names};
@@ -18,12 +18,15 @@ pub fn put_byte(out: &mut [u8], at: usize, b: u8) -> usize
 {
     if at < out.len() {
         out[at] = b;
-        return at + 1;
     }
-    if at < FAR {
-        return at + 1;
-    }
-    at
+    if at < FAR { at + 1 } else { at }
+}
+
+// Whether n bytes fit from `at` on.
+fn has_room(out: &[u8], at: usize, n: usize) -> bool
+    ensures { result ≡ leb (at + n) (length out.now) }
+{
+    at <= out.len() && n <= out.len() - at
 }
 
 // Stores a text that fits from `at` on.
@@ -31,23 +34,16 @@ pub fn copy_bytes(out: &mut [u8], at: usize, text: &[u8])
     requires { at + length text.now ≤ length out.old }
     ensures { out.new ≡ sets out.old at text.now }
 {
-    let mut i = 0;
-    while i < text.len() {
-        let to = at + i;
-        out[to] = text[i];
-        i += 1;
-    }
+    out[at..at + text.len()].copy_from_slice(text);
 }
 
 // As put_bytes, byte by byte: what does not fit is left out.
 fn put_each(out: &mut [u8], at: usize, text: &[u8]) -> usize
     ensures { Put out.old out.new at result text.now }
 {
-    let mut i = 0;
     let mut end = at;
-    while i < text.len() {
-        end = put_byte(out, end, text[i]);
-        i += 1;
+    for &b in text {
+        end = put_byte(out, end, b);
     }
     end
 }
@@ -55,28 +51,24 @@ fn put_each(out: &mut [u8], at: usize, text: &[u8]) -> usize
 pub fn put_bytes(out: &mut [u8], at: usize, text: &[u8]) -> usize
     ensures { Put out.old out.new at result text.now }
 {
-    if at <= out.len() {
-        let n = text.len();
-        if n <= out.len() - at {
-            copy_bytes(out, at, text);
-            return at + n;
-        }
+    if has_room(out, at, text.len()) {
+        copy_bytes(out, at, text);
+        at + text.len()
+    } else {
+        put_each(out, at, text)
     }
-    put_each(out, at, text)
 }
 
 // A text where it fits; a place past the output where it does not.
 pub fn append(out: &mut [u8], at: usize, text: &[u8]) -> usize
     ensures { Appended out.old out.new at result text.now }
 {
-    if at <= out.len() {
-        let n = text.len();
-        if n <= out.len() - at {
-            copy_bytes(out, at, text);
-            return at + n;
-        }
+    if has_room(out, at, text.len()) {
+        copy_bytes(out, at, text);
+        at + text.len()
+    } else {
+        out.len() + 1
     }
-    out.len() + 1
 }
 
 // A row of this kind, of a list without marks; a place past the output where it does not fit.
@@ -84,23 +76,15 @@ pub fn append_row(out: &mut [u8], at: usize, kind: u8, text: &[u8]) -> usize
     ensures { Appended out.old out.new at result
         (kind ∷ SPACE ∷ text.now ++ LF ∷ []) }
 {
-    let n = text.len();
-    if at < out.len() {
-        let room = out.len() - at;
-        if 3 <= room {
-            if n <= room - 3 {
-                out[at] = kind;
-                let space = at + 1;
-                out[space] = b' ';
-                let start = at + 2;
-                copy_bytes(out, start, text);
-                let end = start + n;
-                out[end] = b'\n';
-                return end + 1;
-            }
-        }
+    if !has_room(out, at, text.len() + 3) {
+        return out.len() + 1;
     }
-    out.len() + 1
+    out[at] = kind;
+    out[at + 1] = b' ';
+    copy_bytes(out, at + 2, text);
+    let end = at + 2 + text.len();
+    out[end] = b'\n';
+    end + 1
 }
 
 // A list's line of names, with marks or without.
@@ -108,9 +92,10 @@ pub fn put_names(out: &mut [u8], at: usize, marked: bool) -> usize
     ensures { Put out.old out.new at result (names marked) }
 {
     if marked {
-        return put_bytes(out, at, b"kind joint text\n");
+        put_bytes(out, at, b"kind joint text\n")
+    } else {
+        put_bytes(out, at, b"kind text\n")
     }
-    put_bytes(out, at, b"kind text\n")
 }
 
 // The decimal digits of n.
@@ -118,12 +103,10 @@ pub fn put_number(out: &mut [u8], at: usize, n: usize) -> usize
     ensures { Put out.old out.new at result (decimal n) }
 {
     if n < 10 {
-        let digit = n as u8;
-        return put_byte(out, at, b'0' + digit);
+        return put_byte(out, at, b'0' + n as u8);
     }
     let end = put_number(out, at, n / 10);
-    let digit = (n % 10) as u8;
-    put_byte(out, end, b'0' + digit)
+    put_byte(out, end, b'0' + (n % 10) as u8)
 }
 
 // A place: its row, or `-` for the end mark.
@@ -131,9 +114,10 @@ pub fn put_place(out: &mut [u8], at: usize, place: usize) -> usize
     ensures { Put out.old out.new at result (place_text place) }
 {
     if place == END {
-        return put_byte(out, at, b'-');
+        put_byte(out, at, b'-')
+    } else {
+        put_number(out, at, place)
     }
-    put_number(out, at, place)
 }
 
 // A refusal, at the start of the output: the line `refused place`, and a line with its number and

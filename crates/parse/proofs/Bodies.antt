@@ -4,24 +4,24 @@ use mathlib.Core.Bool.{Bool, true, false, ◌&&◌}
 use mathlib.Core.List.{List, [], ◌∷◌, ◌++◌, append-nil}
 use Prim.Native.Nat.{ℕ, suc, ◌+◌, ◌-◌, ◌*◌, ◌≤◌, ◌<◌}
 use native.Mathlib.Omega.{arith}
-use borrow.Author.Tests.{le-leb, lt-leb}
+use borrow.Author.Tests.{lt-leb}
 use lib.Dec.{leb}
-use lib.ListN.{length, get_or, set, length-append}
-use lib.Seq.{sets, slice}
+use lib.ListN.{length, get_or, set, drop, length-append, drop_of_length-le}
+use lib.Seq.{sets}
 use Rattle.token_list.specs.Text.{all, digit}
 use Rattle.token_list.specs.Stream.{Trees, size, head, others, follows, at}
 use Rattle.token_list.specs.Contract.{InList, TokenAt, GroupAt, Skipped}
 use Rattle.token_list.specs.declared.check.Cursor.{Cursor}
 use Rattle.token_list.specs.declared.stream.Token.{Token}
-use Rattle.token_list.proofs.Texts.{and_both, and_fails, and_last, slice_next, slice-none}
+use Rattle.token_list.proofs.Texts.{and_fails, and_last, drop_next}
 use Rattle.reading.specs.Took.{Took, took, stopped, Reader, onward, after, pure, ◌>>=◌}
 use Rattle.reading.specs.Reading.{attributes, visibility, one, comma, punct_if, closing, worth_from}
 use Rattle.reading.specs.Token.{negatable}
 use Rattle.parse.specs.Contract.{Prefix, PrefixOf, prefix, any, point, CursorAt, Said, on, no, Meets, stands}
 use Rattle.parse.specs.Contract.{refuses, stream, past_of, Inside, InsideAt, count_shown, body_shown_lem}
 use Rattle.reading.specs.Declaration.{Visibility, UnnamedField, Field, named, tuple, Variant, fields, variants}
-use Rattle.parse.specs.declared.generics.CountStep.{CountStep}
-use Rattle.parse.specs.declared.generics.CountStep.TheVariants as counts
+use Rattle.std.specs.Prelude.{Result, Ok, Err}
+use Rattle.token_list.specs.declared.check.Refusal.{Refusal}
 use Rattle.parse.proofs.Buffer.{sets_append}
 use Rattle.parse.proofs.Meeting.{past_fits, past_in_of, meets_as, meets_no, meets_then, meets_map, meets_inside}
 use Rattle.parse.proofs.Meeting.{after_assoc, after-pure}
@@ -61,6 +61,18 @@ meets_prefix i m n =
     (λ a k. meets_map _ (λ v. record { attributes = a; visibility = v })
     (λ v h. (record { attributes = k.1; visibility = h.1; place = place }, next))
     (meets_inside visibility place.in_list n))
+
+-- and then the other parts
+pub meets_prefixed : {B : Type 0} {s : List ℕ} {c d e : Cursor} {b0 b1 b2 b3 : List ℕ} {sh : B → Type 0} {x : Said}
+    (k : List Trees → Visibility → Reader B) → InList s c
+    → Meets s c b0 b1 any (on d) (attributes c.row (stream s c))
+    → Meets s d b1 b2 any (on e) (visibility d.row (stream s d))
+    → ((p : Prefix) → PrefixOf s c d p × CursorAt s (start_at (point s c)) e →
+    Meets s e b2 b3 sh x (k p.attributes p.visibility e.row (stream s e)))
+    → Meets s c b0 b3 sh x ((attributes >>= λ a. visibility >>= k a) c.row (stream s c))
+meets_prefixed {s = s} {c} k i m n f =
+    meets_as (prefix_then c.row (stream s c) k)
+    (meets_then (λ (p : Prefix). k p.attributes p.visibility) (meets_prefix i m n) f)
 
 -- ## A value, and the `,` that may follow it
 
@@ -163,47 +175,39 @@ pub negatable-start : (t : List ℕ) → negatable t ≡ Negatable 0 t
 unfolding negatable
 negatable-start t = refl
 
-module _ (s : List ℕ) (i e : ℕ) (fits : e ≤ length s) (h : i < e) (n : ℕ) where
-  parts : Negatable n (slice i e s) ≡ ((digit (get_or s i 0) && all digit (slice (i + 1) e s)) && leb
-      (worth_from (n * 10 + (get_or s i 0 - 48)) (slice (i + 1) e s)) LIMIT)
-  parts = ap (Negatable n) (slice_next s i e h fits)
+module _ (t : List ℕ) (i n : ℕ) (h : i < length t) where
+  parts : Negatable n (drop i t) ≡ ((digit (get_or t i 0) && all digit (drop (i + 1) t)) && leb
+      (worth_from (n * 10 + (get_or t i 0 - 48)) (drop (i + 1) t)) LIMIT)
+  parts = ap (Negatable n) (drop_next t i h)
 
-  pub digit_low : get_or s i 0 < 48 → Negatable n (slice i e s) ≡ false
-  digit_low q = parts ∙ and_fails _ _ (and_fails _ _ (and_fails _ _ (lt-leb _ _ q)))
+  pub no_digit : digit (get_or t i 0) ≡ false → Negatable n (drop i t) ≡ false
+  no_digit q = parts ∙ and_fails _ _ (and_fails _ _ q)
 
-  pub digit_high : 48 ≤ get_or s i 0 → 57 < get_or s i 0 → Negatable n (slice i e s) ≡ false
-  digit_high p q = parts ∙ and_fails _ _ (and_fails _ _ (and_last _ _ (le-leb _ _ p) ∙ lt-leb _ _ q))
-
-  pub too_large : 922337203685477580 < n → Negatable n (slice i e s) ≡ false
-  too_large q = parts ∙ go (digit (get_or s i 0) && all digit (slice (i + 1) e s))
-      (lt-leb (worth_from (n * 10 + (get_or s i 0 - 48)) (slice (i + 1) e s)) LIMIT
-      (omega (arith, worth_grows (n * 10 + (get_or s i 0 - 48)) (slice (i + 1) e s))))
+  pub too_large : 922337203685477580 < n → Negatable n (drop i t) ≡ false
+  too_large q = parts ∙ go (digit (get_or t i 0) && all digit (drop (i + 1) t))
+      (lt-leb (worth_from (n * 10 + (get_or t i 0 - 48)) (drop (i + 1) t)) LIMIT
+      (omega (arith, worth_grows (n * 10 + (get_or t i 0 - 48)) (drop (i + 1) t))))
     where
       go : (b : Bool) {k : Bool} → k ≡ false → (b && k) ≡ false
       go true e = e
       go false e = refl
 
-  pub digit_next : 48 ≤ get_or s i 0 → get_or s i 0 ≤ 57 →
-      Negatable n (slice i e s) ≡ Negatable (n * 10 + (get_or s i 0 - 48)) (slice (i + 1) e s)
-  digit_next p q = parts ∙ ap (λ (b : Bool). b && leb (worth_from (n * 10 + (get_or s i 0 - 48)) (slice (i + 1) e s))
-      LIMIT) (and_last _ _ (and_both _ _ (le-leb _ _ p) (le-leb _ _ q)))
-
-pub digits_end : (s : List ℕ) (i e n : ℕ) → e ≤ i → Negatable n (slice i e s) ≡ leb n LIMIT
-digits_end s i e n h = ap (Negatable n) (slice-none s i e h)
-
 -- ## What a count tells of a body
 
-pub count-named : (r : CountStep) (fs : List Field) → count_shown r fs → body_shown_lem r (fields (named fs))
-count-named (counts.At d n) fs h = h
-count-named (counts.Refused r) fs h = h
+pub count-named : (r : Result (Cursor × ℕ) Refusal) (fs : List Field) → count_shown r fs →
+    body_shown_lem r (fields (named fs))
+count-named (Ok (d, n)) fs h = h
+count-named (Err r) fs h = h
 
-pub count_tuple : (r : CountStep) (ts : List UnnamedField) → count_shown r ts → body_shown_lem r (fields (tuple ts))
-count_tuple (counts.At d n) ts h = h
-count_tuple (counts.Refused r) ts h = h
+pub count_tuple : (r : Result (Cursor × ℕ) Refusal) (ts : List UnnamedField) → count_shown r ts →
+    body_shown_lem r (fields (tuple ts))
+count_tuple (Ok (d, n)) ts h = h
+count_tuple (Err r) ts h = h
 
-pub count_variants : (r : CountStep) (vs : List Variant) → count_shown r vs → body_shown_lem r (variants vs)
-count_variants (counts.At d n) vs h = h
-count_variants (counts.Refused r) vs h = h
+pub count_variants : (r : Result (Cursor × ℕ) Refusal) (vs : List Variant) → count_shown r vs →
+    body_shown_lem r (variants vs)
+count_variants (Ok (d, n)) vs h = h
+count_variants (Err r) vs h = h
 
 -- a group's inside, where the reader may read it again
 pub inside_at : {A : Type 0} (m : Reader A) (s : List ℕ) (c d : Cursor) (t : Token) → InList s c → TokenAt s c.at t →

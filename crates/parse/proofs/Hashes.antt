@@ -1,19 +1,18 @@
 -- Laws on attributes, a `#` at a time.
 use mathlib.Core.Path.{◌≡◌, refl, ap, ◌∙◌, sym}
-use mathlib.Core.Bool.{true, false}
+use mathlib.Core.Bool.{true}
 use mathlib.Core.List.{List, [], ◌∷◌}
 use Prim.Native.Nat.{ℕ, ◌+◌}
 use native.Mathlib.Omega.{arith}
-use borrow.Author.Tests.{eq-eqb, ne_eqb}
+use borrow.Author.Tests.{eq-eqb}
 use lib.ListN.{length, set, length-replicate}
 use Rattle.token_list.specs.Byte.{BRACKET, HASH}
-use Rattle.token_list.specs.Check.{END}
-use Rattle.token_list.specs.Stream.{Trees, end, head, at}
+use Rattle.token_list.specs.Stream.{Trees, head, at}
 use Rattle.token_list.specs.Contract.{InList, LeafAt, GroupAt, row_of}
 use Rattle.token_list.specs.declared.check.Cursor.{Cursor}
 use Rattle.token_list.specs.declared.stream.Token.{Token}
-use Rattle.token_list.proofs.Texts.{chosen, passed_over}
-use Rattle.reading.specs.Took.{Took, refuse, ran_out_lem, onward, gathered}
+use Rattle.token_list.proofs.Texts.{chosen}
+use Rattle.reading.specs.Took.{Took, onward, gathered}
 use Rattle.reading.specs.Token.{starts}
 use Rattle.reading.specs.Reading.{is_punct, attributes, after_hash, copied, group_size}
 use Rattle.parse.specs.Contract.{Moved, stream, past_of, Gained}
@@ -28,16 +27,10 @@ module _ (s : List ℕ) (c : Cursor) (in_list : InList s c) (t : Token) (l : Lea
     past_hash : (us : Trees) → stream s d ≡ us → here ≡ after_hash c.row us
     past_hash us q = ap (attributes c.row) (leaf_then s c d t us l p q) ∙ chosen _ _ _ (stands-row HASH l e)
 
-    pub hash_end : stream s d ≡ end → here ≡ ran_out_lem 13 END
-    hash_end q = past_hash end q
-
     below : d.row ≡ c.row + 1
     below = ap (λ (x : Cursor). x.row) p
 
     module _ (q : Token) (n : LeafAt s d.at q) where
-      pub hash-other : is_punct HASH (row_of s q) ≡ false → here ≡ refuse 13 d.row
-      hash-other f = past_hash _ n.here ∙ passed_over _ _ _ f ∙ ap (λ (n : ℕ). refuse 13 n) (sym below)
-
       pub hash-idle : (b0 b1 : List ℕ) → b1 ≡ set b0 c.row 3 → is_punct HASH (row_of s q) ≡ true →
           Gained s c d b0 b1 [] here (attributes d.row (stream s d))
       hash-idle b0 b1 w f =
@@ -56,10 +49,6 @@ module _ (s : List ℕ) (c : Cursor) (in_list : InList s c) (t : Token) (l : Lea
 
       abbrev aft : Trees
       aft = head (at s q.next).outer
-
-      pub hash-wrong : (q.byte ≡ BRACKET → ⊥) → here ≡ refuse 12 d.row
-      hash-wrong f = past_hash _ (group_stream s d q k g) ∙ passed_over _ _ _ (ne_eqb _ _ f) ∙
-          ap (λ (n : ℕ). refuse 12 n) (sym below)
 
       pub hash-group : (b0 b1 b2 : List ℕ) (x : Cursor) → q.byte ≡ BRACKET → b1 ≡ set b0 c.row 1 →
           Moved s d x (copied 2 ins) aft b1 b2

@@ -21,15 +21,10 @@ use Rattle.reading.specs.Declaration.{Declaration}
 use Rattle.reading.specs.Took.{Took}
 use Rattle.reading.specs.Reading.{item}
 use Rattle.reading.specs.Answer.{Answer, declared, refused, item_answer, answer, buffer, accepts}
-use Rattle.parse.specs.Contract.{Meets, stands, refuses, on, no, parsed_of, parsed_by, kind_of, ParsedAs, Answered}
+use Rattle.parse.specs.Contract.{Meets, stands, refuses, on, no, ParsedAs, Answered}
 use Rattle.parse.specs.Contract.{accepted, stream, item_shown, item_said, parts_shown}
-use Rattle.parse.specs.declared.data_type.DataType.{DataType}
-use Rattle.parse.specs.declared.data_type.DataType.TheVariants as kinds
 use Rattle.parse.specs.declared.item.ItemAt.{ItemAt}
-use Rattle.parse.specs.declared.item.ItemStep.{ItemStep}
-use Rattle.parse.specs.declared.item.ItemStep.TheVariants as item_steps
-use Rattle.parse.specs.declared.item.Parse.{Parse}
-use Rattle.parse.specs.declared.item.Parse.TheVariants as parses
+use Rattle.std.specs.Prelude.{Result, Ok, Err}
 use Rattle.parse.proofs.Buffer.{sets_append}
 use Rattle.parse.proofs.Meeting.{meets_show, meets_none}
 use Rattle.parse.proofs.Places.{meets_beyond}
@@ -113,78 +108,71 @@ first_in s rows e =
 pub start_in : {s : List ℕ} {c : Cursor} {rows : ℕ} → c ≡ start_of s → list.check s ≡ list.passed rows → InList s c
 start_in {s} {rows = rows} e p = subst⁻¹ (InList s) e (first_in s rows p)
 
-pub from_start : {s b0 b1 : List ℕ} {c : Cursor} (r : ItemStep) → c ≡ start_of s
+pub from_start : {s b0 b1 : List ℕ} {c : Cursor} (r : Result ItemAt Refusal) → c ≡ start_of s
     → Meets s c b0 b1 (item_shown s c r) (item_said r) (item c.row (stream s c))
     → Meets s (start_of s) b0 b1 (item_shown s (start_of s) r) (item_said r) (item 0 (at s (first_row s)).here)
 from_start {s} {b0} {b1} r e m =
     subst (λ (c : Cursor). Meets s c b0 b1 (item_shown s c r) (item_said r) (item c.row (stream s c))) e m
 
 -- an item's parts, and where it ends
-pub item_ends : {s : List ℕ} {c : Cursor} {b0 b1 : List ℕ} (r : ItemStep) →
+pub item_ends : {s : List ℕ} {c : Cursor} {b0 b1 : List ℕ} (r : Result ItemAt Refusal) →
     Meets s c b0 b1 (parts_shown s c r) (item_said r) (item c.row (stream s c))
     → Meets s c b0 b1 (item_shown s c r) (item_said r) (item c.row (stream s c))
-item_ends (item_steps.At i) m = meets_show (λ d h. (h.0, h.1, meets_beyond item m)) m
-item_ends (item_steps.Refused r) m = meets_none m
+item_ends (Ok i) m = meets_show (λ d h. (h.0, h.1, meets_beyond item m)) m
+item_ends (Err r) m = meets_none m
 
 -- ## The code's answers
 
-pub answered_refused : (s b0 : List ℕ) {b1 : List ℕ} {p : Parse} (r : Refusal) → p ≡ parses.Refused r →
+pub answered_refused : (s b0 : List ℕ) {b1 : List ℕ} {p : Result ItemAt Refusal} (r : Refusal) → p ≡ Err r →
     answer s (length b0) ≡ refused r.number r.place → b1 ≡ replicate (length b0) 255
     → Answered s p b0 b1
 answered_refused s b0 {b1} r w e q =
-    subst⁻¹ (λ (p : Parse). Answered s p b0 b1) w
+    subst⁻¹ (λ (p : Result ItemAt Refusal). Answered s p b0 b1) w
     (record {
-      answer = subst⁻¹ (ParsedAs s (parses.Refused r)) e (refl, refl);
+      answer = subst⁻¹ (ParsedAs s (Err r)) e (refl, refl);
       refusal = places.answer_read s (length
           b0);
       buffer = q ∙ sym (ap (buffer (length b0)) e);
     })
 
-parsed_as : (s : List ℕ) (i : ItemAt) (k : DataType) (d : Declaration) (rs : List ℕ) → i.kind ≡ k →
-    item_shown s (start_of s) (item_steps.At i) d → ParsedAs s (parsed_by k i) (declared d rs)
-parsed_as s i kinds.Struct d rs e o = (o.0.kind ∙ ap kind_of e, o)
-parsed_as s i kinds.Enum d rs e o = (o.0.kind ∙ ap kind_of e, o)
-
 module _ (s : List ℕ) (rows : ℕ) (e : list.check s ≡ list.passed rows) (b0 : List ℕ) (room : rows ≤ length b0) where
-  pub read_refused : {b1 b2 : List ℕ} {sh : Declaration → Type 0} {p : Parse} (r : Refusal) →
+  pub read_refused : {b1 b2 : List ℕ} {sh : Declaration → Type 0} {p : Result ItemAt Refusal} (r : Refusal) →
       Meets s (start_of s) b0 b1 sh (no r.number r.place) (item 0 (at s (first_row s)).here)
-      → p ≡ parses.Refused r → b2 ≡ replicate (length b0) 255 → Answered s p b0 b2
+      → p ≡ Err r → b2 ≡ replicate (length b0) 255 → Answered s p b0 b2
   read_refused {b1} {sh = sh} r m w q = answered_refused s b0 r w (answer_read s (length b0) rows e room ∙ go m) q
     where
       go : {t : Took Declaration} → Meets s (start_of s) b0 b1 sh (no r.number r.place) t →
           item_answer t ≡ refused r.number r.place
       go (refuses qs q) = refl
 
-  pub read_accepted : {b1 b2 : List ℕ} {p : Parse} (i : ItemAt) →
-      Meets s (start_of s) b0 b1 (item_shown s (start_of s) (item_steps.At i)) (on i.next) (item 0 (at s
+  pub read_accepted : {b1 b2 : List ℕ} {p : Result ItemAt Refusal} (i : ItemAt) →
+      Meets s (start_of s) b0 b1 (item_shown s (start_of s) (Ok i)) (on i.next) (item 0 (at s
       (first_row s)).here)
       → b2 ≡ sets (sets b1 i.next.row (replicate (rows - i.next.row) 0)) rows
-      (replicate (length b1 - rows) 255) → p ≡ parsed_of i → Answered s p b0 b2
-  read_accepted {b1} {b2} i m q w = subst⁻¹ (λ (p : Parse). Answered s p b0 b2) w (go refl m)
+      (replicate (length b1 - rows) 255) → p ≡ Ok i → Answered s p b0 b2
+  read_accepted {b1} {b2} i m q w = subst⁻¹ (λ (p : Result ItemAt Refusal). Answered s p b0 b2) w (go refl m)
     where
       go : {t : Took Declaration} → item 0 (at s (first_row s)).here ≡ t →
-          Meets s (start_of s) b0 b1 (item_shown s (start_of s) (item_steps.At i)) (on i.next) t → Answered s
-          (parsed_of i) b0 b2
+          Meets s (start_of s) b0 b1 (item_shown s (start_of s) (Ok i)) (on i.next) t → Answered s
+          (Ok i) b0 b2
       go f (stands {a = d} {rs = rs} {us = us} mv o) =
           let a = answer_read s (length b0) rows e room ∙ ap item_answer f in
           let c = conserved (item_conserved (at s (first_row s)).here f) in
           let n : i.next.row ≡ length rs = omega (arith, mv.row) in
           record {
-            answer = subst⁻¹ (ParsedAs s (parsed_of i)) a
-                (parsed_as s i i.kind d (rs ++ replicate (size us) 0) refl o);
+            answer = subst⁻¹ (ParsedAs s (Ok i)) a o;
             refusal = places.answer_read s (length b0);
             buffer = q ∙ filled b0 b1 rs i.next.row rows (size us) mv.roles n
                 (c.rows ∙ (passed_list s rows e).size) room ∙ sym (ap (buffer (length b0)) a);
           }
 
 -- what the answer tells of acceptance
-accepts_of : (s : List ℕ) (r : Parse) (a : Answer) → ParsedAs s r a → accepted r ≡ accepts a
-accepts_of s (parses.Struct i) (declared d rs) h = refl
-accepts_of s (parses.Enum i) (declared d rs) h = refl
-accepts_of s (parses.Refused r) (declared d rs) h = absurd h
-accepts_of s (parses.Struct i) (refused n p) h = absurd h
-accepts_of s (parses.Enum i) (refused n p) h = absurd h
-accepts_of s (parses.Refused r) (refused n p) h = refl
+accepts_of : (s : List ℕ) (r : Result ItemAt Refusal) (a : Answer) → ParsedAs s r a → accepted r ≡ accepts a
+accepts_of s (Ok i) (declared d rs) h = refl
+accepts_of s (Err r) (declared d rs) h = absurd h
+accepts_of s (Ok i) (refused n p) h = absurd h
+accepts_of s (Err r) (refused n p) h = refl
 
-pub accepted_as : {s b0 b1 : List ℕ} {r : Parse} → Answered s r b0 b1 → accepted r ≡ accepts (answer s (length b0))
+pub accepted_as : {s b0 b1 : List ℕ} {r : Result ItemAt Refusal} → Answered s r b0 b1 →
+    accepted r ≡ accepts (answer s (length b0))
 accepted_as {s} {b0} {b1} {r} h = accepts_of s r (answer s (length b0)) h.answer

@@ -2,7 +2,6 @@
 pub mod Buffer
 pub mod Meeting
 pub mod Places
-pub mod Judge
 pub mod Turns
 pub mod Hashes
 pub mod Looks

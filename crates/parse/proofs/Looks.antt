@@ -5,15 +5,15 @@ use mathlib.Core.List.{List, [], ◌∷◌}
 use Prim.Native.Nat.{ℕ}
 use borrow.Author.Tests.{ne_eqb}
 use Rattle.token_list.specs.Layout.{OPEN}
-use Rattle.token_list.specs.Byte.{HASH, LESS, code}
+use Rattle.token_list.specs.Byte.{LESS, code}
 use Rattle.token_list.specs.Text.{same}
 use Rattle.token_list.specs.Row.{first}
 use Rattle.token_list.specs.Stream.{Trees, end, leaf, group, first_kind_lem, first_byte_lem, starts_punct}
 use Rattle.token_list.proofs.Texts.{passed_over, and_fails}
 use Rattle.reading.specs.Declaration.{default, without}
-use Rattle.reading.specs.Took.{took, place_of}
+use Rattle.reading.specs.Took.{took}
 use Rattle.reading.specs.Token.{starts}
-use Rattle.reading.specs.Reading.{is_punct, is_ident, PUB, punct_if, attributes, visibility, tuple_field, tuple_type}
+use Rattle.reading.specs.Reading.{is_punct, is_ident, PUB, punct_if, visibility, tuple_field, tuple_type}
 use Rattle.reading.specs.Reading.{generics, variant, variant_here}
 
 pub starts-punct : (b : ℕ) (ts : Trees) → starts_punct b ts ≡ starts (is_punct b) ts
@@ -21,20 +21,10 @@ starts-punct b end = refl
 starts-punct b (leaf r us) = refl
 starts-punct b (group d ts us) = refl
 
-pub placed : (row : ℕ) (ts : Trees) → (first_kind_lem ts ≡ 0 → ⊥) → place_of row ts ≡ row
-placed row end n = absurd (n refl)
-placed row (leaf r us) n = refl
-placed row (group d ts us) n = refl
-
 pub no_punct : (b n row : ℕ) (ts : Trees) → starts (is_punct b) ts ≡ false → punct_if b n row ts ≡ took false [] ts
 no_punct b n row end e = refl
 no_punct b n row (leaf r us) e = passed_over _ _ _ e
 no_punct b n row (group d ts us) e = refl
-
-pub no_attribute : (row : ℕ) (ts : Trees) → starts (is_punct HASH) ts ≡ false → attributes row ts ≡ took [] [] ts
-no_attribute row end e = refl
-no_attribute row (leaf r us) e = passed_over _ _ _ e
-no_attribute row (group d ts us) e = refl
 
 pub no_generics : (row : ℕ) (ts : Trees) → starts (is_punct LESS) ts ≡ false → generics row ts ≡ took without [] ts
 no_generics row end e = refl

@@ -4,7 +4,6 @@ use mathlib.Core.List.{List, [], ◌∷◌, ◌++◌, append_assoc, append-nil}
 use Prim.Native.Nat.{ℕ, ◌+◌, ◌≤◌, ◌<◌}
 use native.Mathlib.Omega.{arith}
 use lib.ListN.{length, length-append}
-use lib.Seq.{length-sets}
 use Rattle.token_list.specs.Stream.{Trees}
 use Rattle.token_list.specs.Contract.{InList}
 use Rattle.token_list.specs.declared.check.Cursor.{Cursor}
@@ -63,10 +62,6 @@ gathering_more {xs = xs} {v = v} k g =
           gathered_append k.got xs k.taken g.roles v;
     }
 
-pub gathering_length : {A : Type 0} {s : List ℕ} {from c : Cursor} {b0 b1 : List ℕ} {t u : Took (List A)} →
-    Gathering s from b0 c b1 t u → length b1 ≡ length b0
-gathering_length k = ap length k.moved.roles ∙ simp length-sets
-
 -- the last part of it meets what is left
 pub gathering_meets : {A : Type 0} {s : List ℕ} {from c : Cursor} {b0 b1 b2 : List ℕ} {t u : Took (List A)} {x : Said}
     → Gathering s from b0 c b1 t u → Meets s c b1 b2 any x u → Meets s from b0 b2 any x t
@@ -120,29 +115,30 @@ module _ {A : Type 0} (m : Reader (Maybe A)) (rd : Rounding m) {s : List ℕ} {f
         omega (arith, mv.forth, p),
       )
 
-  pub rounds-more : {b2 : List ℕ} {sh : Maybe A → Type 0} {d : Cursor} →
-      Meets s c b1 b2 sh (on d) (m c.row (stream s c)) → ((v : Maybe A) → sh v → (a : A) × (v ≡ one a))
+  pub rounds-more : {b2 : List ℕ} {d : Cursor} →
+      Meets s c b1 b2 (λ (v : Maybe A). (a : A) × (v ≡ one a)) (on d) (m c.row (stream s c))
       → Rounded s from b0 d b2 (count + 1) was (every m d.row (stream s d)) × (c.at < d.at)
-  rounds-more {b2} {sh} {d} x f = go refl x
+  rounds-more {b2} {d} x = go refl x
     where
-      go : {t : Took (Maybe A)} → m c.row (stream s c) ≡ t → Meets s c b1 b2 sh (on d) t →
+      go : {t : Took (Maybe A)} → m c.row (stream s c) ≡ t →
+          Meets s c b1 b2 (λ (v : Maybe A). (a : A) × (v ≡ one a)) (on d) t →
           Rounded s from b0 d b2 (count + 1) was (every m d.row (stream s d)) × (c.at < d.at)
-      go e (stands {a = v} {rs = rs} {us = us} mv h) =
-          let o = f v h in
+      go e (stands {rs = rs} {us = us} mv o) =
           another_one d o.0 rs us (e ∙ ap (λ (w : Maybe A). took w rs us) o.1) mv
 
-  pub rounds_done : {b2 : List ℕ} {sh : Maybe A → Type 0} {d : Cursor} →
-      Meets s c b1 b2 sh (on d) (m c.row (stream s c)) → ((v : Maybe A) → sh v → v ≡ done)
+  pub rounds_done : {b2 : List ℕ} {d : Cursor} →
+      Meets s c b1 b2 (λ (v : Maybe A). v ≡ done) (on d) (m c.row (stream s c))
       → Meets s from b0 b2 (λ (xs : List A). count ≡ length xs) (on d) was
-  rounds_done {b2} {sh} {d} x f = go refl x
+  rounds_done {b2} {d} x = go refl x
     where
-      go : {t : Took (Maybe A)} → m c.row (stream s c) ≡ t → Meets s c b1 b2 sh (on d) t →
+      go : {t : Took (Maybe A)} → m c.row (stream s c) ≡ t →
+          Meets s c b1 b2 (λ (v : Maybe A). v ≡ done) (on d) t →
           Meets s from b0 b2 (λ (xs : List A). count ≡ length xs) (on d) was
-      go e (stands {a = v} {rs = rs} {us = us} mv h) =
+      go e (stands {rs = rs} {us = us} mv h) =
           subst⁻¹ (Meets s from b0 b2 (λ (xs : List A). count ≡ length xs) (on d))
           (k.gathering.same
           ∙ ap (gathered k.gathering.got k.gathering.taken)
-          (step (e ∙ ap (λ (w : Maybe A). took w rs us) (f v h)) ∙
+          (step (e ∙ ap (λ (w : Maybe A). took w rs us) h) ∙
           ap (λ (ps : List ℕ). took [] ps us) (append-nil rs))
           ∙ ap (λ (xs : List A). took xs (k.gathering.taken ++ rs) us) (append-nil k.gathering.got))
           (stands (moved_on k.gathering.moved mv) k.counted)

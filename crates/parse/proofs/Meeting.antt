@@ -1,34 +1,32 @@
 -- Laws on the readers' contract: one law for each way to put readers together.
 use mathlib.Core.Path.{◌≡◌, refl, ap, ◌∙◌, sym, subst, subst⁻¹, fun_ext}
-use mathlib.Core.Bool.{Bool, true, false, ◌&&◌, false≢true}
+use mathlib.Core.Bool.{Bool, true, ◌&&◌}
 use mathlib.Core.List.{List, [], ◌∷◌, ◌++◌, append_assoc, append-nil}
 use Prim.Native.Nat.{ℕ, ◌+◌, ◌-◌, ◌≤◌, ◌<◌}
 use native.Mathlib.Omega.{arith}
 use lib.Dec.{eqb}
 use lib.ListN.{length, set, replicate, length-append, length-replicate}
-use lib.Seq.{sets, length-sets}
+use lib.Seq.{sets}
 use Rattle.token_list.specs.Layout.{PUNCT}
 use Rattle.token_list.specs.Row.{Row}
-use Rattle.token_list.specs.Stream.{Trees, end, leaf, group, size, head, others, follows, at}
+use Rattle.token_list.specs.Stream.{Trees, end, leaf, group, head, others, follows, at}
 use Rattle.token_list.specs.Contract.{InList, TokenAt, LeafAt, GroupAt, Skipped, row_of, stands as stands_at}
 use Rattle.token_list.specs.declared.stream.Peeked.{Peeked}
 use Rattle.token_list.specs.declared.check.Cursor.{Cursor}
 use Rattle.token_list.specs.declared.stream.Token.{Token}
 use Rattle.reading.specs.Took.{Took, took, Cause, stopped, Reader, onward, after, ◌>>=◌, place_of, pure}
 use Rattle.reading.specs.Token.{starts}
-use Rattle.reading.specs.Reading.{copied, group_size, lone, is_punct, is_ident, is_word, first_text, Word, missing}
+use Rattle.reading.specs.Reading.{copied, group_size, is_punct, Word, missing}
 use Rattle.reading.specs.Reading.{found}
 use Rattle.parse.specs.Contract.{Moved, Said, on, no, Meets, stands, refuses, refusal, stream, past_of, Belonged}
 use Rattle.parse.specs.Contract.{InsideAt, point, word_shown, word_said}
 use Rattle.parse.specs.Contract.{WordAt as WordOf}
 use Rattle.parse.specs.declared.utils.Word.{Word as WordAt}
-use Rattle.parse.specs.declared.utils.MaybeWord.{MaybeWord}
-use Rattle.parse.specs.declared.utils.MaybeWord.TheVariants as words
+use Rattle.std.specs.Prelude.{Option, Some, None, Result, Ok, Err, IsErrAnd}
+use Rattle.std.proofs.Common.{◌⊎◌, inl, inr}
 use Rattle.token_list.specs.declared.check.Refusal.{Refusal}
-use Rattle.token_list.specs.Text.{same}
 use Rattle.token_list.proofs.Starts.{next_start}
 use Rattle.token_list.proofs.Streams.{byte_of}
-use Rattle.token_list.proofs.Texts.{and_last, and_fails}
 use Rattle.parse.proofs.Buffer.{sets_append}
 
 -- ## Moves
@@ -235,53 +233,6 @@ module _ {A : Type 0} (m : Reader A) (s : List ℕ) (c : Cursor) (in_list : InLi
         → Meets s c b0 b1 sh (on d) (m c.row (stream s c))
     meets_group a k h = meets_as (ap (m c.row) (group_stream s c t in_list g) ∙ k) (stands moved h)
 
--- it takes the group, with the role r for all its rows, and goes on
-pub group_belonged : {A : Type 0} (m k : Reader A) {s : List ℕ} {c d : Cursor} (t : Token) (r : ℕ) {b0 b1 : List ℕ}
-    → InList s c → GroupAt s c.at t
-    → Moved s c d (copied r (at s t.next).here) (head (at s t.next).outer) b0 b1
-    → m c.row (group t.byte (at s t.next).here (head (at s t.next).outer)) ≡
-    onward (copied r (at s t.next).here)
-    (k (c.row + group_size (at s t.next).here) (head (at s t.next).outer))
-    → Belonged s c d b0 b1 (m c.row (stream s c)) (k d.row (stream s d))
-group_belonged m k {s} {c} {d} t r i g mv f =
-    let ins = (at s t.next).here in
-    let w : length (copied r ins) ≡ group_size ins = length-replicate (group_size ins) r in
-    let q : c.row + group_size ins ≡ d.row = omega (arith, w, mv.row) in
-    record {
-      roles = copied r ins;
-      moved = record {
-        in_list = mv.in_list;
-        row = mv.row;
-        forth = mv.forth;
-        here = refl;
-        outer = mv.outer;
-        roles = mv.roles;
-      };
-      some = omega (arith, w);
-      same = ap (m c.row) (group_stream s c t i g) ∙ f ∙
-          (λ j. onward (copied r ins) (k (q j) (sym mv.here j)));
-    }
-
--- past the closing row of a group, from before a token in it
-pub leaf_skipped : (s : List ℕ) (c d : Cursor) (t : Token) → LeafAt s c.at t → Skipped s (past_of c t) d →
-    Skipped s c d
-leaf_skipped s c d t l k =
-    let z = ap size l.here in
-    record {
-      in_list = k.in_list;
-      forth = omega (arith, k.forth, z, l.token.start, l.token.text, l.token.next);
-      row = omega (arith, k.row, z);
-      streams = l.outer ∙ k.streams;
-    }
-
-lone_not : (p : Row → Bool) (r : Row) (us : Trees) → p r ≡ false → lone p (leaf r us) ≡ false
-lone_not p r end e = e
-lone_not p r (leaf q us) e = refl
-lone_not p r (group d ts us) e = refl
-
-pub lone-other : (p : Row → Bool) (ts us : Trees) (r : Row) → ts ≡ leaf r us → p r ≡ false → lone p ts ≡ false
-lone-other p ts us r e q = ap (lone p) e ∙ lone_not p r us q
-
 pub leaf_then : (s : List ℕ) (c d : Cursor) (t : Token) (us : Trees) → LeafAt s c.at t → d ≡ past_of c t →
     stream s d ≡ us → stream s c ≡ leaf (row_of s t) us
 leaf_then s c d t us l e n = l.here ∙ ap (leaf (row_of s t)) (sym (ap (λ (x : Cursor). stream s x) e) ∙ n)
@@ -295,6 +246,15 @@ punct_of s i t b k = byte_of s i t k (λ (p : Bool) (x : ℕ). p && eqb x b) (λ
 pub stands-row : {s : List ℕ} {i : ℕ} {t : Token} (b : ℕ) → LeafAt s i t → starts (is_punct b) (at s i).here ≡ true →
     is_punct b (row_of s t) ≡ true
 stands-row b l e = sym (ap (starts (is_punct b)) l.here) ∙ e
+
+-- it takes nothing where no group stands
+pub meets_no_group : {A : Type 0} (m : Reader A) {s : List ℕ} {c : Cursor} {b : List ℕ} {sh : A → Type 0} {p : Peeked}
+    (a : A) → InList s c → stands_at s c.at p → (p ≡ Peeked.Nothing) ⊎ ((t : Token) × p ≡ Peeked.Leaf t)
+    → m c.row end ≡ took a [] end → ((r : Row) (us : Trees) → m c.row (leaf r us) ≡ took a [] (leaf r us)) → sh a
+    → Meets s c b b sh (on c) (m c.row (stream s c))
+meets_no_group m {s} {c} {b} {sh} a i k (inl e) f g h = meets_same m s c i sh b _ a (peeked s c.at k e) f h
+meets_no_group m {s} {c} {b} {sh} a i k (inr (t, e)) f g h =
+    meets_same m s c i sh b _ a (peeked s c.at k e).here (g _ _) h
 
 -- ## Readers that go round: what was `was` at the cursor `from` is `is` at c
 
@@ -338,22 +298,18 @@ pub going_meets : {A : Type 0} {s : List ℕ} {from c : Cursor} {b0 b1 b2 : List
     → Going s from b0 c b1 t u → Meets s c b1 b2 sh x u → Meets s from b0 b2 sh x t
 going_meets k m = meets_as k.same (meets_onward k.moved m)
 
-pub going_length : {A : Type 0} {s : List ℕ} {from c : Cursor} {b0 b1 : List ℕ} {t u : Took A} →
-    Going s from b0 c b1 t u → length b1 ≡ length b0
-going_length k = ap length k.moved.roles ∙ simp length-sets
-
 -- ## Words
 
 module _ {B : Type 0} (f : Word → Reader B) {s : List ℕ} {c : Cursor} {b0 b1 b2 : List ℕ} {sh : B → Type 0} {x : Said}
     {t : Took Word} where
-  pub meets_word : (w : WordAt) → Meets s c b0 b1 (word_shown s c (words.Found w)) (on w.next) t
+  pub meets_word : (w : WordAt) → Meets s c b0 b1 (word_shown s c (Some w)) (on w.next) t
       → ((text : List ℕ) → WordOf s (point s c) w text →
       Meets s w.next b1 b2 sh x (f (found text w.row) w.next.row (stream s w.next)))
       → Meets s c b0 b2 sh x (after c.row t f)
   meets_word w m k = meets_then f m (λ a h. subst⁻¹ (λ (y : Word). Meets s w.next b1 b2 sh x
       (f y w.next.row (stream s w.next))) h.1 (k h.0 h.2))
 
-  pub meets_missing : Meets s c b0 b1 (word_shown s c words.Missing) (on c) t →
+  pub meets_missing : Meets s c b0 b1 (word_shown s c None) (on c) t →
       Meets s c b1 b2 sh x (f missing c.row (stream s c)) → Meets s c b0 b2 sh x (after c.row t f)
   meets_missing m k =
       meets_then f m (λ a h. subst⁻¹ (λ (y : Word). Meets s c b1 b2 sh x (f y c.row (stream s c))) h k)
@@ -390,30 +346,11 @@ after-pure row t f g =
     after_assoc row t (λ a. pure (f a)) g ∙
     ap (after row t) (fun_ext (λ a. fun_ext (λ r. fun_ext (λ us. pure_then (f a) g r us))))
 
--- ## A word that stands alone
-
-pub lone-word : (t : List ℕ) (ts : Trees) → lone is_ident ts ≡ true → lone (is_word t) ts ≡ same (first_text ts) t
-lone-word t end e = absurd (false≢true e)
-lone-word t (group d ts us) e = absurd (false≢true e)
-lone-word t (leaf r end) e = and_last _ _ e
-lone-word t (leaf r (leaf q us)) e = absurd (false≢true e)
-lone-word t (leaf r (group d ts us)) e = absurd (false≢true e)
-
-pub lone_no_word : (t : List ℕ) (ts : Trees) → lone is_ident ts ≡ false → lone (is_word t) ts ≡ false
-lone_no_word t end e = refl
-lone_no_word t (group d ts us) e = refl
-lone_no_word t (leaf r end) e = and_fails _ _ e
-lone_no_word t (leaf r (leaf q us)) e = refl
-lone_no_word t (leaf r (group d ts us)) e = refl
-
 -- what a word's reader answered
-pub say_word : {s : List ℕ} {c : Cursor} {b0 b1 : List ℕ} {t : Took Word} {p q : MaybeWord} → p ≡ q →
+pub say_word : {s : List ℕ} {c : Cursor} {b0 b1 : List ℕ} {t : Took Word} {p q : Option WordAt} → p ≡ q →
     Meets s c b0 b1 (word_shown s c p) (word_said c p) t → Meets s c b0 b1 (word_shown s c q) (word_said c q) t
-say_word {s} {c} {b0} {b1} {t} e m = subst (λ (p : MaybeWord). Meets s c b0 b1 (word_shown s c p) (word_said c p) t) e m
-
-pub word-within : {s : List ℕ} {c : Cursor} {b0 b1 : List ℕ} {t : Took Word} (w : WordAt) →
-    Meets s c b0 b1 (word_shown s c (words.Found w)) (on w.next) t → w.token.end ≤ length s
-word-within w (stands m h) = h.2.text.within
+say_word {s} {c} {b0} {b1} {t} e m =
+    subst (λ (p : Option WordAt). Meets s c b0 b1 (word_shown s c p) (word_said c p) t) e m
 
 -- what a reader answered, by its own enum
 pub say : {R A : Type 0} (sh : R → A → Type 0) (f : R → Said) {s : List ℕ} {c : Cursor} {b0 b1 : List ℕ} {t : Took A}
@@ -428,12 +365,6 @@ pub meets_map : {A B : Type 0} {s : List ℕ} {c : Cursor} {b0 b1 : List ℕ} {s
 meets_map {s = s} {c} {b0} {b1} {sh2 = sh2} row f g (stands {d = d} {a = a} {rs = rs} {us = us} m h) =
     subst⁻¹ (λ (qs : List ℕ). Meets s c b0 b1 sh2 (on d) (took (f a) qs us)) (append-nil rs) (stands m (g a h))
 meets_map row f g (refuses qs e) = refuses qs e
-
-pub leaf_not_end : {r : Row} {us : Trees} → leaf r us ≡ end → ⊥
-leaf_not_end e = let z : ◌≡◌ {A = ℕ} 0 1 = cc in omega arith
-
-pub group_not_end : {d : ℕ} {ts us : Trees} → group d ts us ≡ end → ⊥
-group_not_end e = let z : ◌≡◌ {A = ℕ} 0 1 = cc in omega arith
 
 -- of a refusal nothing is shown
 pub meets_none : {A : Type 0} {s : List ℕ} {c : Cursor} {b0 b1 : List ℕ} {sh sh2 : A → Type 0} {n p : ℕ} {t : Took A} →
@@ -451,3 +382,23 @@ meets_inside {A} m {s} {c} {b0} {b1} {sh} i w = go refl w
         Meets s c b0 b1 (λ (a : A). sh a × InsideAt m s c a) x t
     go e (stands {rs = rs} {us = us} mv h) = stands mv (h, record { in_list = i; roles = rs; rest = us; gives = e })
     go e (refuses qs q) = refuses qs q
+
+-- ## `?`
+
+-- what a `?` answers where the callee refused
+pub given_up : {T : Type 0} {e : Refusal} (r : Result T Refusal) → IsErrAnd r (λ x. x ≡ e) → r ≡ Err e
+given_up (Err x) h = ap Err h
+given_up (Ok t) h = absurd h
+
+-- the same of what an answer says
+pub meets_given_up : {R A : Type 0} {s : List ℕ} {c : Cursor} {b0 b1 : List ℕ} {t : Took A} {e : Refusal}
+    (f : Result R Refusal → Said) (g : Result R Refusal → A → Type 0) {r : Result R Refusal}
+    → IsErrAnd r (λ x. x ≡ e) → Meets s c b0 b1 (g (Err e)) (f (Err e)) t → Meets s c b0 b1 (g r) (f r) t
+meets_given_up {s = s} {c} {b0} {b1} {t} f g {r} h m =
+    subst⁻¹ (λ r. Meets s c b0 b1 (g r) (f r) t) (given_up r h) m
+
+-- the same of what a `?` went on with, where a match tells what it is
+pub meets_matched : {R A : Type 0} {s : List ℕ} {c : Cursor} {b0 b1 : List ℕ} {t : Took A}
+    (f : Result R Refusal → Said) (g : Result R Refusal → A → Type 0) {p q : R}
+    → p ≡ q → Meets s c b0 b1 (g (Ok p)) (f (Ok p)) t → Meets s c b0 b1 (g (Ok q)) (f (Ok q)) t
+meets_matched {R} {s = s} {c} {b0} {b1} {t} f g e m = subst (λ (r : R). Meets s c b0 b1 (g (Ok r)) (f (Ok r)) t) e m

@@ -20,8 +20,8 @@ use Rattle.parse.specs.declared.generics.ParameterKind.TheVariants as kinds
 use Rattle.parse.specs.declared.generics.RunPart.{RunPart}
 use Rattle.parse.specs.declared.generics.RunPart.TheVariants as run_parts
 use Rattle.parse.specs.declared.runs.Run.{Run}
-use Rattle.parse.specs.declared.generics.ParameterRunStep.{ParameterRunStep}
-use Rattle.parse.specs.declared.generics.ParameterRunStep.TheVariants as run_steps
+use Rattle.std.specs.Prelude.{Result, Ok, Err}
+use Rattle.token_list.specs.declared.check.Refusal.{Refusal}
 use Rattle.parse.proofs.Looks.{no_punct}
 use Rattle.parse.proofs.Meeting.{pure_then, after_assoc}
 
@@ -64,7 +64,7 @@ module _ (s : List ℕ) (n : List ℕ) (b : Trees) where
 
 module _ (s : List ℕ) (x : Point) where
   pub bound-run : (m : RunPart) (r : Run) (b : Trees) →
-      optional_run_shown s COLON run_parts.Bound x (run_steps.At m r) b → ParameterRunAt s x b end m r
+      optional_run_shown s COLON run_parts.Bound x (Ok (m, r)) b → ParameterRunAt s x b end m r
   bound-run m r b h = go (starts (is_punct COLON) x.stream) refl
     where
       go : (t : Bool) → starts (is_punct COLON) x.stream ≡ t → ParameterRunAt s x b end m r
@@ -76,7 +76,7 @@ module _ (s : List ℕ) (x : Point) where
           subst⁻¹ (λ (p : RunPart). ParameterRunAt s x b end p r) k.0 (k.1, refl)
 
   default_run : starts (is_punct COLON) x.stream ≡ false → (m : RunPart) (r : Run) (d : Trees) →
-      optional_run_shown s EQUALS run_parts.Default x (run_steps.At m r) d → ParameterRunAt s x end d m r
+      optional_run_shown s EQUALS run_parts.Default x (Ok (m, r)) d → ParameterRunAt s x end d m r
   default_run other m r d h = go (starts (is_punct EQUALS) x.stream) refl
     where
       go : (t : Bool) → starts (is_punct EQUALS) x.stream ≡ t → ParameterRunAt s x end d m r
@@ -88,12 +88,13 @@ module _ (s : List ℕ) (x : Point) where
           subst⁻¹ (λ (p : RunPart). ParameterRunAt s x end d p r) k.0 (other, refl, k.1)
 
   -- a type with this bound, and one with this default
-  pub type-bound : (n : List ℕ) (r : ParameterRunStep) (b : Trees) → optional_run_shown s COLON run_parts.Bound x r b →
-      type_shown s x n r (type n b end)
-  type-bound n (run_steps.At m r) b h = (refl, refl, bound-run m r b h)
-  type-bound n (run_steps.Refused r) b h = h
+  pub type-bound : (n : List ℕ) (r : Result (RunPart × Run) Refusal) (b : Trees) →
+      optional_run_shown s COLON run_parts.Bound x r b → type_shown s x n r (type n b end)
+  type-bound n (Ok (m, r)) b h = (refl, refl, bound-run m r b h)
+  type-bound n (Err r) b h = h
 
-  pub type_default : (n : List ℕ) → starts (is_punct COLON) x.stream ≡ false → (r : ParameterRunStep) (d : Trees) →
+  pub type_default : (n : List ℕ) → starts (is_punct COLON) x.stream ≡ false →
+      (r : Result (RunPart × Run) Refusal) (d : Trees) →
       optional_run_shown s EQUALS run_parts.Default x r d → type_shown s x n r (type n end d)
-  type_default n other (run_steps.At m r) d h = (refl, refl, default_run other m r d h)
-  type_default n other (run_steps.Refused r) d h = h
+  type_default n other (Ok (m, r)) d h = (refl, refl, default_run other m r d h)
+  type_default n other (Err r) d h = h

@@ -4,9 +4,9 @@ use mathlib.Core.Bool.{Bool, true, false, cond, ◌||◌, false≢true}
 use mathlib.Core.List.{List, [], ◌∷◌}
 use Prim.Native.Nat.{ℕ, ◌+◌}
 use native.Mathlib.Omega.{arith}
-use lib.ListN.{length, length-replicate}
+use lib.ListN.{length}
 use Rattle.token_list.specs.Byte.{QUOTE}
-use Rattle.token_list.specs.Stream.{Trees, end, leaf, group, head, at}
+use Rattle.token_list.specs.Stream.{Trees, end, leaf, group}
 use Rattle.token_list.specs.Contract.{InList, TokenAt, LeafAt, GroupAt, row_of}
 use Rattle.token_list.specs.declared.check.Cursor.{Cursor}
 use Rattle.token_list.specs.declared.stream.Token.{Token}
@@ -14,15 +14,16 @@ use Rattle.token_list.proofs.Texts.{chosen}
 use Rattle.reading.specs.Token.{starts, is_punct, is_word, CONST}
 use Rattle.reading.specs.Declaration.{Value}
 use Rattle.reading.specs.Took.{Took, took, Cause, stopped, Reader, Point, past_taken, beyond}
-use Rattle.reading.specs.Reading.{punct_if, copied, group_size, is_literal, negatable, negative_value}
+use Rattle.reading.specs.Reading.{punct_if, is_literal, negatable, negative_value}
 use Rattle.reading.specs.Place.{ident_row, word_row, token_end, past_token_lem, before_name, parameter_name_at}
 use Rattle.reading.specs.Place.{literal_row}
-use Rattle.parse.specs.Contract.{Moved, Said, on, Meets, stands, refuses, stream, point, CursorAt, TokenIn}
+use Rattle.parse.specs.Contract.{Said, on, Meets, stands, refuses, stream, point, CursorAt, TokenIn}
 use Rattle.parse.specs.Contract.{WordAt, NameAt, past_of, ValueIn, value_shown, value_said}
-use Rattle.parse.proofs.Meeting.{past_in_of, group_stream}
+use Rattle.parse.proofs.Meeting.{past_in_of}
 use Rattle.parse.specs.declared.utils.Word.{Word}
-use Rattle.parse.specs.declared.variants.ValueStep.{ValueStep}
-use Rattle.parse.specs.declared.variants.ValueStep.TheVariants as value_steps
+use Rattle.std.specs.Prelude.{Result, Ok, Err}
+use Rattle.parse.specs.declared.variants.ValueAt.{ValueAt}
+use Rattle.token_list.specs.declared.check.Refusal.{Refusal}
 
 -- ## Cursors
 
@@ -68,17 +69,6 @@ token_past s c d t i l e =
     record {
       in_list = past_in_of s c d t e i l.token;
       here = ap (point s) e ∙ sym (ap (token_end c.row) l.here);
-    }
-
-pub group_past : {s : List ℕ} {c d : Cursor} (t : Token) (r : ℕ) {b0 b1 : List ℕ} → InList s c → GroupAt s c.at t
-    → Moved s c d (copied r (at s t.next).here) (head (at s t.next).outer) b0 b1
-    → CursorAt s (past_token_lem (point s c)) d
-group_past {s} {c} {d} t r i g m =
-    let ins = (at s t.next).here in
-    let n : d.row ≡ c.row + group_size ins = omega (arith, m.row, length-replicate {A = ℕ} (group_size ins) r) in
-    record {
-      in_list = m.in_list;
-      here = (λ j. record { row = n j; stream = m.here j }) ∙ sym (ap (token_end c.row) (group_stream s c t i g));
     }
 
 -- past a punctuation that stands at x
@@ -141,12 +131,14 @@ literal_past : {v : Value} {rs : List ℕ} {us : Trees} → PastMinus (took v rs
 literal_past (negative h) = h
 
 -- the same value, with its literal's row said otherwise
-pub value_as : (s : List ℕ) (r : ValueStep) (f g : Value → ℕ) (v : Value) → g v ≡ f v → value_shown s f r v →
+pub value_as : (s : List ℕ) (r : Result (ValueAt × Cursor) Refusal) (f g : Value → ℕ) (v : Value) → g v ≡ f v
+    → value_shown s f r v →
     value_shown s g r v
-value_as s (value_steps.At w d) f g v e h = (h.0, subst⁻¹ (λ (n : ℕ). ValueIn s n w) e h.1)
-value_as s (value_steps.Refused r) f g v e h = h
+value_as s (Ok (w, d)) f g v e h = (h.0, subst⁻¹ (λ (n : ℕ). ValueIn s n w) e h.1)
+value_as s (Err r) f g v e h = h
 
-pub value_past_minus : {s : List ℕ} {d : Cursor} {b0 b1 : List ℕ} (r : ValueStep) (row : ℕ) → d.row ≡ row + 1
+pub value_past_minus : {s : List ℕ} {d : Cursor} {b0 b1 : List ℕ} (r : Result (ValueAt × Cursor) Refusal) (row : ℕ) →
+    d.row ≡ row + 1
     → Meets s d b0 b1 (value_shown s (λ v. d.row) r) (value_said r) (negative_value d.row (stream s d))
     → Meets s d b0 b1 (value_shown s (literal_row row) r) (value_said r) (negative_value d.row (stream s d))
 value_past_minus {s} {d} {b0} {b1} r row q m = go refl m

@@ -9,21 +9,19 @@ use lib.ListN.{length, set}
 use Rattle.token_list.specs.Layout.{PUNCT}
 use Rattle.token_list.specs.Byte.{COMMA, GREATER, LESS, MINUS}
 use Rattle.token_list.specs.Row.{Row, first}
-use Rattle.token_list.specs.Stream.{Trees, end, leaf, head, at}
-use Rattle.token_list.specs.Contract.{InList, TokenAt, LeafAt, GroupAt, row_of}
+use Rattle.token_list.specs.Stream.{Trees, leaf, at}
+use Rattle.token_list.specs.Contract.{InList, TokenAt, LeafAt, row_of}
 use Rattle.token_list.specs.declared.check.Cursor.{Cursor}
 use Rattle.token_list.specs.declared.stream.Token.{Token}
-use Rattle.token_list.proofs.Texts.{chosen, passed_over}
 use Rattle.token_list.proofs.Streams.{byte_of}
-use Rattle.reading.specs.Took.{Took, took, refuse, onward}
-use Rattle.reading.specs.Reading.{Stops, stopping, Ending, at_end, at_angle, at_comma, at_group, RunEnd, ended, Verdict}
+use Rattle.reading.specs.Took.{Took, took, onward}
+use Rattle.reading.specs.Reading.{Stops, at_angle, at_comma, RunEnd, Verdict}
 use Rattle.reading.specs.Reading.{belongs, ends, unopened, judge, judge_punct, judged, run_from, first_rows, kept, run}
-use Rattle.reading.specs.Reading.{copied}
-use Rattle.parse.specs.Contract.{Moved, on, no, any, Meets, stands, refuses, stream, point, CursorAt, InsideAt}
+use Rattle.parse.specs.Contract.{on, no, any, Meets, stands, refuses, stream, point, CursorAt, InsideAt}
 use Rattle.parse.specs.Contract.{past_of, Belonged, run_end_of, RunAt}
 use Rattle.parse.specs.declared.runs.Run.{Run}
 use Rattle.reading.specs.Place.{end_of}
-use Rattle.parse.proofs.Meeting.{leaf_belonged, group_belonged, group_stream, Going, going_start, meets_as}
+use Rattle.parse.proofs.Meeting.{leaf_belonged, Going, going_start, meets_as}
 use Rattle.parse.proofs.Places.{meets_beyond}
 
 pub judge_of : (st : Stops) (depth : ℕ) (m : Bool) (s : List ℕ) (i : ℕ) (t : Token) → TokenAt s i t
@@ -69,19 +67,7 @@ module _ (st : Stops) (r : ℕ) (s : List ℕ) (c : Cursor) (in_list : InList s 
   abbrev here : Took RunEnd
   here = run_from st r depth m c.row (stream s c)
 
-  pub turn_end : stream s c ≡ end → here ≡ took (ended at_end depth) [] (stream s c)
-  turn_end e = ap (run_from st r depth m c.row) e ∙ ap (took (ended at_end depth) []) (sym e)
-
   module _ (t : Token) (l : LeafAt s c.at t) where
-    leaf_judged : (v : Verdict) → judge st depth m (row_of s t) ≡ v
-        → here ≡ judged depth v (λ e n. onward (r ∷ []) (run_from st r e n (c.row + 1) (at s t.next).here))
-        (leaf (row_of s t) (at s t.next).here) c.row
-    leaf_judged v q =
-        ap (run_from st r depth m c.row) l.here
-        ∙ ap (λ (x : Verdict). judged depth x
-        (λ e n. onward (r ∷ []) (run_from st r e n (c.row + 1) (at s t.next).here))
-        (leaf (row_of s t) (at s t.next).here) c.row) q
-
     pub turn_leaf : (d : Cursor) (b0 b1 : List ℕ) (e : ℕ) (n : Bool) → d ≡ past_of c t → b1 ≡ set b0 c.row r →
         judge st depth m (row_of s t) ≡ belongs e n
         → Belonged s c d b0 b1 here (run_from st r e n d.row (stream s d))
@@ -90,32 +76,6 @@ module _ (st : Stops) (r : ℕ) (s : List ℕ) (c : Cursor) (in_list : InList s 
         (ap (λ (x : Verdict). judged depth x
         (λ e n. onward (r ∷ []) (run_from st r e n (c.row + 1) (at s t.next).here))
         (leaf (row_of s t) (at s t.next).here) c.row) v)
-
-    pub turn_leaf_ends : (x : Ending) → judge st depth m (row_of s t) ≡ ends x
-        → here ≡ took (ended x depth) [] (stream s c)
-    turn_leaf_ends x v = leaf_judged (ends x) v ∙ ap (took (ended x depth) []) (sym l.here)
-
-    pub turn_leaf_unopened : judge st depth m (row_of s t) ≡ unopened → here ≡ refuse 15 c.row
-    turn_leaf_unopened v = leaf_judged unopened v
-
-  module _ (t : Token) (g : GroupAt s c.at t) where
-    abbrev ins : Trees
-    ins = (at s t.next).here
-
-    abbrev aft : Trees
-    aft = head (at s t.next).outer
-
-    pub turn_group : (d : Cursor) (b0 b1 : List ℕ) → Moved s c d (copied r ins) aft b0 b1 →
-        stopping st depth t.byte ≡ false
-        → Belonged s c d b0 b1 here (run_from st r depth false d.row (stream s d))
-    turn_group d b0 b1 k v =
-        group_belonged (run_from st r depth m) (run_from st r depth false) t r in_list g k (passed_over _ _ _ v)
-
-    pub turn_group_ends : stopping st depth t.byte ≡ true → here ≡ took (ended at_group depth) [] (stream s c)
-    turn_group_ends v =
-        let group-here = group_stream s c t in_list g in
-        ap (run_from st r depth m c.row) group-here ∙ chosen _ _ _ v ∙
-        ap (took (ended at_group depth) []) (sym group-here)
 
 -- ## A whole run: it came from the cursor `from` to c
 

@@ -1,5 +1,5 @@
 -- Every reader's contract: its answer is what the reading says, and the role buffer has the roles of what was taken.
-use Rattle.std.specs.Prelude.{◌≡◌, List, ℕ, ◌+◌, ◌≤◌, ◌<◌, length}
+use Rattle.std.specs.Prelude.{◌≡◌, List, ℕ, ◌+◌, ◌≤◌, ◌<◌, length, Result, Ok, Err}
 use Rattle.std.proofs.Math.Seq.{slice}
 use Rattle.std.proofs.lemmas.List.Edits.{sets}
 use Rattle.token_list.specs.Stream.{Trees, at, row_start}
@@ -7,6 +7,8 @@ use Rattle.token_list.specs.Contract.{InList, TokenAt}
 use Rattle.token_list.specs.declared.check.Cursor.{Cursor}
 use Rattle.token_list.specs.declared.check.Refusal.{Refusal}
 use Rattle.token_list.specs.declared.stream.Token.{Token}
+use Rattle.parse.specs.declared.utils.Next.{Next}
+use Rattle.parse.specs.declared.utils.Next.TheVariants.{One, Done}
 use Rattle.reading.specs.Took.{Took, took, Cause, stopped, Reader, onward, gathered, Point}
 
 -- from the cursor c to d, past rows with the roles rs, with us left of the stream; the role buffer before and after
@@ -39,6 +41,21 @@ any v = Unit {0}
 
 abbrev pub refusal : Refusal → Said
 refusal r = no r.number r.place
+
+-- what a reader's answer says, where what it read ends at this cursor
+abbrev pub said : {R : Type 0} → (R → Cursor) → Result R Refusal → Said
+said end (Ok r) = on (end r)
+said end (Err r) = refusal r
+
+-- what a reader's answer tells of the value: a refusal stands for none
+abbrev pub shown : {R A : Type 0} → (R → A → Type 0) → Result R Refusal → A → Type 0
+shown f (Ok r) v = f r v
+shown f (Err r) v = ⊥
+
+-- the cursor after one thing, or after their end
+abbrev pub next_of : {R E : Type 0} → (R → Cursor) → (E → Cursor) → Next R E → Cursor
+next_of f g (One r) = f r
+next_of f g (Done d) = g d
 
 -- ## Where cursors and tokens stand
 

@@ -1,10 +1,12 @@
 -- The answers of utils, runs, attributes, visibility, data_type and generics.
-use Rattle.std.specs.Prelude.{◌≡◌, Bool, true, false, cond, List, [], ◌∷◌, ℕ, ◌+◌, ◌≤◌, length}
+use Rattle.std.specs.Prelude.{◌≡◌, Bool, true, false, cond, List, [], ◌∷◌, ℕ, ◌+◌, ◌≤◌, length, Result, Ok, Err, Option}
+use Rattle.std.specs.Prelude.{Some, None}
 use Rattle.token_list.specs.Byte.{COLON, EQUALS}
 use Rattle.token_list.specs.Layout.{IDENT}
 use Rattle.token_list.specs.Stream.{Trees, end, at}
 use Rattle.token_list.specs.Contract.{Skipped}
 use Rattle.token_list.specs.declared.check.Cursor.{Cursor}
+use Rattle.token_list.specs.declared.check.Refusal.{Refusal}
 use Rattle.token_list.specs.declared.stream.Token.{Token}
 use Rattle.reading.specs.Token.{starts, is_group}
 use Rattle.reading.specs.Role as role
@@ -12,30 +14,23 @@ use Rattle.reading.specs.Declaration as declaration
 use Rattle.reading.specs.Took.{took, Cause, stopped, refuse, Reader, pure, ◌>>=◌, Point, beyond}
 use Rattle.reading.specs.Reading as reading
 use Rattle.reading.specs.Place.{word_row, past_token_lem, run_end}
-use Rattle.parse.specs.Meets.{Said, on, refusal, stream, point, CursorAt, TokenIn, TextOf, InsideAt, Belonged}
-use Rattle.parse.specs.Meets.{Gained}
-use Rattle.parse.specs.declared.utils.Step.{Step}
-use Rattle.parse.specs.declared.utils.Step.TheVariants as steps
+use Rattle.parse.specs.Meets.{Said, on, said, shown, next_of, stream, point, CursorAt, TokenIn, TextOf, InsideAt}
+use Rattle.parse.specs.Meets.{Belonged, Gained}
+use Rattle.parse.specs.declared.utils.Next.{Next}
+use Rattle.parse.specs.declared.utils.Next.TheVariants.{One, Done}
+use Rattle.parse.specs.declared.utils.PlacedName.{PlacedName}
+use Rattle.parse.specs.declared.data_type.Head.{Head}
+use Rattle.parse.specs.declared.generics.ParameterAt.{ParameterAt}
 use Rattle.parse.specs.declared.utils.Word.{Word}
-use Rattle.parse.specs.declared.utils.MaybeWord.{MaybeWord}
-use Rattle.parse.specs.declared.utils.MaybeWord.TheVariants as words
-use Rattle.parse.specs.declared.utils.PlacedNameStep.{PlacedNameStep}
-use Rattle.parse.specs.declared.utils.PlacedNameStep.TheVariants as placed_names
-use Rattle.parse.specs.declared.utils.NameStep.{NameStep}
-use Rattle.parse.specs.declared.utils.NameStep.TheVariants as name_steps
 use Rattle.parse.specs.declared.runs.Stops.{Stops}
 use Rattle.parse.specs.declared.runs.Ending.{Ending}
 use Rattle.parse.specs.declared.runs.Ending.TheVariants as endings
 use Rattle.parse.specs.declared.runs.Run.{Run}
-use Rattle.parse.specs.declared.runs.RunStep.{RunStep}
-use Rattle.parse.specs.declared.runs.RunStep.TheVariants as run_steps
 use Rattle.parse.specs.declared.runs.Verdict.{Verdict}
 use Rattle.parse.specs.declared.runs.Verdict.TheVariants as verdicts
 use Rattle.parse.specs.declared.runs.RunToken.{RunToken}
 use Rattle.parse.specs.declared.runs.RunToken.TheVariants as run_tokens
 use Rattle.parse.specs.declared.attributes.AttributeAt.{AttributeAt}
-use Rattle.parse.specs.declared.attributes.AttributeStep.{AttributeStep}
-use Rattle.parse.specs.declared.attributes.AttributeStep.TheVariants as attribute_steps
 use Rattle.parse.specs.declared.visibility.PubWord.{PubWord}
 use Rattle.parse.specs.declared.visibility.PubWord.TheVariants as pub_words
 use Rattle.parse.specs.declared.visibility.PubStep.{PubStep}
@@ -43,30 +38,15 @@ use Rattle.parse.specs.declared.visibility.PubStep.TheVariants as pub_steps
 use Rattle.parse.specs.declared.visibility.VisibilityAt.{VisibilityAt}
 use Rattle.parse.specs.declared.data_type.DataType.{DataType}
 use Rattle.parse.specs.declared.data_type.DataType.TheVariants as kinds
-use Rattle.parse.specs.declared.data_type.KindStep.{KindStep}
-use Rattle.parse.specs.declared.data_type.KindStep.TheVariants as kind_steps
-use Rattle.parse.specs.declared.data_type.HeadStep.{HeadStep}
-use Rattle.parse.specs.declared.data_type.HeadStep.TheVariants as head_steps
 use Rattle.parse.specs.declared.generics.ParameterKind.{ParameterKind}
 use Rattle.parse.specs.declared.generics.ParameterKind.TheVariants as parameter_kinds
 use Rattle.parse.specs.declared.generics.RunPart.{RunPart}
 use Rattle.parse.specs.declared.generics.RunPart.TheVariants as run_parts
-use Rattle.parse.specs.declared.generics.ParameterStep.{ParameterStep}
-use Rattle.parse.specs.declared.generics.ParameterStep.TheVariants as parameters
-use Rattle.parse.specs.declared.generics.ParameterRunStep.{ParameterRunStep}
-use Rattle.parse.specs.declared.generics.ParameterRunStep.TheVariants as parameter_run_steps
-use Rattle.parse.specs.declared.generics.CountStep.{CountStep}
-use Rattle.parse.specs.declared.generics.CountStep.TheVariants as counts
-use Rattle.parse.specs.declared.generics.ClauseAt.{ClauseAt}
-use Rattle.parse.specs.declared.generics.ClauseAt.TheVariants as clauses
-use Rattle.parse.specs.declared.generics.ClauseStep.{ClauseStep}
-use Rattle.parse.specs.declared.generics.ClauseStep.TheVariants as clause_steps
 
 -- ## utils
 
-abbrev pub step_said : Step → Said
-step_said (steps.At d) = on d
-step_said (steps.Refused r) = refusal r
+abbrev pub step_said : Result Cursor Refusal → Said
+step_said = said (λ d. d)
 
 -- a word of this text that begins at x: its token, and the ident's row
 pub record WordAt (s : List ℕ) (x : Point) (w : Word) (name : List ℕ) : Type 0 where
@@ -74,13 +54,13 @@ pub record WordAt (s : List ℕ) (x : Point) (w : Word) (name : List ℕ) : Type
   pub token : TokenIn s (word_row x) w.token
   pub row : w.row ≡ word_row x
 
-abbrev pub word_said : Cursor → MaybeWord → Said
-word_said c words.Missing = on c
-word_said c (words.Found w) = on w.next
+abbrev pub word_said : Cursor → Option Word → Said
+word_said c None = on c
+word_said c (Some w) = on w.next
 
-abbrev pub word_shown : List ℕ → Cursor → MaybeWord → reading.Word → Type 0
-word_shown s c words.Missing v = v ≡ reading.missing
-word_shown s c (words.Found w) v = (t : List ℕ) × (v ≡ reading.found t w.row) × WordAt s (point s c) w t
+abbrev pub word_shown : List ℕ → Cursor → Option Word → reading.Word → Type 0
+word_shown s c None v = v ≡ reading.missing
+word_shown s c (Some w) v = (t : List ℕ) × (v ≡ reading.found t w.row) × WordAt s (point s c) w t
 
 -- a name that is a word at x: its token, and the row where it begins
 pub record NameAt (s : List ℕ) (x : Point) (t : Token) (row : ℕ) (name : List ℕ) : Type 0 where
@@ -88,23 +68,20 @@ pub record NameAt (s : List ℕ) (x : Point) (t : Token) (row : ℕ) (name : Lis
   pub token : TokenIn s (word_row x) t
   pub place : row ≡ x.row
 
-abbrev pub placed_name_said : PlacedNameStep → Said
-placed_name_said (placed_names.At n) = on n.next
-placed_name_said (placed_names.Refused r) = refusal r
+abbrev pub placed_name_said : Result PlacedName Refusal → Said
+placed_name_said = said (λ n. n.next)
 
-abbrev pub name_said : NameStep → Said
-name_said (name_steps.At t d) = on d
-name_said (name_steps.Refused r) = refusal r
+abbrev pub name_said : Result (Token × Cursor) Refusal → Said
+name_said = said (λ n. n.1)
 
 -- a name that stands at x, and past it
-abbrev pub name_shown : List ℕ → Point → NameStep → List ℕ → Type 0
-name_shown s x (name_steps.At t d) v = TextOf s t v × TokenIn s x.row t × CursorAt s (past_token_lem x) d
-name_shown s x (name_steps.Refused r) v = ⊥
+abbrev pub name_shown : List ℕ → Point → Result (Token × Cursor) Refusal → List ℕ → Type 0
+name_shown s x = shown (λ n v. TextOf s n.0 v × TokenIn s x.row n.0 × CursorAt s (past_token_lem x) n.1)
 
 -- the ident that stands alone in the stream at c, and the way past its group
-abbrev pub lone_shown : List ℕ → Cursor → MaybeWord → Type 0
-lone_shown s c words.Missing = reading.lone reading.is_ident (stream s c) ≡ false
-lone_shown s c (words.Found w) =
+abbrev pub lone_shown : List ℕ → Cursor → Option Word → Type 0
+lone_shown s c None = reading.lone reading.is_ident (stream s c) ≡ false
+lone_shown s c (Some w) =
     (reading.lone reading.is_ident (stream s c) ≡ true) × TextOf s w.token (reading.first_text (stream s c))
     × (w.token.kind ≡ IDENT) × (w.row ≡ c.row) × Skipped s c w.next
     × TokenIn s c.row w.token
@@ -126,15 +103,16 @@ verdict_of (verdicts.Ends e) = reading.ends (ending_of e)
 verdict_of verdicts.Unopened = reading.unopened
 
 -- one token of a run, by the answer
-abbrev pub RunTokenRead : List ℕ → Cursor → List ℕ → List ℕ → Stops → ℕ → ℕ → Bool → RunToken → Type 0
-RunTokenRead s c before after st r depth minus (run_tokens.On d e m) =
+abbrev pub RunTokenRead : List ℕ → Cursor → List ℕ → List ℕ → Stops → ℕ → ℕ → Bool → Result RunToken Refusal
+    → Type 0
+RunTokenRead s c before after st r depth minus (Ok (run_tokens.On d e m)) =
     Belonged s c d before after (reading.run_from (stops_of st) r depth minus c.row (stream s c))
     (reading.run_from (stops_of st) r e m d.row (stream s d)) × (e ≤ d.at)
-RunTokenRead s c before after st r depth minus (run_tokens.Ended e) =
+RunTokenRead s c before after st r depth minus (Ok (run_tokens.Ended e)) =
     (reading.run_from (stops_of st) r depth minus c.row (stream s c) ≡
     took (reading.ended (ending_of e) depth) [] (stream s c)) ×
     (after ≡ before)
-RunTokenRead s c before after st r depth minus (run_tokens.Refused f) =
+RunTokenRead s c before after st r depth minus (Err f) =
     (reading.run_from (stops_of st) r depth minus c.row (stream s c) ≡ refuse f.number f.place) ×
     (after ≡ before)
 
@@ -149,15 +127,12 @@ pub record RunAt (s : List ℕ) (st : reading.Stops) (role : ℕ) (x : Point) (r
   pub ended : run_end_of r ≡ run_end st role x
   pub tokens : InsideAt (reading.run st role) s r.from v
 
-abbrev pub run_said : RunStep → Said
-run_said (run_steps.At d e u) = on d
-run_said (run_steps.Refused r) = refusal r
+abbrev pub run_said : Result Run Refusal → Said
+run_said = said (λ r. r.to)
 
 -- the run that begins at c
-abbrev pub run_shown : List ℕ → reading.Stops → ℕ → Cursor → RunStep → Trees → Type 0
-run_shown s st role c (run_steps.At d e u) v =
-    RunAt s st role (point s c) (record { from = c; to = d; ending = e; unclosed = u }) v
-run_shown s st role c (run_steps.Refused r) v = ⊥
+abbrev pub run_shown : List ℕ → reading.Stops → ℕ → Cursor → Result Run Refusal → Trees → Type 0
+run_shown s st role c = shown (λ r v. (r.from ≡ c) × RunAt s st role (point s c) r v)
 
 -- ## attributes
 
@@ -165,15 +140,20 @@ run_shown s st role c (run_steps.Refused r) v = ⊥
 abbrev pub attribute_of : List ℕ → AttributeAt → List Trees
 attribute_of s a = cond a.idle [] ((at s a.token.next).here ∷ [])
 
--- one `#` with its group, or an idle one, by the answer
-abbrev pub AttributeRead : List ℕ → Cursor → List ℕ → List ℕ → AttributeStep → Type 0
-AttributeRead s c before after (attribute_steps.One a) =
+-- one `#` with its group, or an idle one, where it stands, by the answer
+abbrev pub HashRead : List ℕ → Cursor → List ℕ → List ℕ → Result AttributeAt Refusal → Type 0
+HashRead s c before after (Ok a) =
     Gained s c a.next before after (attribute_of s a) (reading.attributes c.row (stream s c))
     (reading.attributes a.next.row (stream s a.next)) × TokenIn s (c.row + 1) a.token
-AttributeRead s c before after attribute_steps.Done =
-    (reading.attributes c.row (stream s c) ≡ took [] [] (stream s c)) × (after ≡ before)
-AttributeRead s c before after (attribute_steps.Refused r) =
+HashRead s c before after (Err r) =
     (w : Cause) × (reading.attributes c.row (stream s c) ≡ stopped w r.number r.place) × (after ≡ before)
+
+-- the same, where one may stand
+abbrev pub AttributeRead : List ℕ → Cursor → List ℕ → List ℕ → Result (Option AttributeAt) Refusal → Type 0
+AttributeRead s c before after (Ok (Some a)) = HashRead s c before after (Ok a)
+AttributeRead s c before after (Ok None) =
+    (reading.attributes c.row (stream s c) ≡ took [] [] (stream s c)) × (after ≡ before)
+AttributeRead s c before after (Err r) = HashRead s c before after (Err r)
 
 -- ## visibility
 
@@ -210,22 +190,18 @@ abbrev pub kind_of : DataType → declaration.Kind
 kind_of kinds.Struct = declaration.struct
 kind_of kinds.Enum = declaration.enum
 
-abbrev pub kind_said : KindStep → Said
-kind_said (kind_steps.At k d) = on d
-kind_said (kind_steps.Refused r) = refusal r
+abbrev pub kind_said : Result (DataType × Cursor) Refusal → Said
+kind_said = said (λ k. k.1)
 
-abbrev pub kind_shown : KindStep → declaration.Kind → Type 0
-kind_shown (kind_steps.At k d) v = kind_of k ≡ v
-kind_shown (kind_steps.Refused r) v = ⊥
+abbrev pub kind_shown : Result (DataType × Cursor) Refusal → declaration.Kind → Type 0
+kind_shown = shown (λ k v. kind_of k.0 ≡ v)
 
-abbrev pub head_said : HeadStep → Said
-head_said (head_steps.At h) = on h.name.next
-head_said (head_steps.Refused r) = refusal r
+abbrev pub head_said : Result Head Refusal → Said
+head_said = said (λ h. h.name.next)
 
-abbrev pub head_shown : List ℕ → Cursor → HeadStep → reading.Head → Type 0
-head_shown s c (head_steps.At h) v =
-    (kind_of h.kind ≡ v.kind) × NameAt s (beyond item_word (point s c)) h.name.token h.name.place v.name
-head_shown s c (head_steps.Refused r) v = ⊥
+abbrev pub head_shown : List ℕ → Cursor → Result Head Refusal → reading.Head → Type 0
+head_shown s c = shown
+    (λ h v. (kind_of h.kind ≡ v.kind) × NameAt s (beyond item_word (point s c)) h.name.token h.name.place v.name)
 
 -- ## generics
 
@@ -274,36 +250,40 @@ pub record ParameterOf (s : List ℕ) (k : ParameterKind) (name : Token) (a : de
   pub kind : k ≡ parameter_kind a
   pub text : TextOf s name (parameter_text a)
 
-abbrev pub parameter_said : ParameterStep → Said
-parameter_said (parameters.One p) = on p.next
-parameter_said (parameters.Done d) = on d
-parameter_said (parameters.Refused r) = refusal r
+abbrev pub parameter_said : Result (Next ParameterAt Cursor) Refusal → Said
+parameter_said = said (next_of (λ p. p.next) (λ d. d))
 
 -- a parameter whose name stands at x
-abbrev pub parameter_shown : List ℕ → Point → ParameterStep → reading.Maybe declaration.Parameter → Type 0
-parameter_shown s x (parameters.One p) v =
+abbrev pub parameter_at_shown : List ℕ → Point → ParameterAt → reading.Maybe declaration.Parameter → Type 0
+parameter_at_shown s x p v =
     (a : declaration.Parameter) × (v ≡ reading.one a) × ParameterOf s p.kind p.name a ×
     TokenIn s x.row p.name × ParameterRunAt s (past_token_lem x) (bound_of_lem a) (default_of a) p.part p.run
-parameter_shown s x (parameters.Done d) v = v ≡ reading.done
-parameter_shown s x (parameters.Refused r) v = ⊥
 
-abbrev pub parameter_run_said : ParameterRunStep → Said
-parameter_run_said (parameter_run_steps.At m r) = on r.to
-parameter_run_said (parameter_run_steps.Refused r) = refusal r
+-- the same, or no parameter
+abbrev pub parameter_shown : List ℕ → Point → Result (Next ParameterAt Cursor) Refusal
+    → reading.Maybe declaration.Parameter → Type 0
+parameter_shown s x (Ok (One p)) v = parameter_at_shown s x p v
+parameter_shown s x (Ok (Done d)) v = v ≡ reading.done
+parameter_shown s x (Err r) v = ⊥
+
+abbrev pub parameter_run_said : Result (RunPart × Run) Refusal → Said
+parameter_run_said = said (λ m. m.1.to)
 
 -- a separator at x and the run after it, which is told as this part; or neither
-abbrev pub optional_run_shown : List ℕ → ℕ → RunPart → Point → ParameterRunStep → Trees → Type 0
-optional_run_shown s separator part x (parameter_run_steps.At m r) v =
+abbrev pub optional_run_shown : List ℕ → ℕ → RunPart → Point → Result (RunPart × Run) Refusal → Trees
+    → Type 0
+optional_run_shown s separator part x (Ok (m, r)) v =
     (starts (reading.is_punct separator) x.stream ≡ false → (m ≡ run_parts.Absent) × (v ≡ end)) ×
     (starts (reading.is_punct separator) x.stream ≡ true → (m ≡ part) × OptionalRunAt s separator x r v)
-optional_run_shown s separator part x (parameter_run_steps.Refused r) v = ⊥
+optional_run_shown s separator part x (Err r) v = ⊥
 
 -- a type of this name, which ends at x
-abbrev pub type_shown : List ℕ → Point → List ℕ → ParameterRunStep → declaration.Parameter → Type 0
-type_shown s x n (parameter_run_steps.At m r) a =
+abbrev pub type_shown : List ℕ → Point → List ℕ → Result (RunPart × Run) Refusal → declaration.Parameter
+    → Type 0
+type_shown s x n (Ok (m, r)) a =
     (parameter_kinds.Type ≡ parameter_kind a) × (parameter_text a ≡ n) ×
     ParameterRunAt s x (bound_of_lem a) (default_of a) m r
-type_shown s x n (parameter_run_steps.Refused r) a = ⊥
+type_shown s x n (Err r) a = ⊥
 
 -- a parameter of this kind without a default
 abbrev pub parameter_made : ParameterKind → List ℕ → Trees → declaration.Parameter
@@ -322,29 +302,25 @@ abbrev pub after_name : List ℕ → Reader (reading.Maybe declaration.Parameter
 after_name n = reading.type_after n >>= reading.comma
 
 -- how many things were read
-abbrev pub count_said : CountStep → Said
-count_said (counts.At d n) = on d
-count_said (counts.Refused r) = refusal r
+abbrev pub count_said : Result (Cursor × ℕ) Refusal → Said
+count_said = said (λ n. n.0)
 
-abbrev pub count_shown : {A : Type 0} → CountStep → List A → Type 0
-count_shown (counts.At d n) v = n ≡ length v
-count_shown (counts.Refused r) v = ⊥
+abbrev pub count_shown : {A : Type 0} → Result (Cursor × ℕ) Refusal → List A → Type 0
+count_shown = shown (λ n v. n.1 ≡ length v)
 
 -- how many parameters stand in the generics
-abbrev pub generics_shown : CountStep → declaration.Generics → Type 0
+abbrev pub generics_shown : Result (Cursor × ℕ) Refusal → declaration.Generics → Type 0
 generics_shown r g = count_shown r (declaration.parameters_of g)
 
 -- no where clause at x, or the run of one
-abbrev pub ClauseOf : List ℕ → Point → declaration.Constraints → ClauseAt → Type 0
-ClauseOf s x v clauses.Absent = v ≡ declaration.unconstrained
-ClauseOf s x v (clauses.Where r) =
+abbrev pub ClauseOf : List ℕ → Point → declaration.Constraints → Option Run → Type 0
+ClauseOf s x v None = v ≡ declaration.unconstrained
+ClauseOf s x v (Some r) =
     (t : Trees) × (v ≡ declaration.constrained t) × (starts (reading.is_word reading.WHERE) x.stream ≡ true) ×
     RunAt s reading.clause_stops role.where_run (past_token_lem x) r t
 
-abbrev pub clause_said : ClauseStep → Said
-clause_said (clause_steps.At r d) = on d
-clause_said (clause_steps.Refused r) = refusal r
+abbrev pub clause_said : Result (Option Run × Cursor) Refusal → Said
+clause_said = said (λ r. r.1)
 
-abbrev pub clause_shown : List ℕ → Point → ClauseStep → declaration.Constraints → Type 0
-clause_shown s x (clause_steps.At r d) v = ClauseOf s x v r
-clause_shown s x (clause_steps.Refused r) v = ⊥
+abbrev pub clause_shown : List ℕ → Point → Result (Option Run × Cursor) Refusal → declaration.Constraints → Type 0
+clause_shown s x = shown (λ r v. ClauseOf s x v r.0)

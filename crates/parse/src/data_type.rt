@@ -4,11 +4,12 @@ ghost use Rattle.reading.specs.Reading.{data_type};
 ghost use Rattle.parse.specs.Contract.{Meets, stream, item_word, kind_shown, kind_said, head_shown, head_said};
 
 use crate::role;
-use crate::utils::{MaybeWord, PlacedName, consume_ident, wrong_token};
+use crate::utils::{PlacedName, consume_ident, wrong_token};
 use token_list::check::{Cursor, Refusal};
+use token_list::refusal;
 use token_list::text::text_is;
 
-#[derive(Clone, Copy)]
+#[derive(Clone, Copy, Debug, PartialEq, Eq)]
 pub enum DataType {
     Struct,
     Enum,
@@ -21,64 +22,42 @@ pub struct Head {
     pub name: PlacedName,
 }
 
-#[derive(Clone, Copy)]
-pub enum HeadStep {
-    At(Head),
-    Refused(Refusal),
-}
-
-// The item's word, and the cursor after it.
-#[derive(Clone, Copy)]
-pub enum KindStep {
-    At(DataType, Cursor),
-    Refused(Refusal),
-}
-
-// `struct` or `enum`.
-fn item_word(s: &[u8], c: Cursor, roles: &mut [u8]) -> KindStep
+// `struct` or `enum`, and the cursor after it.
+fn item_word(s: &[u8], c: Cursor, roles: &mut [u8]) -> Result<(DataType, Cursor), Refusal>
     requires { InList s.now c }
     ensures { Meets s.now c roles.old roles.new (kind_shown result) (kind_said result)
         (item_word c.row (stream s.now c)) }
 {
-    match consume_ident(s, c, roles, role::ITEM_WORD) {
-        MaybeWord::Missing => KindStep::Refused(wrong_token(s, c, 11)),
-        MaybeWord::Found(w) => {
-            let t = w.token;
-            let start = t.start;
-            let end = t.end;
-            let next = w.next;
-            let row = w.row;
-            if text_is(s, start, end, b"struct") {
-                return KindStep::At(DataType::Struct, next);
-            }
-            if text_is(s, start, end, b"enum") {
-                return KindStep::At(DataType::Enum, next);
-            }
-            KindStep::Refused(Refusal {
-                number: 25,
-                place: row,
-            })
-        }
+    let Some(w) = consume_ident(s, c, roles, role::ITEM_WORD) else {
+        return Err(wrong_token(s, c, refusal::NO_WORD));
+    };
+    let t = w.token;
+    if text_is(s, t.start, t.end, b"struct") {
+        return Ok((DataType::Struct, w.next));
     }
+    if text_is(s, t.start, t.end, b"enum") {
+        return Ok((DataType::Enum, w.next));
+    }
+    Err(Refusal {
+        number: refusal::OTHER_ITEM_WORD,
+        place: w.row,
+    })
 }
 
 // virtue's DataType::take
-pub fn take(s: &[u8], c: Cursor, roles: &mut [u8]) -> HeadStep
+pub fn take(s: &[u8], c: Cursor, roles: &mut [u8]) -> Result<Head, Refusal>
     requires { InList s.now c }
     ensures { Meets s.now c roles.old roles.new (head_shown s.now c result)
         (head_said result) (data_type c.row (stream s.now c)) }
 {
-    match item_word(s, c, roles) {
-        KindStep::Refused(r) => HeadStep::Refused(r),
-        KindStep::At(kind, d) => match consume_ident(s, d, roles, role::ITEM_NAME) {
-            MaybeWord::Missing => HeadStep::Refused(wrong_token(s, d, 11)),
-            MaybeWord::Found(w) => {
-                let token = w.token;
-                let place = d.row;
-                let next = w.next;
-                let name = PlacedName { token, place, next };
-                HeadStep::At(Head { kind, name })
-            }
-        },
-    }
+    let (kind, d) = item_word(s, c, roles)?;
+    let Some(w) = consume_ident(s, d, roles, role::ITEM_NAME) else {
+        return Err(wrong_token(s, d, refusal::NO_WORD));
+    };
+    let name = PlacedName {
+        token: w.token,
+        place: d.row,
+        next: w.next,
+    };
+    Ok(Head { kind, name })
 }

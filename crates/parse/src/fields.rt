@@ -5,15 +5,19 @@ ghost use Rattle.token_list.specs.Contract.{InList, GroupAt, Skipped};
 ghost use Rattle.reading.specs.Role.{delimiter};
 ghost use Rattle.reading.specs.Place.{past_token_lem};
 ghost use Rattle.reading.specs.Reading.{every, field_after, named_field, tuple_field};
+ghost use Rattle.reading.specs.Declaration.{Field, UnnamedField};
+ghost use Rattle.reading.proofs.Conserved.{named_field_round, tuple_field_round, every-ended, named_field_turning};
+ghost use Rattle.reading.proofs.Conserved.{tuple_field_turning};
 ghost use Rattle.parse.specs.Contract.{Meets, stream, point, Prefix, field_type, type_at_shown, type_said, NamedAt};
 ghost use Rattle.parse.specs.Contract.{field_shown, field_said, named_shown, named_said, unnamed_shown, unnamed_said};
 ghost use Rattle.parse.specs.Contract.{next_shown, next_said, count_shown, count_said, Inside};
 
-use crate::generics::CountStep;
-use crate::runs::{Run, RunStep, Stops, read_tokens_until_punct};
-use crate::utils::{Step, consume_punct_if, set_role, take_token, wrong_token};
+use crate::parts::{Enclosed, Parts, group};
+use crate::runs::{Run, Stops, read_tokens_until_punct};
+use crate::utils::{Next, consume_punct_if, set_role, take_token, wrong_token};
 use crate::{attributes, role, visibility};
 use token_list::check::{Cursor, Refusal};
+use token_list::refusal;
 use token_list::stream::{Peeked, Token, look, peek, skip};
 
 // A type: its run, and the cursor after the `,` that may follow.
@@ -21,12 +25,6 @@ use token_list::stream::{Peeked, Token, look, peek, skip};
 pub struct TypeAt {
     pub run: Run,
     pub next: Cursor,
-}
-
-#[derive(Clone, Copy)]
-pub enum TypeStep {
-    At(TypeAt),
-    Refused(Refusal),
 }
 
 // Where a field's visibility and type stand, and the cursor after the field. Its attributes are read
@@ -44,233 +42,159 @@ pub struct FieldAt {
     pub typed: TypeAt,
 }
 
-// A named field; the end, after attributes and, from the first cursor on, a visibility that belong to
-// none; or a refusal.
-#[derive(Clone, Copy)]
-pub enum FieldStep {
-    One(FieldAt),
-    Done(Cursor, Cursor),
-    Refused(Refusal),
-}
-
-// A named field's name and the cursor after it, without the places of its other parts.
-#[derive(Clone, Copy)]
-pub enum NamedStep {
-    One(Token, Cursor),
-    Done(Cursor),
-    Refused(Refusal),
-}
-
-// The cursor after a thing, without the places of its parts.
-#[derive(Clone, Copy)]
-pub enum NextStep {
-    One(Cursor),
-    Done(Cursor),
-    Refused(Refusal),
-}
-
-#[derive(Clone, Copy)]
-pub enum UnnamedFieldStep {
-    One(UnnamedFieldAt),
-    Done(Cursor),
-    Refused(Refusal),
-}
-
 // A type's run and the `,` that may follow.
-fn field_type(s: &[u8], c: Cursor, roles: &mut [u8]) -> TypeStep
+fn field_type(s: &[u8], c: Cursor, roles: &mut [u8]) -> Result<TypeAt, Refusal>
     requires { InList s.now c }
     ensures { Meets s.now c roles.old roles.new
         (type_at_shown s.now (point s.now c) result) (type_said result)
         (field_type c.row (stream s.now c)) }
 {
-    match read_tokens_until_punct(
-        s,
-        c,
-        roles,
-        Stops {
-            comma: true,
-            angle: false,
-            group: false,
-        },
-        role::TYPE,
-    ) {
-        RunStep::Refused(r) => TypeStep::Refused(r),
-        RunStep::At(to, ending, unclosed) => {
-            let run = Run {
-                from: c,
-                to,
-                ending,
-                unclosed,
-            };
-            let p = consume_punct_if(s, to, roles, b',', role::SEPARATOR);
-            let next = p.next;
-            TypeStep::At(TypeAt { run, next })
-        }
-    }
+    let stops = Stops {
+        comma: true,
+        angle: false,
+        group: false,
+    };
+    let run = read_tokens_until_punct(s, c, roles, stops, role::TYPE)?;
+    let next = consume_punct_if(s, run.to, roles, b',', role::SEPARATOR).unwrap_or(run.to);
+    Ok(TypeAt { run, next })
 }
 
 // `:` and a type.
-fn field_after(s: &[u8], c: Cursor, roles: &mut [u8]) -> TypeStep
+fn field_after(s: &[u8], c: Cursor, roles: &mut [u8]) -> Result<TypeAt, Refusal>
     requires { InList s.now c }
     ensures { (p : Prefix) (n : List ℕ) → Meets s.now c roles.old roles.new
         (NamedAt s.now (past_token_lem (point s.now c)) p n result) (type_said result)
         (field_after p.attributes p.visibility n c.row (stream s.now c)) }
 {
-    let p = consume_punct_if(s, c, roles, b':', role::SEPARATOR);
-    let next = p.next;
-    if !p.taken {
-        return TypeStep::Refused(wrong_token(s, next, 23));
-    }
+    let Some(next) = consume_punct_if(s, c, roles, b':', role::SEPARATOR) else {
+        return Err(wrong_token(s, c, refusal::NO_COLON));
+    };
     field_type(s, next, roles)
 }
 
 // One named field, or the end: for those who ask only for its name and where it ends.
-pub fn named_field(s: &[u8], c: Cursor, roles: &mut [u8]) -> NamedStep
+pub fn named_field(
+    s: &[u8],
+    c: Cursor,
+    roles: &mut [u8],
+) -> Result<Next<(Token, Cursor), Cursor>, Refusal>
     requires { InList s.now c }
     ensures { Meets s.now c roles.old roles.new (named_shown s.now c result)
         (named_said result) (named_field c.row (stream s.now c)) }
 {
-    match named_field_at(s, c, roles) {
-        FieldStep::Refused(r) => NamedStep::Refused(r),
-        FieldStep::Done(_, end) => NamedStep::Done(end),
-        FieldStep::One(f) => {
-            let name = f.name;
-            let typed = f.typed;
-            let next = typed.next;
-            NamedStep::One(name, next)
-        }
-    }
+    Ok(match named_field_at(s, c, roles)? {
+        Next::One(f) => Next::One((f.name, f.typed.next)),
+        Next::Done((_, end)) => Next::Done(end),
+    })
 }
 
-// One named field with the places of its parts, or the end.
-pub fn named_field_at(s: &[u8], c: Cursor, roles: &mut [u8]) -> FieldStep
+// One named field with the places of its parts; or the end, after attributes and, from the first cursor on, a
+// visibility that belong to none.
+pub fn named_field_at(
+    s: &[u8],
+    c: Cursor,
+    roles: &mut [u8],
+) -> Result<Next<FieldAt, (Cursor, Cursor)>, Refusal>
     requires { InList s.now c }
     ensures { Meets s.now c roles.old roles.new
         (field_shown s.now c result) (field_said result)
         (named_field c.row (stream s.now c)) }
 {
-    match attributes::try_take(s, c, roles) {
-        Step::Refused(r) => FieldStep::Refused(r),
-        Step::At(visibility) => {
-            let d = visibility::try_take(s, visibility, roles);
-            let row = d.row;
-            match peek(s, d) {
-                Peeked::Nothing => FieldStep::Done(visibility, d),
-                Peeked::Group(_) => FieldStep::Refused(Refusal {
-                    number: 22,
-                    place: row,
-                }),
-                Peeked::Leaf(t) => {
-                    if t.kind != b'i' {
-                        return FieldStep::Refused(Refusal {
-                            number: 22,
-                            place: row,
-                        });
-                    }
-                    let after = take_token(s, d, t, roles, role::FIELD_NAME);
-                    match field_after(s, after, roles) {
-                        TypeStep::Refused(r) => FieldStep::Refused(r),
-                        TypeStep::At(typed) => FieldStep::One(FieldAt {
-                            name: t,
-                            visibility,
-                            typed,
-                        }),
-                    }
-                }
+    let visibility = attributes::try_take(s, c, roles)?;
+    let d = visibility::try_take(s, visibility, roles);
+    let nameless = Refusal {
+        number: refusal::NO_FIELD_NAME,
+        place: d.row,
+    };
+    match peek(s, d) {
+        Peeked::Nothing => Ok(Next::Done((visibility, d))),
+        Peeked::Group(_) => Err(nameless),
+        Peeked::Leaf(t) => {
+            if t.kind != b'i' {
+                return Err(nameless);
             }
+            let after = take_token(s, d, t, roles, role::FIELD_NAME);
+            let typed = field_after(s, after, roles)?;
+            Ok(Next::One(FieldAt {
+                name: t,
+                visibility,
+                typed,
+            }))
         }
     }
 }
 
 // One field without a name, or the end: for those who ask only where it ends.
-pub fn tuple_field(s: &[u8], c: Cursor, roles: &mut [u8]) -> NextStep
+pub fn tuple_field(s: &[u8], c: Cursor, roles: &mut [u8]) -> Result<Next<Cursor, Cursor>, Refusal>
     requires { InList s.now c }
     ensures { Meets s.now c roles.old roles.new (next_shown result) (next_said result)
         (tuple_field c.row (stream s.now c)) }
 {
-    match tuple_field_at(s, c, roles) {
-        UnnamedFieldStep::Refused(r) => NextStep::Refused(r),
-        UnnamedFieldStep::Done(d) => NextStep::Done(d),
-        UnnamedFieldStep::One(f) => {
-            let typed = f.typed;
-            let next = typed.next;
-            NextStep::One(next)
-        }
-    }
+    Ok(match tuple_field_at(s, c, roles)? {
+        Next::One(f) => Next::One(f.typed.next),
+        Next::Done(end) => Next::Done(end),
+    })
 }
 
 // One field without a name with the places of its parts, or the end.
-pub fn tuple_field_at(s: &[u8], c: Cursor, roles: &mut [u8]) -> UnnamedFieldStep
+pub fn tuple_field_at(
+    s: &[u8],
+    c: Cursor,
+    roles: &mut [u8],
+) -> Result<Next<UnnamedFieldAt, Cursor>, Refusal>
     requires { InList s.now c }
     ensures { Meets s.now c roles.old roles.new
         (unnamed_shown s.now c result) (unnamed_said result)
         (tuple_field c.row (stream s.now c)) }
 {
-    let l = look(s, c);
-    if l.kind == 0 {
-        return UnnamedFieldStep::Done(c);
+    if look(s, c).kind == 0 {
+        return Ok(Next::Done(c));
     }
-    match attributes::try_take(s, c, roles) {
-        Step::Refused(r) => UnnamedFieldStep::Refused(r),
-        Step::At(visibility) => {
-            let d = visibility::try_take(s, visibility, roles);
-            match field_type(s, d, roles) {
-                TypeStep::Refused(r) => UnnamedFieldStep::Refused(r),
-                TypeStep::At(typed) => UnnamedFieldStep::One(UnnamedFieldAt { visibility, typed }),
-            }
-        }
-    }
+    let visibility = attributes::try_take(s, c, roles)?;
+    let d = visibility::try_take(s, visibility, roles);
+    let typed = field_type(s, d, roles)?;
+    Ok(Next::One(UnnamedFieldAt { visibility, typed }))
 }
 
-// virtue's UnnamedField::parse_with_name
-fn parse_with_name(s: &[u8], from: Cursor, roles: &mut [u8]) -> CountStep
-    requires { InList s.now from }
-    ensures { Meets s.now from roles.old roles.new (count_shown result) (count_said result)
-        (every named_field from.row (stream s.now from)) }
-{
-    let mut c = from;
-    let mut count = 0;
-    loop {
-        match named_field(s, c, roles) {
-            NamedStep::One(_, next) => {
-                c = next;
-                count += 1;
-            }
-            NamedStep::Done(end) => {
-                return CountStep::At(end, count);
-            }
-            NamedStep::Refused(r) => {
-                return CountStep::Refused(r);
-            }
-        }
+// The named fields of a group (virtue's UnnamedField::parse_with_name).
+struct NamedFields;
+
+impl Parts for NamedFields {
+    ghost Thing = { Field };
+
+    ghost reading = { λ x. named_field };
+
+    fn next(&self, s: &[u8], c: Cursor, roles: &mut [u8]) -> Result<Next<Cursor, Cursor>, Refusal> {
+        Ok(match named_field(s, c, roles)? {
+            Next::One((_, next)) => Next::One(next),
+            Next::Done(end) => Next::Done(end),
+        })
     }
+
+    ghost goes_on = { λ x. named_field_round };
 }
 
-// virtue's UnnamedField::parse
-fn parse(s: &[u8], from: Cursor, roles: &mut [u8]) -> CountStep
-    requires { InList s.now from }
-    ensures { Meets s.now from roles.old roles.new (count_shown result) (count_said result)
-        (every tuple_field from.row (stream s.now from)) }
-{
-    let mut c = from;
-    let mut count = 0;
-    loop {
-        match tuple_field(s, c, roles) {
-            // Made anew from its two numbers, as in visibility::try_take.
-            NextStep::One(next) => {
-                let at = next.at;
-                let row = next.row;
-                c = Cursor { at, row };
-                count += 1;
-            }
-            NextStep::Done(end) => {
-                return CountStep::At(end, count);
-            }
-            NextStep::Refused(r) => {
-                return CountStep::Refused(r);
-            }
-        }
+impl Enclosed for NamedFields {
+    ghost to_the_end = { λ x. every-ended named_field_turning };
+}
+
+// The fields of a group that have no names (virtue's UnnamedField::parse).
+struct TupleFields;
+
+impl Parts for TupleFields {
+    ghost Thing = { UnnamedField };
+
+    ghost reading = { λ x. tuple_field };
+
+    fn next(&self, s: &[u8], c: Cursor, roles: &mut [u8]) -> Result<Next<Cursor, Cursor>, Refusal> {
+        tuple_field(s, c, roles)
     }
+
+    ghost goes_on = { λ x. tuple_field_round };
+}
+
+impl Enclosed for TupleFields {
+    ghost to_the_end = { λ x. every-ended tuple_field_turning };
 }
 
 // The closing row of a group whose inside was read up to c.
@@ -280,41 +204,36 @@ pub fn close_group(s: &[u8], c: Cursor, roles: &mut [u8]) -> Cursor
     ensures skipped { Skipped s.now c result }
     ensures roles_after { roles.new ≡ set roles.old c.row delimiter }
 {
-    let row = c.row;
-    set_role(roles, row, role::DELIMITER);
+    set_role(roles, c.row, role::DELIMITER);
     skip(s, c)
 }
 
 // The group of named fields that opens at c, with its delimiters.
-pub fn named_group(s: &[u8], c: Cursor, t: Token, roles: &mut [u8]) -> CountStep
+pub fn named_group(
+    s: &[u8],
+    c: Cursor,
+    t: Token,
+    roles: &mut [u8],
+) -> Result<(Cursor, usize), Refusal>
     requires in_list { InList s.now c }
     requires group_at { GroupAt s.now c.at t }
     ensures { Meets s.now c roles.old roles.new (count_shown result) (count_said result)
         (Inside (every named_field) s.now c t) }
 {
-    let inside = take_token(s, c, t, roles, role::DELIMITER);
-    match parse_with_name(s, inside, roles) {
-        CountStep::Refused(r) => CountStep::Refused(r),
-        CountStep::At(d, count) => {
-            let after = close_group(s, d, roles);
-            CountStep::At(after, count)
-        }
-    }
+    group(&NamedFields, s, c, t, roles)
 }
 
 // The group of fields without names that opens at c, with its delimiters.
-pub fn tuple_group(s: &[u8], c: Cursor, t: Token, roles: &mut [u8]) -> CountStep
+pub fn tuple_group(
+    s: &[u8],
+    c: Cursor,
+    t: Token,
+    roles: &mut [u8],
+) -> Result<(Cursor, usize), Refusal>
     requires in_list { InList s.now c }
     requires group_at { GroupAt s.now c.at t }
     ensures { Meets s.now c roles.old roles.new (count_shown result) (count_said result)
         (Inside (every tuple_field) s.now c t) }
 {
-    let inside = take_token(s, c, t, roles, role::DELIMITER);
-    match parse(s, inside, roles) {
-        CountStep::Refused(r) => CountStep::Refused(r),
-        CountStep::At(d, count) => {
-            let after = close_group(s, d, roles);
-            CountStep::At(after, count)
-        }
-    }
+    group(&TupleFields, s, c, t, roles)
 }

@@ -8,6 +8,7 @@ pub mod data_type;
 pub mod fields;
 pub mod generics;
 pub mod item;
+mod parts;
 pub mod role;
 pub mod runs;
 pub mod utils;

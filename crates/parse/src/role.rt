@@ -1,4 +1,5 @@
-// The nineteen roles, and the byte for none.
+// The nineteen roles, and the byte for none. Numbers and not an enum: C gets the bytes as they are, and `set_role`,
+// `take_token` and their like promise of any byte that it is stored.
 pub const LEFT_OVER: u8 = 0;
 
 pub const ATTRIBUTE_MARK: u8 = 1;

@@ -9,6 +9,7 @@ ghost use Rattle.parse.specs.Contract.{Meets, stream, stops_of, verdict_of, RunT
 
 use crate::utils::{take_group, take_token};
 use token_list::check::{Cursor, Refusal};
+use token_list::refusal;
 use token_list::stream::{Peeked, Token, peek};
 
 // What a run stops at, at depth 0.
@@ -20,7 +21,7 @@ pub struct Stops {
 }
 
 // What ended a run.
-#[derive(Clone, Copy)]
+#[derive(Clone, Copy, Debug, PartialEq, Eq)]
 pub enum Ending {
     Comma,
     Angle,
@@ -35,13 +36,6 @@ pub struct Run {
     pub to: Cursor,
     pub ending: Ending,
     pub unclosed: bool,
-}
-
-// Where a run stopped, what ended it, and whether an angle was open there.
-#[derive(Clone, Copy)]
-pub enum RunStep {
-    At(Cursor, Ending, bool),
-    Refused(Refusal),
 }
 
 // What a token is to a run: it belongs, with the depth and whether a `-` was last from then on; it
@@ -59,29 +53,24 @@ pub enum Verdict {
 pub enum RunToken {
     On(Cursor, usize, bool),
     Ended(Ending),
-    Refused(Refusal),
 }
 
 // A `>` directly after a `-` of the same run.
 fn check_if_arrow(minus: bool, b: u8) -> bool
     ensures { result ≡ (minus && eqb b GREATER) }
 {
-    if minus {
-        return b == b'>';
-    }
-    false
+    minus && b == b'>'
 }
 
 // What a `,` is to a run at this depth.
 fn judge_comma(stops: Stops, depth: usize) -> Verdict
     ensures { verdict_of result ≡ cond (eqb depth 0 && stops.comma) (ends at_comma) (belongs depth false) }
 {
-    if depth == 0 {
-        if stops.comma {
-            return Verdict::Ends(Ending::Comma);
-        }
+    if depth == 0 && stops.comma {
+        Verdict::Ends(Ending::Comma)
+    } else {
+        Verdict::Belongs(depth, false)
     }
-    Verdict::Belongs(depth, false)
 }
 
 // What a punctuation is to a run at this depth; `minus`: a `-` stands right before it.
@@ -117,15 +106,7 @@ fn judge_punct(stops: Stops, depth: usize, minus: bool, b: u8) -> Verdict
 fn ends_run(stops: Stops, depth: usize, d: u8) -> bool
     ensures { result ≡ stopping (stops_of stops) depth d }
 {
-    if depth == 0 {
-        if stops.group {
-            if d == b'{' {
-                return true;
-            }
-            return d == b'(';
-        }
-    }
-    false
+    depth == 0 && stops.group && (d == b'{' || d == b'(')
 }
 
 // What a token that is no group is to a run.
@@ -135,10 +116,10 @@ fn judge(stops: Stops, depth: usize, minus: bool, t: Token) -> Verdict
         (belongs depth false) }
 {
     if t.kind == b'p' {
-        let b = t.byte;
-        return judge_punct(stops, depth, minus, b);
+        judge_punct(stops, depth, minus, t.byte)
+    } else {
+        Verdict::Belongs(depth, false)
     }
-    Verdict::Belongs(depth, false)
 }
 
 // One token of a run.
@@ -150,35 +131,31 @@ fn run_token(
     role: u8,
     depth: usize,
     minus: bool,
-) -> RunToken
+) -> Result<RunToken, Refusal>
     requires in_list { InList s.now c }
     requires depth_le_at { depth ≤ c.at }
     ensures { RunTokenRead s.now c roles.old
         roles.new stops role depth minus result }
 {
     match peek(s, c) {
-        Peeked::Nothing => RunToken::Ended(Ending::End),
+        Peeked::Nothing => Ok(RunToken::Ended(Ending::End)),
         Peeked::Leaf(t) => match judge(stops, depth, minus, t) {
             Verdict::Belongs(e, m) => {
                 let next = take_token(s, c, t, roles, role);
-                RunToken::On(next, e, m)
+                Ok(RunToken::On(next, e, m))
             }
-            Verdict::Ends(e) => RunToken::Ended(e),
-            Verdict::Unopened => {
-                let row = c.row;
-                RunToken::Refused(Refusal {
-                    number: 15,
-                    place: row,
-                })
-            }
+            Verdict::Ends(e) => Ok(RunToken::Ended(e)),
+            Verdict::Unopened => Err(Refusal {
+                number: refusal::UNMATCHED_ANGLE,
+                place: c.row,
+            }),
         },
         Peeked::Group(t) => {
-            let d = t.byte;
-            if ends_run(stops, depth, d) {
-                return RunToken::Ended(Ending::Group);
+            if ends_run(stops, depth, t.byte) {
+                return Ok(RunToken::Ended(Ending::Group));
             }
             let next = take_group(s, c, t, roles, role);
-            RunToken::On(next, depth, false)
+            Ok(RunToken::On(next, depth, false))
         }
     }
 }
@@ -190,7 +167,7 @@ pub fn read_tokens_until_punct(
     roles: &mut [u8],
     stops: Stops,
     role: u8,
-) -> RunStep
+) -> Result<Run, Refusal>
     requires { InList s.now from }
     ensures { Meets s.now from roles.old roles.new
         (run_shown s.now (stops_of stops) role from result) (run_said result)
@@ -200,18 +177,19 @@ pub fn read_tokens_until_punct(
     let mut depth = 0;
     let mut minus = false;
     loop {
-        match run_token(s, c, roles, stops, role, depth, minus) {
+        match run_token(s, c, roles, stops, role, depth, minus)? {
             RunToken::On(next, e, m) => {
                 c = next;
                 depth = e;
                 minus = m;
             }
             RunToken::Ended(ending) => {
-                let unclosed = 0 < depth;
-                return RunStep::At(c, ending, unclosed);
-            }
-            RunToken::Refused(r) => {
-                return RunStep::Refused(r);
+                return Ok(Run {
+                    from,
+                    to: c,
+                    ending,
+                    unclosed: 0 < depth,
+                });
             }
         }
     }

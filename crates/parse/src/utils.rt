@@ -1,5 +1,6 @@
 // Words and punctuation (virtue's parse/utils.rs), and the marking of roles.
-ghost use Rattle.std.specs.Prelude.{◌≡◌, Bool, true, false, ◌&&◌, ◌-◌, ◌≤◌, eqb, length, set, replicate};
+ghost use Rattle.std.specs.Prelude.{◌≡◌, Bool, true, false, ◌&&◌, ◌-◌, ◌≤◌, eqb, length, set, replicate, is_some};
+ghost use Rattle.std.specs.Prelude.{unwrap_or};
 ghost use Rattle.std.proofs.lemmas.List.Edits.{sets};
 ghost use Rattle.token_list.specs.Layout.{PUNCT};
 ghost use Rattle.token_list.specs.Row.{mark_fits};
@@ -16,11 +17,12 @@ use token_list::check::{Cursor, END, Refusal};
 use token_list::stream::{Peeked, Token, has_punct, look, peek, punct_at, skip};
 use token_list::text::text_is;
 
-// The answer of a reader: where it stopped, or a refusal.
+// What stands where things of one kind are read: one of them, or their end, which says from where to go on. The end is
+// no error, so it is no Result, whose `?` would hand it on.
 #[derive(Clone, Copy)]
-pub enum Step {
-    At(Cursor),
-    Refused(Refusal),
+pub enum Next<T, E> {
+    One(T),
+    Done(E),
 }
 
 // A word: the ident's token and row, which is not the row where the word begins where it is wrapped,
@@ -32,38 +34,12 @@ pub struct Word {
     pub next: Cursor,
 }
 
-#[derive(Clone, Copy)]
-pub enum MaybeWord {
-    Missing,
-    Found(Word),
-}
-
-// Whether a punctuation was taken, and the cursor then.
-#[derive(Clone, Copy)]
-pub struct MaybePunct {
-    pub taken: bool,
-    pub next: Cursor,
-}
-
 // A word that is a name: its token, the row where it begins, and the cursor past it.
 #[derive(Clone, Copy)]
 pub struct PlacedName {
     pub token: Token,
     pub place: usize,
     pub next: Cursor,
-}
-
-#[derive(Clone, Copy)]
-pub enum PlacedNameStep {
-    At(PlacedName),
-    Refused(Refusal),
-}
-
-// An ident that must stand there, with the cursor past it, or a refusal.
-#[derive(Clone, Copy)]
-pub enum NameStep {
-    At(Token, Cursor),
-    Refused(Refusal),
 }
 
 // One role byte, where the buffer has it.
@@ -75,28 +51,14 @@ pub fn set_role(roles: &mut [u8], row: usize, role: u8)
     }
 }
 
-// The same role for the rows from `from` up to `to`, for which the buffer has bytes.
-fn fill_within(roles: &mut [u8], from: usize, to: usize, role: u8)
-    requires { to ≤ length roles.old }
-    ensures { roles.new ≡ sets roles.old from (replicate (to - from) role) }
-{
-    let mut i = from;
-    while i < to {
-        roles[i] = role;
-        i += 1;
-    }
-}
-
 // The same role for the rows from `from` up to `to`, where the buffer has bytes for them.
 pub fn fill(roles: &mut [u8], from: usize, to: usize, role: u8)
     ensures { roles.new ≡ sets roles.old from (replicate (to - from) role) }
 {
-    let len = roles.len();
-    if len < to {
-        fill_within(roles, from, len, role);
-        return;
+    let end = to.min(roles.len());
+    if from < end {
+        roles[from..end].fill(role);
     }
-    fill_within(roles, from, to, role);
 }
 
 // Behind the last role, in the row before `end`: `role` for the list's other rows, then no role.
@@ -115,12 +77,9 @@ pub fn past(s: &[u8], c: Cursor, t: Token) -> Cursor
     requires token_at { TokenAt s.now c.at t }
     ensures { result ≡ past_of c t }
 {
-    let row = c.row;
-    let below = row + 1;
-    let next = t.next;
     Cursor {
-        at: next,
-        row: below,
+        at: t.next,
+        row: c.row + 1,
     }
 }
 
@@ -131,8 +90,7 @@ pub fn take_token(s: &[u8], c: Cursor, t: Token, roles: &mut [u8], role: u8) -> 
     ensures value { result ≡ past_of c t }
     ensures roles_after { roles.new ≡ set roles.old c.row role }
 {
-    let row = c.row;
-    set_role(roles, row, role);
+    set_role(roles, c.row, role);
     past(s, c, t)
 }
 
@@ -143,11 +101,8 @@ pub fn take_group(s: &[u8], c: Cursor, t: Token, roles: &mut [u8], role: u8) -> 
     ensures { Moved s.now c result (copied role (at s.now t.next).here)
         (head (at s.now t.next).outer) roles.old roles.new }
 {
-    let row = c.row;
-    let inside = past(s, c, t);
-    let end = skip(s, inside);
-    let to = end.row;
-    fill(roles, row, to, role);
+    let end = skip(s, past(s, c, t));
+    fill(roles, c.row, end.row, role);
     end
 }
 
@@ -156,21 +111,14 @@ pub fn wrong_token(s: &[u8], c: Cursor, number: u8) -> Refusal
     requires { InList s.now c }
     ensures { (result.number ≡ number) × (result.place ≡ place_of c.row (stream s.now c)) }
 {
-    let l = look(s, c);
-    if l.kind == 0 {
-        return Refusal { number, place: END };
-    }
-    let row = c.row;
-    Refusal { number, place: row }
+    let place = if look(s, c).kind == 0 { END } else { c.row };
+    Refusal { number, place }
 }
 
 pub fn is_punct(t: Token, b: u8) -> bool
     ensures { result ≡ (eqb t.kind PUNCT && eqb t.byte b) }
 {
-    if t.kind == b'p' {
-        return t.byte == b;
-    }
-    false
+    t.kind == b'p' && t.byte == b
 }
 
 // Whether the token is an ident with this text.
@@ -178,75 +126,56 @@ pub fn ident_eq(s: &[u8], t: Token, text: &[u8]) -> bool
     requires { t.end ≤ length s.now }
     ensures { result ≡ is_word text.now (row_of s.now t) }
 {
-    if t.kind == b'i' {
-        let start = t.start;
-        let end = t.end;
-        return text_is(s, start, end, text);
-    }
-    false
+    t.kind == b'i' && text_is(s, t.start, t.end, text)
 }
 
 // The ident that stands alone in the stream at `inside`.
-pub fn lone_ident(s: &[u8], inside: Cursor) -> MaybeWord
+pub fn lone_ident(s: &[u8], inside: Cursor) -> Option<Word>
     requires in_list { InList s.now inside }
     requires at_value { follows (at s.now inside.at).outer ≡ true }
     ensures { lone_shown s.now inside result }
 {
     match peek(s, inside) {
-        Peeked::Nothing => MaybeWord::Missing,
-        Peeked::Group(_) => MaybeWord::Missing,
+        Peeked::Nothing | Peeked::Group(_) => None,
         Peeked::Leaf(t) => {
             if t.kind != b'i' {
-                return MaybeWord::Missing;
+                return None;
             }
-            let row = inside.row;
             let next = past(s, inside, t);
             match peek(s, next) {
-                Peeked::Leaf(_) => MaybeWord::Missing,
-                Peeked::Group(_) => MaybeWord::Missing,
-                Peeked::Nothing => {
-                    let after = skip(s, next);
-                    MaybeWord::Found(Word {
-                        token: t,
-                        row,
-                        next: after,
-                    })
-                }
+                Peeked::Leaf(_) | Peeked::Group(_) => None,
+                Peeked::Nothing => Some(Word {
+                    token: t,
+                    row: inside.row,
+                    next: skip(s, next),
+                }),
             }
         }
     }
 }
 
-pub fn consume_ident(s: &[u8], c: Cursor, roles: &mut [u8], role: u8) -> MaybeWord
+pub fn consume_ident(s: &[u8], c: Cursor, roles: &mut [u8], role: u8) -> Option<Word>
     requires { InList s.now c }
     ensures { Meets s.now c roles.old roles.new (word_shown s.now c result)
         (word_said c result) (word role c.row (stream s.now c)) }
 {
-    let row = c.row;
     match peek(s, c) {
-        Peeked::Nothing => MaybeWord::Missing,
+        Peeked::Nothing => None,
         Peeked::Leaf(t) => {
             if t.kind != b'i' {
-                return MaybeWord::Missing;
+                return None;
             }
             let next = take_token(s, c, t, roles, role);
-            MaybeWord::Found(Word {
+            Some(Word {
                 token: t,
-                row,
+                row: c.row,
                 next,
             })
         }
         Peeked::Group(t) => {
-            let inside = past(s, c, t);
-            match lone_ident(s, inside) {
-                MaybeWord::Missing => MaybeWord::Missing,
-                MaybeWord::Found(w) => {
-                    let next = w.next;
-                    let to = next.row;
-                    fill(roles, row, to, role);
-                    MaybeWord::Found(w)
-                }
-            }
+            let w = lone_ident(s, past(s, c, t))?;
+            fill(roles, c.row, w.next.row, role);
+            Some(w)
         }
     }
 }
@@ -260,21 +189,23 @@ pub fn stands_punct(s: &[u8], c: Cursor, b: u8) -> bool
     has_punct(s, c, b)
 }
 
-pub fn consume_punct_if(s: &[u8], c: Cursor, roles: &mut [u8], punct: u8, role: u8) -> MaybePunct
+// The cursor past this punctuation, where it stands and was taken.
+pub fn consume_punct_if(
+    s: &[u8],
+    c: Cursor,
+    roles: &mut [u8],
+    punct: u8,
+    role: u8,
+) -> Option<Cursor>
     requires in_list { InList s.now c }
     requires punct_value { mark_fits PUNCT punct ≡ false }
-    ensures meets { Meets s.now c roles.old roles.new (λ (v : Bool). result.taken ≡ v)
-        (on result.next) (punct_if punct role c.row (stream s.now c)) }
-    ensures taken_value { result.taken ≡ starts (is_punct punct) (stream s.now c) }
-    ensures next_value { result.taken ≡ false → result.next ≡ c }
+    ensures meets { Meets s.now c roles.old roles.new (λ (v : Bool). is_some result ≡ v)
+        (on (unwrap_or result c)) (punct_if punct role c.row (stream s.now c)) }
+    ensures taken_value { is_some result ≡ starts (is_punct punct) (stream s.now c) }
 {
     if !stands_punct(s, c, punct) {
-        return MaybePunct {
-            taken: false,
-            next: c,
-        };
+        return None;
     }
     let t = punct_at(s, c, punct);
-    let next = take_token(s, c, t, roles, role);
-    MaybePunct { taken: true, next }
+    Some(take_token(s, c, t, roles, role))
 }

@@ -5,19 +5,21 @@ ghost use Rattle.token_list.specs.Stream.{at};
 ghost use Rattle.token_list.specs.Contract.{InList, GroupAt};
 ghost use Rattle.reading.specs.Reading.{every, variant_fields, negatable, negative_value, discriminant, value_if};
 ghost use Rattle.reading.specs.Reading.{variant_here, variant};
+ghost use Rattle.reading.specs.Declaration.{Variant};
+ghost use Rattle.reading.proofs.Conserved.{variant_round, every-ended, variant_turning};
 ghost use Rattle.reading.specs.Place.{variant_head, literal_row};
 ghost use Rattle.parse.specs.Contract.{Meets, stream, count_shown, count_said, Inside, fields_shown, fields_said};
 ghost use Rattle.parse.specs.Contract.{value_shown, value_said, variant_name_shown, placed_name_said, variant_value};
 ghost use Rattle.parse.specs.Contract.{variant_shown, variant_said};
 
-use crate::fields::{close_group, named_group, tuple_group};
-use crate::generics::CountStep;
+use crate::fields::{named_group, tuple_group};
+use crate::parts::{Enclosed, Parts, group};
 use crate::utils::{
-    MaybeWord, PlacedName, PlacedNameStep, Step, consume_ident, consume_punct_if, is_punct, past,
-    take_token, wrong_token,
+    Next, PlacedName, consume_ident, consume_punct_if, is_punct, past, take_token, wrong_token,
 };
 use crate::{attributes, role};
 use token_list::check::{Cursor, END, Refusal};
+use token_list::refusal;
 use token_list::stream::{Peeked, Token, look, peek};
 
 // The largest i64, and a tenth of it: a number above that has no room for one more digit.
@@ -25,7 +27,7 @@ const MAX_I64: u64 = 9223372036854775807;
 
 const MAX_TENTH: u64 = MAX_I64 / 10;
 
-// A variant's group: none, or the cursor inside it.
+// A variant's group: none, or the cursor inside it. The Reference's three forms, as in virtue's Fields, and no Option.
 #[derive(Clone, Copy)]
 pub enum FieldsAt {
     Unit,
@@ -33,24 +35,13 @@ pub enum FieldsAt {
     Tuple(Cursor),
 }
 
-#[derive(Clone, Copy)]
-pub enum FieldsStep {
-    At(FieldsAt, Cursor),
-    Refused(Refusal),
-}
-
-// A variant's value: none, a literal with its row, or the literal after a `-`.
+// A variant's value: none, a literal with its row, or the literal after a `-`. Three cases of one match, as in
+// `ValueOf`, and no Option.
 #[derive(Clone, Copy)]
 pub enum ValueAt {
     Absent,
     Literal(Token, usize),
     Negative(Token),
-}
-
-#[derive(Clone, Copy)]
-pub enum ValueStep {
-    At(ValueAt, Cursor),
-    Refused(Refusal),
 }
 
 // Where a variant's parts stand, and the cursor after it: its name's token, and the row where its name
@@ -64,58 +55,42 @@ pub struct VariantAt {
     pub next: Cursor,
 }
 
-#[derive(Clone, Copy)]
-pub enum VariantStep {
-    One(VariantAt),
-    Done(Cursor),
-    Refused(Refusal),
-}
-
 // The group of variants that opens at c, with its delimiters.
-pub fn variants_group(s: &[u8], c: Cursor, t: Token, roles: &mut [u8]) -> CountStep
+pub fn variants_group(
+    s: &[u8],
+    c: Cursor,
+    t: Token,
+    roles: &mut [u8],
+) -> Result<(Cursor, usize), Refusal>
     requires in_list { InList s.now c }
     requires group_at { GroupAt s.now c.at t }
     ensures { Meets s.now c roles.old roles.new (count_shown result) (count_said result)
         (Inside (every variant) s.now c t) }
 {
-    let inside = take_token(s, c, t, roles, role::DELIMITER);
-    match variants(s, inside, roles) {
-        CountStep::Refused(r) => CountStep::Refused(r),
-        CountStep::At(d, count) => {
-            let after = close_group(s, d, roles);
-            CountStep::At(after, count)
-        }
-    }
+    group(&Variants, s, c, t, roles)
 }
 
-// A variant's group, where one stands.
-fn variant_fields(s: &[u8], c: Cursor, roles: &mut [u8]) -> FieldsStep
+// A variant's group, where one stands, and the cursor after it.
+fn variant_fields(s: &[u8], c: Cursor, roles: &mut [u8]) -> Result<(FieldsAt, Cursor), Refusal>
     requires { InList s.now c }
     ensures { Meets s.now c roles.old roles.new
         (fields_shown s.now c result) (fields_said result) (variant_fields c.row (stream s.now c)) }
 {
-    let row = c.row;
     match peek(s, c) {
-        Peeked::Nothing => FieldsStep::At(FieldsAt::Unit, c),
-        Peeked::Leaf(_) => FieldsStep::At(FieldsAt::Unit, c),
+        Peeked::Nothing | Peeked::Leaf(_) => Ok((FieldsAt::Unit, c)),
         Peeked::Group(t) => {
-            let d = t.byte;
             let inside = past(s, c, t);
-            if d == b'{' {
-                return match named_group(s, c, t, roles) {
-                    CountStep::Refused(r) => FieldsStep::Refused(r),
-                    CountStep::At(e, _) => FieldsStep::At(FieldsAt::Named(inside), e),
-                };
+            if t.byte == b'{' {
+                let (end, _) = named_group(s, c, t, roles)?;
+                return Ok((FieldsAt::Named(inside), end));
             }
-            if d == b'(' {
-                return match tuple_group(s, c, t, roles) {
-                    CountStep::Refused(r) => FieldsStep::Refused(r),
-                    CountStep::At(e, _) => FieldsStep::At(FieldsAt::Tuple(inside), e),
-                };
+            if t.byte == b'(' {
+                let (end, _) = tuple_group(s, c, t, roles)?;
+                return Ok((FieldsAt::Tuple(inside), end));
             }
-            FieldsStep::Refused(Refusal {
-                number: 19,
-                place: row,
+            Err(Refusal {
+                number: refusal::VARIANT_DELIMITER,
+                place: c.row,
             })
         }
     }
@@ -127,225 +102,187 @@ fn is_negatable(s: &[u8], start: usize, end: usize) -> bool
     ensures { result ≡ negatable (slice start end s.now) }
 {
     let mut n: u64 = 0;
-    let mut i = start;
-    while i < end {
-        let b = s[i];
-        if b < b'0' {
+    for &b in &s[start.min(end)..end] {
+        if !b.is_ascii_digit() || MAX_TENTH < n {
             return false;
         }
-        if b'9' < b {
-            return false;
-        }
-        if MAX_TENTH < n {
-            return false;
-        }
-        let digit = (b - b'0') as u64;
-        n = n * 10 + digit;
-        i += 1;
+        n = n * 10 + (b - b'0') as u64;
     }
     n <= MAX_I64
 }
 
 // The literal after a `-`.
-fn negative_value(s: &[u8], c: Cursor, roles: &mut [u8]) -> ValueStep
+fn negative_value(s: &[u8], c: Cursor, roles: &mut [u8]) -> Result<(ValueAt, Cursor), Refusal>
     requires { InList s.now c }
     ensures { Meets s.now c roles.old roles.new
         (value_shown s.now (λ v. c.row) result) (value_said result)
         (negative_value c.row (stream s.now c)) }
 {
-    let row = c.row;
     match peek(s, c) {
-        Peeked::Nothing => ValueStep::Refused(Refusal {
-            number: 21,
+        Peeked::Nothing => Err(Refusal {
+            number: refusal::NO_LITERAL,
             place: END,
         }),
-        Peeked::Group(_) => ValueStep::Refused(Refusal {
-            number: 21,
-            place: row,
+        Peeked::Group(_) => Err(Refusal {
+            number: refusal::NO_LITERAL,
+            place: c.row,
         }),
         Peeked::Leaf(t) => {
             if t.kind != b'l' {
-                return ValueStep::Refused(Refusal {
-                    number: 21,
-                    place: row,
+                return Err(Refusal {
+                    number: refusal::NO_LITERAL,
+                    place: c.row,
                 });
             }
-            let start = t.start;
-            let end = t.end;
-            if !is_negatable(s, start, end) {
-                return ValueStep::Refused(Refusal {
-                    number: 26,
-                    place: row,
+            if !is_negatable(s, t.start, t.end) {
+                return Err(Refusal {
+                    number: refusal::NEGATIVE_VALUE,
+                    place: c.row,
                 });
             }
             let next = take_token(s, c, t, roles, role::VALUE);
-            ValueStep::At(ValueAt::Negative(t), next)
+            Ok((ValueAt::Negative(t), next))
         }
     }
 }
 
 // What follows a variant's `=`.
-fn discriminant(s: &[u8], c: Cursor, roles: &mut [u8]) -> ValueStep
+fn discriminant(s: &[u8], c: Cursor, roles: &mut [u8]) -> Result<(ValueAt, Cursor), Refusal>
     requires { InList s.now c }
     ensures { Meets s.now c roles.old roles.new
         (value_shown s.now (literal_row c.row) result) (value_said result)
         (discriminant c.row (stream s.now c)) }
 {
-    let row = c.row;
     match peek(s, c) {
-        Peeked::Nothing => ValueStep::Refused(Refusal {
-            number: 21,
+        Peeked::Nothing => Err(Refusal {
+            number: refusal::NO_LITERAL,
             place: END,
         }),
-        Peeked::Group(_) => ValueStep::Refused(Refusal {
-            number: 21,
-            place: row,
+        Peeked::Group(_) => Err(Refusal {
+            number: refusal::NO_LITERAL,
+            place: c.row,
         }),
         Peeked::Leaf(t) => {
             if t.kind == b'l' {
                 let next = take_token(s, c, t, roles, role::VALUE);
-                return ValueStep::At(ValueAt::Literal(t, row), next);
+                return Ok((ValueAt::Literal(t, c.row), next));
             }
             if is_punct(t, b'-') {
                 let next = take_token(s, c, t, roles, role::VALUE);
                 return negative_value(s, next, roles);
             }
-            ValueStep::Refused(Refusal {
-                number: 21,
-                place: row,
+            Err(Refusal {
+                number: refusal::NO_LITERAL,
+                place: c.row,
             })
         }
     }
 }
 
 // A variant's value, where one stands; else a `,` or the end must follow.
-fn optional_value(s: &[u8], c: Cursor, roles: &mut [u8]) -> ValueStep
+fn optional_value(s: &[u8], c: Cursor, roles: &mut [u8]) -> Result<(ValueAt, Cursor), Refusal>
     requires { InList s.now c }
     ensures { Meets s.now c roles.old roles.new
         (value_shown s.now (literal_row (c.row + 1)) result) (value_said result)
         (value_if c.row (stream s.now c)) }
 {
-    let row = c.row;
+    let no_comma = Refusal {
+        number: refusal::NO_COMMA,
+        place: c.row,
+    };
     match peek(s, c) {
-        Peeked::Nothing => ValueStep::At(ValueAt::Absent, c),
-        Peeked::Group(_) => ValueStep::Refused(Refusal {
-            number: 20,
-            place: row,
-        }),
+        Peeked::Nothing => Ok((ValueAt::Absent, c)),
+        Peeked::Group(_) => Err(no_comma),
         Peeked::Leaf(t) => {
             if is_punct(t, b'=') {
                 let next = take_token(s, c, t, roles, role::SEPARATOR);
                 return discriminant(s, next, roles);
             }
             if is_punct(t, b',') {
-                return ValueStep::At(ValueAt::Absent, c);
+                return Ok((ValueAt::Absent, c));
             }
-            ValueStep::Refused(Refusal {
-                number: 20,
-                place: row,
-            })
+            Err(no_comma)
         }
     }
 }
 
 // A variant's attributes and name.
-fn variant_name(s: &[u8], c: Cursor, roles: &mut [u8]) -> PlacedNameStep
+fn variant_name(s: &[u8], c: Cursor, roles: &mut [u8]) -> Result<PlacedName, Refusal>
     requires { InList s.now c }
     ensures { Meets s.now c roles.old roles.new
         (variant_name_shown s.now c result) (placed_name_said result)
         (variant_head c.row (stream s.now c)) }
 {
-    match attributes::try_take(s, c, roles) {
-        Step::Refused(r) => PlacedNameStep::Refused(r),
-        Step::At(d) => match consume_ident(s, d, roles, role::VARIANT_NAME) {
-            MaybeWord::Missing => PlacedNameStep::Refused(wrong_token(s, d, 11)),
-            MaybeWord::Found(w) => {
-                let token = w.token;
-                let place = d.row;
-                let next = w.next;
-                PlacedNameStep::At(PlacedName { token, place, next })
-            }
-        },
-    }
+    let d = attributes::try_take(s, c, roles)?;
+    let Some(w) = consume_ident(s, d, roles, role::VARIANT_NAME) else {
+        return Err(wrong_token(s, d, refusal::NO_WORD));
+    };
+    Ok(PlacedName {
+        token: w.token,
+        place: d.row,
+        next: w.next,
+    })
 }
 
 // A variant's value and the `,` that may follow.
-fn variant_value(s: &[u8], c: Cursor, roles: &mut [u8]) -> ValueStep
+fn variant_value(s: &[u8], c: Cursor, roles: &mut [u8]) -> Result<(ValueAt, Cursor), Refusal>
     requires { InList s.now c }
     ensures { Meets s.now c roles.old roles.new
         (value_shown s.now (literal_row (c.row + 1)) result) (value_said result)
         (variant_value c.row (stream s.now c)) }
 {
-    match optional_value(s, c, roles) {
-        ValueStep::Refused(r) => ValueStep::Refused(r),
-        ValueStep::At(v, d) => {
-            let p = consume_punct_if(s, d, roles, b',', role::SEPARATOR);
-            let next = p.next;
-            ValueStep::At(v, next)
-        }
-    }
+    let (value, d) = optional_value(s, c, roles)?;
+    let next = consume_punct_if(s, d, roles, b',', role::SEPARATOR).unwrap_or(d);
+    Ok((value, next))
 }
 
-fn variant_here(s: &[u8], c: Cursor, roles: &mut [u8]) -> VariantStep
+fn variant_here(s: &[u8], c: Cursor, roles: &mut [u8]) -> Result<Next<VariantAt, Cursor>, Refusal>
     requires { InList s.now c }
     ensures { Meets s.now c roles.old roles.new
         (variant_shown s.now c result) (variant_said result) (variant_here c.row (stream s.now c)) }
 {
-    match variant_name(s, c, roles) {
-        PlacedNameStep::Refused(r) => VariantStep::Refused(r),
-        PlacedNameStep::At(n) => {
-            let name = n.token;
-            let place = n.place;
-            let d = n.next;
-            match variant_fields(s, d, roles) {
-                FieldsStep::Refused(r) => VariantStep::Refused(r),
-                FieldsStep::At(fields, e) => match variant_value(s, e, roles) {
-                    ValueStep::Refused(r) => VariantStep::Refused(r),
-                    ValueStep::At(value, next) => VariantStep::One(VariantAt {
-                        name,
-                        place,
-                        fields,
-                        value,
-                        next,
-                    }),
-                },
-            }
-        }
-    }
+    let name = variant_name(s, c, roles)?;
+    let (fields, d) = variant_fields(s, name.next, roles)?;
+    let (value, next) = variant_value(s, d, roles)?;
+    Ok(Next::One(VariantAt {
+        name: name.token,
+        place: name.place,
+        fields,
+        value,
+        next,
+    }))
 }
 
 // One variant, or the end.
-pub fn variant(s: &[u8], c: Cursor, roles: &mut [u8]) -> VariantStep
+pub fn variant(s: &[u8], c: Cursor, roles: &mut [u8]) -> Result<Next<VariantAt, Cursor>, Refusal>
     requires { InList s.now c }
     ensures { Meets s.now c roles.old roles.new
         (variant_shown s.now c result) (variant_said result) (variant c.row (stream s.now c)) }
 {
-    let l = look(s, c);
-    if l.kind == 0 {
-        return VariantStep::Done(c);
+    if look(s, c).kind == 0 {
+        return Ok(Next::Done(c));
     }
     variant_here(s, c, roles)
 }
 
-fn variants(s: &[u8], from: Cursor, roles: &mut [u8]) -> CountStep
-    requires { InList s.now from }
-    ensures { Meets s.now from roles.old roles.new (count_shown result) (count_said result)
-        (every variant from.row (stream s.now from)) }
-{
-    let mut c = from;
-    let mut count = 0;
-    loop {
-        match variant(s, c, roles) {
-            VariantStep::One(v) => {
-                c = v.next;
-                count += 1;
-            }
-            VariantStep::Done(d) => {
-                return CountStep::At(d, count);
-            }
-            VariantStep::Refused(r) => {
-                return CountStep::Refused(r);
-            }
-        }
+// The variants of a group.
+struct Variants;
+
+impl Parts for Variants {
+    ghost Thing = { Variant };
+
+    ghost reading = { λ x. variant };
+
+    fn next(&self, s: &[u8], c: Cursor, roles: &mut [u8]) -> Result<Next<Cursor, Cursor>, Refusal> {
+        Ok(match variant(s, c, roles)? {
+            Next::One(v) => Next::One(v.next),
+            Next::Done(end) => Next::Done(end),
+        })
     }
+
+    ghost goes_on = { λ x. variant_round };
+}
+
+impl Enclosed for Variants {
+    ghost to_the_end = { λ x. every-ended variant_turning };
 }

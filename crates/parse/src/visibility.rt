@@ -5,11 +5,11 @@ ghost use Rattle.reading.specs.Reading.{scope_word, scoped, scope_after, any_sco
 ghost use Rattle.parse.specs.Contract.{Meets, on, any, stream, point, PubRead, visibility_shown};
 
 use crate::role;
-use crate::utils::{MaybeWord, ident_eq, lone_ident, past, take_group, take_token};
+use crate::utils::{ident_eq, lone_ident, past, take_group, take_token};
 use token_list::check::Cursor;
 use token_list::stream::{Peeked, Token, look, peek};
 
-// How `pub` stands: not at all, plain, or wrapped in a group.
+// How `pub` stands: not at all, plain, or wrapped in a group. Three cases that are told apart alike, and no Option.
 #[derive(Clone, Copy)]
 pub enum PubWord {
     Absent,
@@ -25,7 +25,7 @@ pub struct VisibilityAt {
     pub next: Cursor,
 }
 
-// No `pub`, or the cursor past it.
+// The same with the cursor past it, where it stands.
 #[derive(Clone, Copy)]
 pub enum PubStep {
     Absent,
@@ -38,16 +38,10 @@ fn is_scope_word(s: &[u8], t: Token) -> bool
     requires { t.end ≤ length s.now }
     ensures { result ≡ scope_word (row_of s.now t) }
 {
-    if ident_eq(s, t, b"crate") {
-        return true;
-    }
-    if ident_eq(s, t, b"self") {
-        return true;
-    }
-    if ident_eq(s, t, b"super") {
-        return true;
-    }
-    ident_eq(s, t, b"in")
+    ident_eq(s, t, b"crate")
+        || ident_eq(s, t, b"self")
+        || ident_eq(s, t, b"super")
+        || ident_eq(s, t, b"in")
 }
 
 // Whether the stream at c begins with a word of a scope.
@@ -56,8 +50,7 @@ fn is_scoped(s: &[u8], c: Cursor) -> bool
     ensures { result ≡ scoped (stream s.now c) }
 {
     match peek(s, c) {
-        Peeked::Nothing => false,
-        Peeked::Group(_) => false,
+        Peeked::Nothing | Peeked::Group(_) => false,
         Peeked::Leaf(t) => is_scope_word(s, t),
     }
 }
@@ -69,17 +62,13 @@ fn scope_after(s: &[u8], c: Cursor, roles: &mut [u8]) -> Cursor
         (scope_after c.row (stream s.now c)) }
 {
     match peek(s, c) {
-        Peeked::Nothing => c,
-        Peeked::Leaf(_) => c,
+        Peeked::Nothing | Peeked::Leaf(_) => c,
         Peeked::Group(t) => {
-            if t.byte != b'(' {
-                return c;
+            if t.byte == b'(' && is_scoped(s, past(s, c, t)) {
+                take_group(s, c, t, roles, role::SCOPE)
+            } else {
+                c
             }
-            let inside = past(s, c, t);
-            if !is_scoped(s, inside) {
-                return c;
-            }
-            take_group(s, c, t, roles, role::SCOPE)
         }
     }
 }
@@ -91,8 +80,7 @@ fn any_scope(s: &[u8], c: Cursor, roles: &mut [u8]) -> Cursor
         (any_scope c.row (stream s.now c)) }
 {
     match peek(s, c) {
-        Peeked::Nothing => c,
-        Peeked::Leaf(_) => c,
+        Peeked::Nothing | Peeked::Leaf(_) => c,
         Peeked::Group(t) => take_group(s, c, t, roles, role::SCOPE),
     }
 }
@@ -107,15 +95,13 @@ pub fn try_take(s: &[u8], c: Cursor, roles: &mut [u8]) -> Cursor
         (visibility c.row (stream s.now c)) }
 {
     let l = look(s, c);
-    if l.kind != b'o' {
-        if l.first != b'p' {
-            let at = c.at;
-            let row = c.row;
-            return Cursor { at, row };
-        }
+    if l.kind != b'o' && l.first != b'p' {
+        return Cursor {
+            at: c.at,
+            row: c.row,
+        };
     }
-    let v = try_take_at(s, c, roles);
-    v.next
+    try_take_at(s, c, roles).next
 }
 
 // A visibility with how its `pub` stands and where its scope is read.
@@ -161,22 +147,17 @@ fn pub_word(s: &[u8], c: Cursor, roles: &mut [u8]) -> PubStep
             if !ident_eq(s, t, b"pub") {
                 return PubStep::Absent;
             }
-            let next = take_token(s, c, t, roles, role::VISIBILITY);
-            PubStep::Plain(next)
+            PubStep::Plain(take_token(s, c, t, roles, role::VISIBILITY))
         }
         Peeked::Group(t) => {
             let inside = past(s, c, t);
-            match lone_ident(s, inside) {
-                MaybeWord::Missing => PubStep::Absent,
-                MaybeWord::Found(w) => {
-                    let word = w.token;
-                    if !ident_eq(s, word, b"pub") {
-                        return PubStep::Absent;
-                    }
-                    let next = take_group(s, c, t, roles, role::VISIBILITY);
-                    PubStep::Wrapped(next)
-                }
+            let Some(w) = lone_ident(s, inside) else {
+                return PubStep::Absent;
+            };
+            if !ident_eq(s, w.token, b"pub") {
+                return PubStep::Absent;
             }
+            PubStep::Wrapped(take_group(s, c, t, roles, role::VISIBILITY))
         }
     }
 }

@@ -1,5 +1,5 @@
 -- What a recorded answer is compared with.
-use Rattle.std.specs.Prelude.{Bool, true, false, not, cond, ◌&&◌, List, [], ◌∷◌, ℕ, ◌+◌, eqb, ltb, length, take, drop}
+use Rattle.std.specs.Prelude.{Bool, true, false, not, cond, ◌&&◌, List, [], ◌∷◌, ℕ, ◌+◌, eqb, take, drop}
 use Rattle.token_list.specs.Byte.{code, bytes, DOT, LF}
 use Rattle.token_list.specs.Layout.{MAX_ROWS}
 use Rattle.token_list.specs.Text.{same, member}
@@ -41,9 +41,8 @@ abbrev pub LETTERS : ℕ
 LETTERS = 9
 
 -- the line `accepted`, then the letters
-unfoldable pub accepted_fits : Bool → List ℕ → List ℕ → Bool
-accepted_fits every t rs =
-    cond (ltb (length t) LETTERS) false (same (take LETTERS t) ACCEPTED && letters_fit every (drop LETTERS t) rs)
+abbrev pub accepted_fits : Bool → List ℕ → List ℕ → Bool
+accepted_fits every t rs = same (take LETTERS t) ACCEPTED && letters_fit every (drop LETTERS t) rs
 
 abbrev pub roles_fit : List ℕ → Answer → Bool
 roles_fit t (declared d rs) = accepted_fits false t rs

@@ -1,5 +1,6 @@
 -- The line in front of a section (recorded/README.md): a name of lower-case letters, one space, one to nine digits, LF.
-use Rattle.std.specs.Prelude.{Bool, cond, ◌&&◌, List, [], ◌∷◌, ℕ, suc, ◌+◌, eqb, ltb, length, take, drop}
+use Rattle.std.specs.Prelude.{Bool, cond, ◌&&◌, List, [], ◌∷◌, ℕ, ◌+◌, eqb, ltb, length, take, drop, Option, Some, None}
+use Rattle.std.specs.List.{prefix_len}
 use Rattle.token_list.specs.Byte.{code, bytes, SPACE, LF}
 use Rattle.token_list.specs.Text.{same, between, digit}
 use Rattle.reading.specs.Token.{worth}
@@ -10,7 +11,6 @@ use Rattle.replay.specs.declared.header.Writer.TheVariants as writers
 use Rattle.replay.specs.declared.header.Section.{Section}
 use Rattle.replay.specs.declared.header.Section.TheVariants.{List as Listed, Answer, Other}
 use Rattle.replay.specs.declared.header.Header.{Header}
-use Rattle.replay.specs.declared.header.Header.TheVariants.{Found, Malformed}
 
 abbrev pub LIST : List ℕ
 LIST = bytes "list"
@@ -45,29 +45,30 @@ section_named t =
 
 -- how many bytes at the start pass the test
 abbrev pub run : (ℕ → Bool) → List ℕ → ℕ
-run p [] = 0
-run p (b ∷ bs) = cond (p b) (suc (run p bs)) 0
+run p bs = prefix_len p bs
 
 abbrev pub MAX_DIGITS : ℕ
 MAX_DIGITS = 9
 
 -- the digits t, and what follows them; the section would start at `start`
-abbrev pub ended : Section → ℕ → List ℕ → List ℕ → Header
-ended k start t [] = Malformed
-ended k start t (b ∷ bs) = cond (eqb b LF && between 1 MAX_DIGITS (length t)) (Found k (worth t) start) Malformed
+abbrev pub ended : Section → ℕ → List ℕ → List ℕ → Option Header
+ended k start t [] = None
+ended k start t (b ∷ bs) =
+    cond (eqb b LF && between 1 MAX_DIGITS (length t))
+    (Some (record { section = k; size = worth t; start = start })) None
 
 -- the bytes u from the place `at` on, after the space
-abbrev pub sized : Section → ℕ → List ℕ → Header
+abbrev pub sized : Section → ℕ → List ℕ → Option Header
 sized k at u = ended k (at + run digit u + 1) (take (run digit u) u) (drop (run digit u) u)
 
 -- the name t, and what follows it from the place `at` on
-abbrev pub named : ℕ → List ℕ → List ℕ → Header
-named at t [] = Malformed
-named at t (b ∷ bs) = cond (eqb b SPACE && ltb 0 (length t)) (sized (section_named t) (at + 1) bs) Malformed
+abbrev pub named : ℕ → List ℕ → List ℕ → Option Header
+named at t [] = None
+named at t (b ∷ bs) = cond (eqb b SPACE && ltb 0 (length t)) (sized (section_named t) (at + 1) bs) None
 
 abbrev pub lower : ℕ → Bool
 lower b = between (code "a") (code "z") b
 
 -- the bytes u from the place `at` on
-abbrev pub header : ℕ → List ℕ → Header
+abbrev pub header : ℕ → List ℕ → Option Header
 header at u = named (at + run lower u) (take (run lower u) u) (drop (run lower u) u)

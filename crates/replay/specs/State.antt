@@ -1,5 +1,5 @@
 -- What the replay keeps from section to section.
-use Rattle.std.specs.Prelude.{Bool, cond, ℕ, ◌+◌, ◌-◌, ◌≤◌, leb, ltb}
+use Rattle.std.specs.Prelude.{Bool, cond, ℕ, ◌+◌, ◌-◌, ◌≤◌, min, ltb}
 use Rattle.replay.specs.Window.{Within, size, advanced}
 use Rattle.replay.specs.declared.window.Window.{Window}
 use Rattle.replay.specs.declared.state.State.{State}
@@ -76,4 +76,4 @@ skipped n s = skipping (s.skip - n) (moved (advanced n s.at) s)
 
 -- as many of them as are unread
 abbrev pub passed : State → State
-passed s = skipped (cond (leb s.skip (size s.at)) s.skip (size s.at)) s
+passed s = skipped (min s.skip (size s.at)) s

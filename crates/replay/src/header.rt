@@ -1,13 +1,9 @@
 // The line in front of a section: its name, one space, its length.
-ghost use Rattle.std.specs.Prelude.{◌≡◌, ◌+◌, ◌≤◌, length};
-ghost use Rattle.std.proofs.Math.Seq.{slice};
+ghost use Rattle.std.specs.Prelude.{◌≡◌, ◌+◌, ◌^◌, ◌<◌, length};
 ghost use Rattle.token_list.specs.Text.{between};
-ghost use Rattle.output.specs.Contract.{Put};
-ghost use Rattle.replay.specs.Header.{run, writer_name, topic_name, generics_named, section_named, sized, header};
+ghost use Rattle.replay.specs.Header.{run, topic_name, section_named, sized, header};
 
 use describe::value::worth;
-use output::put::put_bytes;
-use token_list::text::text_is;
 
 // A writer of generics.
 #[derive(Clone, Copy)]
@@ -18,6 +14,7 @@ pub enum Writer {
 }
 
 // What an answer is about.
+// A closed set, which each `match` names: a table of functions would be made anew at each call.
 #[derive(Clone, Copy)]
 pub enum Topic {
     Check,
@@ -36,138 +33,88 @@ pub enum Section {
     Other,
 }
 
-// The section, its length and where it starts.
+// A section, its size and where it starts.
 #[derive(Clone, Copy)]
-pub enum Header {
-    Found(Section, usize, usize),
-    Malformed,
+pub struct Header {
+    pub section: Section,
+    pub size: usize,
+    pub start: usize,
 }
 
-// Where the bytes from lo to hi that stand from `from` on end.
-fn run_end(s: &[u8], from: usize, to: usize, lo: u8, hi: u8) -> usize
-    requires { (from ≤ to) × (to ≤ length s.now) }
-    ensures { result ≡ from + run (between lo hi) (slice from to s.now) }
-{
-    let mut i = from;
-    while i < to {
-        let b = s[i];
-        if b < lo {
-            return i;
-        }
-        if hi < b {
-            return i;
-        }
-        i += 1;
-    }
-    i
-}
-
-// What the name from start to end stands for, where it names a writer of generics.
-fn generics_named(s: &[u8], start: usize, end: usize) -> Section
-    ensures { result ≡ generics_named (slice start end s.now) }
-{
-    if text_is(s, start, end, b"impl") {
-        return Section::Answer(Topic::Generics(Writer::Impl));
-    }
-    if text_is(s, start, end, b"type") {
-        return Section::Answer(Topic::Generics(Writer::Type));
-    }
-    if text_is(s, start, end, b"additional") {
-        return Section::Answer(Topic::Generics(Writer::Additional));
-    }
-    Section::Other
-}
-
-// What the name from start to end stands for.
-fn section_named(s: &[u8], start: usize, end: usize) -> Section
-    ensures { result ≡ section_named (slice start end s.now) }
-{
-    if text_is(s, start, end, b"list") {
-        return Section::List;
-    }
-    if text_is(s, start, end, b"check") {
-        return Section::Answer(Topic::Check);
-    }
-    if text_is(s, start, end, b"roles") {
-        return Section::Answer(Topic::Roles);
-    }
-    if text_is(s, start, end, b"every") {
-        return Section::Answer(Topic::Every);
-    }
-    if text_is(s, start, end, b"listing") {
-        return Section::Answer(Topic::Listing);
-    }
-    if text_is(s, start, end, b"tagged") {
-        return Section::Answer(Topic::Tagged);
-    }
-    generics_named(s, start, end)
-}
-
-// The name of the section with the answers of a writer of generics.
-fn put_writer(out: &mut [u8], at: usize, writer: Writer) -> usize
-    ensures { Put out.old out.new at result (writer_name writer) }
-{
-    match writer {
-        Writer::Impl => put_bytes(out, at, b"impl"),
-        Writer::Type => put_bytes(out, at, b"type"),
-        Writer::Additional => put_bytes(out, at, b"additional"),
-    }
-}
+static TOPICS: [Topic; 8] = [
+    Topic::Check,
+    Topic::Roles,
+    Topic::Every,
+    Topic::Listing,
+    Topic::Tagged,
+    Topic::Generics(Writer::Impl),
+    Topic::Generics(Writer::Type),
+    Topic::Generics(Writer::Additional),
+];
 
 // The name of the section with the answers about a topic.
-pub fn put_topic(out: &mut [u8], at: usize, topic: Topic) -> usize
-    ensures { Put out.old out.new at result (topic_name topic) }
+pub fn topic_name(topic: Topic) -> &'static [u8]
+    ensures { result.now ≡ topic_name topic }
 {
     match topic {
-        Topic::Check => put_bytes(out, at, b"check"),
-        Topic::Roles => put_bytes(out, at, b"roles"),
-        Topic::Every => put_bytes(out, at, b"every"),
-        Topic::Listing => put_bytes(out, at, b"listing"),
-        Topic::Tagged => put_bytes(out, at, b"tagged"),
-        Topic::Generics(writer) => put_writer(out, at, writer),
+        Topic::Check => b"check",
+        Topic::Roles => b"roles",
+        Topic::Every => b"every",
+        Topic::Listing => b"listing",
+        Topic::Tagged => b"tagged",
+        Topic::Generics(Writer::Impl) => b"impl",
+        Topic::Generics(Writer::Type) => b"type",
+        Topic::Generics(Writer::Additional) => b"additional",
     }
+}
+
+// What a name stands for.
+fn section_named(name: &[u8]) -> Section
+    ensures { result ≡ section_named name.now }
+{
+    if name == b"list".as_slice() {
+        return Section::List;
+    }
+    match TOPICS.iter().find(|topic| name == topic_name(**topic)) {
+        Some(topic) => Section::Answer(*topic),
+        None => Section::Other,
+    }
+}
+
+// How many bytes from lo to hi the text begins with.
+fn run(text: &[u8], lo: u8, hi: u8) -> usize
+    ensures { result ≡ run (between lo hi) text.now }
+{
+    text.iter().take_while(|b| (lo..=hi).contains(*b)).count()
 }
 
 // The most digits that a section's size has.
 const MAX_DIGITS: usize = 9;
 
-// The header of this section whose digits are looked for from `from` on.
-fn read_size(s: &[u8], from: usize, to: usize, section: Section) -> Header
-    requires { (from ≤ to) × (to ≤ length s.now) }
-    ensures { result ≡ sized section from (slice from to s.now) }
+// The header of this section; the text from `at` on begins with its digits.
+fn read_size(text: &[u8], at: usize, section: Section) -> Option<Header>
+    requires { at + length text.now < 2 ^ 64 }
+    ensures { result ≡ sized section at text.now }
 {
-    let end = run_end(s, from, to, b'0', b'9');
-    if to <= end {
-        return Header::Malformed;
+    let n = run(text, b'0', b'9');
+    if n == text.len() || text[n] != b'\n' || n == 0 || MAX_DIGITS < n {
+        return None;
     }
-    if s[end] != b'\n' {
-        return Header::Malformed;
-    }
-    if end == from {
-        return Header::Malformed;
-    }
-    if MAX_DIGITS < end - from {
-        return Header::Malformed;
-    }
-    let size = worth(s, from, end);
-    Header::Found(section, size, end + 1)
+    Some(Header {
+        section,
+        size: worth(text, 0, n),
+        start: at + n + 1,
+    })
 }
 
-// The header from `from` on, within the bytes before `to`.
-pub fn read_header(s: &[u8], from: usize, to: usize) -> Header
-    requires { (from ≤ to) × (to ≤ length s.now) }
-    ensures { result ≡ header from (slice from to s.now) }
+// The header that the text from `at` on begins with.
+pub fn read_header(text: &[u8], at: usize) -> Option<Header>
+    requires { at + length text.now < 2 ^ 64 }
+    ensures { result ≡ header at text.now }
 {
-    let space = run_end(s, from, to, b'a', b'z');
-    if to <= space {
-        return Header::Malformed;
+    let n = run(text, b'a', b'z');
+    if n == text.len() || text[n] != b' ' || n == 0 {
+        return None;
     }
-    if s[space] != b' ' {
-        return Header::Malformed;
-    }
-    if space == from {
-        return Header::Malformed;
-    }
-    let section = section_named(s, from, space);
-    read_size(s, space + 1, to, section)
+    read_size(&text[n + 1..], at + n + 1, section_named(&text[..n]))
 }

@@ -13,20 +13,17 @@ ghost use Rattle.replay.specs.Window.{Within};
 ghost use Rattle.replay.specs.Turn.{taken, list_after, compared, begun, sought, Stepped};
 
 use crate::answers::is_right;
-use crate::header::{Header, Section, Topic, put_topic, read_header};
-use crate::state::{Counts, State, count, counted, moved, passed, start};
+use crate::header::{Header, Section, Topic, read_header, topic_name};
+use crate::state::{Counts, START, State, counted, passed};
 use crate::window::{Window, advanced, ready};
 use output::put::{put_byte, put_bytes, put_number};
+use program::STDOUT;
 
-// The descriptor of standard output.
-const STDOUT: i32 = 1;
-
-// What follows a turn: the next one, the end of the input, or a stop at what is no section.
+// What follows a turn: the next one, or the end of the input, which has counts to print too and is no None.
 #[derive(Clone, Copy)]
 pub enum Turn {
     On(State),
     Done(State),
-    Malformed,
 }
 
 // What a header asks for: nothing more, a list, or an answer, of so many bytes.
@@ -40,138 +37,109 @@ pub enum Next {
 // So many bytes are asked for before a header is read.
 const HEADER: usize = 64;
 
-// Takes the list of a new case.
-fn take_list(buf: &[u8], list: &mut [u8], s: State, size: usize) -> Turn
+// Takes the list of a new case; None where it is too long, or not all there.
+fn take_list(buf: &[u8], list: &mut [u8], s: State, size: usize) -> Option<State>
     requires { Placed (length buf.now) (length list.old) s }
     ensures value { result ≡ taken (length list.old) s size }
     ensures list_after { list.new ≡ list_after buf.now list.old s size }
 {
-    let at = s.at;
-    let from = at.from;
-    if list.len() < size {
-        return Turn::Malformed;
+    let unread = &buf[s.at.from..s.at.to];
+    if list.len() < size || unread.len() < size {
+        return None;
     }
-    if at.to - from < size {
-        return Turn::Malformed;
-    }
-    let end = from + size;
-    put_bytes(list, 0, &buf[from..end]);
-    let rest = advanced(at, size);
-    let mut next = moved(s, rest);
-    next.list = size;
-    next.cases = count(s.cases);
-    Turn::On(next)
+    put_bytes(list, 0, &unread[..size]);
+    Some(State {
+        at: advanced(s.at, size),
+        list: size,
+        cases: s.cases.saturating_add(1),
+        ..s
+    })
 }
 
 fn name_difference(case: usize, topic: Topic) {
-    let mut out = [0u8; 64];
+    let mut out = [0; 64];
     let word = put_bytes(&mut out, 0, b"differs case ");
     let number = put_number(&mut out, word, case);
     let middle = put_bytes(&mut out, number, b" section ");
-    let name = put_topic(&mut out, middle, topic);
+    let name = put_bytes(&mut out, middle, topic_name(topic));
     let end = put_byte(&mut out, name, b'\n');
     io::write_all(STDOUT, &out[..end]);
 }
 
-// Names a case whose answer is not right, for the first ten differences.
-fn tell(right: bool, differences: usize, case: usize, topic: Topic) {
-    if right {
-        return;
-    }
-    if differences < 10 {
-        name_difference(case, topic);
-    }
-}
-
-// Compares an answer of the case at hand.
-fn compare(buf: &[u8], list: &[u8], s: State, topic: Topic, size: usize) -> Turn
+// Compares an answer of the case at hand, and names it for the first ten differences; None where there is no case yet,
+// or the answer is not all there.
+fn compare(buf: &[u8], list: &[u8], s: State, topic: Topic, size: usize) -> Option<State>
     requires { Placed (length buf.now) (length list.now) s }
     ensures { result ≡ compared buf.now list.now s topic size }
 {
-    let at = s.at;
-    let from = at.from;
-    if s.cases == 0 {
-        return Turn::Malformed;
+    let unread = &buf[s.at.from..s.at.to];
+    if s.cases == 0 || unread.len() < size {
+        return None;
     }
-    if at.to - from < size {
-        return Turn::Malformed;
+    let right = is_right(topic, &list[..s.list], &unread[..size]);
+    if !right && s.counts.differences < 10 {
+        name_difference(s.cases, topic);
     }
-    let end = from + size;
-    let length = s.list;
-    let right = is_right(topic, &list[..length], buf, from, end);
-    let counts = s.counts;
-    tell(right, counts.differences, s.cases, topic);
-    let rest = advanced(at, size);
-    let mut next = moved(s, rest);
-    next.counts = counted(counts, topic, right);
-    Turn::On(next)
+    Some(State {
+        at: advanced(s.at, size),
+        counts: counted(s.counts, topic, right),
+        ..s
+    })
 }
 
 // What a header asks for; its section starts where the header ends.
 fn begin(s: State, header: Header) -> Next
     ensures { result ≡ begun s header }
 {
-    match header {
-        Header::Malformed => Next::Over(Turn::Malformed),
-        Header::Found(section, size, start) => {
-            let at = s.at;
-            let rest = Window {
-                from: start,
-                to: at.to,
-            };
-            let next = moved(s, rest);
-            match section {
-                Section::List => Next::Take(next, size),
-                Section::Answer(topic) => Next::Compare(next, topic, size),
-                Section::Other => {
-                    let mut skipping = next;
-                    skipping.skip = size;
-                    Next::Over(Turn::On(skipping))
-                }
-            }
-        }
+    let at = Window {
+        from: header.start,
+        to: s.at.to,
+    };
+    let next = State { at, ..s };
+    match header.section {
+        Section::List => Next::Take(next, header.size),
+        Section::Answer(topic) => Next::Compare(next, topic, header.size),
+        Section::Other => Next::Over(Turn::On(State {
+            skip: header.size,
+            ..next
+        })),
     }
 }
 
-// Goes on with what is passed over, or reads a header.
-fn seek(buf: &[u8], s: State) -> Next
+// Goes on with what is passed over, or reads a header; None where there is none, or the input ends within a section.
+fn seek(buf: &[u8], s: State) -> Option<Next>
     requires { Within (length buf.now) s.at }
     ensures { result ≡ sought buf.now s }
 {
-    let at = s.at;
-    let from = at.from;
-    let to = at.to;
-    if from == to {
-        if 0 < s.skip {
-            return Next::Over(Turn::Malformed);
-        }
-        return Next::Over(Turn::Done(s));
+    if s.at.from == s.at.to {
+        return if 0 < s.skip {
+            None
+        } else {
+            Some(Next::Over(Turn::Done(s)))
+        };
     }
     if 0 < s.skip {
-        return Next::Over(Turn::On(passed(s)));
+        return Some(Next::Over(Turn::On(passed(s))));
     }
-    let header = read_header(buf, from, to);
-    begin(s, header)
+    let header = read_header(&buf[s.at.from..s.at.to], s.at.from)?;
+    Some(begin(s, header))
 }
 
-// One section, or a part of one that is passed over.
-fn step(buf: &mut [u8], list: &mut [u8], s: State) -> Turn
+// One section, or a part of one that is passed over; None where the input is no section.
+fn step(buf: &mut [u8], list: &mut [u8], s: State) -> Option<Turn>
     requires { Placed (length buf.old) (length list.old) s }
     ensures { Stepped buf.old buf.new list.old list.new s result }
 {
-    let at = s.at;
-    let found = moved(s, ready(buf, at, HEADER));
-    match seek(buf, found) {
-        Next::Over(turn) => turn,
+    let at = ready(buf, s.at, HEADER);
+    match seek(buf, State { at, ..s })? {
+        Next::Over(turn) => Some(turn),
         Next::Take(next, size) => {
-            let start = next.at;
-            let window = moved(next, ready(buf, start, size));
-            take_list(buf, list, window, size)
+            let at = ready(buf, next.at, size);
+            take_list(buf, list, State { at, ..next }, size).map(Turn::On)
         }
         Next::Compare(next, topic, size) => {
-            let start = next.at;
-            let window = moved(next, ready(buf, start, size));
-            compare(buf, list, window, topic, size)
+            let at = ready(buf, next.at, size);
+            compare(buf, list, State { at, ..next }, topic, size).map(Turn::On)
         }
     }
 }
@@ -180,7 +148,7 @@ fn step(buf: &mut [u8], list: &mut [u8], s: State) -> Turn
 fn print_count(name: &[u8], count: usize)
     requires { length name.now ≤ 16 }
 {
-    let mut out = [0u8; 64];
+    let mut out = [0; 64];
     let word = put_bytes(&mut out, 0, name);
     let number = put_number(&mut out, word, count);
     let end = put_byte(&mut out, number, b'\n');
@@ -197,42 +165,31 @@ fn print_counts(counts: Counts) {
     print_count(b"differences ", counts.differences);
 }
 
-// Turns to the end of the input, counted down since nothing says that it ends.
+// Turns to the end of the input, counted since nothing says that it ends.
 fn replay(buf: &mut [u8], list: &mut [u8]) {
-    let mut s = start();
-    let mut turns = u64::MAX;
-    while 0 < turns {
+    let mut s = START;
+    for _ in 0..u64::MAX {
         match step(buf, list, s) {
-            Turn::On(next) => {
-                s = next;
-            }
-            Turn::Done(last) => {
+            Some(Turn::On(next)) => s = next,
+            Some(Turn::Done(last)) => {
                 print_counts(last.counts);
                 return;
             }
-            Turn::Malformed => {
+            None => {
                 io::write_all(STDOUT, b"malformed\n");
                 return;
             }
         }
-        turns -= 1;
     }
 }
 
-fn buffer() -> [u8; 262144]
-    ensures { 262144 ≡ length result }
-{
-    [0; 262144]
-}
+// The bytes of the input that are kept, and more than a list has.
+const BUFFER: usize = 262144;
 
-fn list_buffer() -> [u8; 70000]
-    ensures { 70000 ≡ length result }
-{
-    [0; 70000]
-}
+const LIST: usize = 70000;
 
 fn main() {
-    let mut buf = buffer();
-    let mut list = list_buffer();
+    let mut buf = [0; BUFFER];
+    let mut list = [0; LIST];
     replay(&mut buf, &mut list);
 }

@@ -1,11 +1,11 @@
 // What is kept from section to section.
-ghost use Rattle.std.specs.Prelude.{◌≡◌, ◌+◌, ◌≤◌};
-ghost use Rattle.replay.specs.State.{START, more, differing, counted, moved, skipped, passed};
+ghost use Rattle.std.specs.Prelude.{◌≡◌, ◌≤◌};
+ghost use Rattle.replay.specs.State.{differing, counted, passed};
 
 use crate::header::Topic;
 use crate::window::{Window, advanced};
 
-// How many answers about each topic were compared, and how many differ.
+// How many answers about each topic were compared, and how many differ. No run counts so far that a count stays.
 #[derive(Clone, Copy)]
 pub struct Counts {
     pub checks: usize,
@@ -29,92 +29,67 @@ pub struct State {
     pub counts: Counts,
 }
 
-pub fn start() -> State
-    ensures { result ≡ START }
-{
-    State {
-        at: Window { from: 0, to: 0 },
-        skip: 0,
-        list: 0,
-        cases: 0,
-        counts: Counts {
-            checks: 0,
-            roles: 0,
-            everys: 0,
-            listings: 0,
-            taggeds: 0,
-            generics: 0,
-            differences: 0,
-        },
-    }
-}
-
-// One more; no run counts so far that it stays.
-pub fn count(n: usize) -> usize
-    ensures { result ≡ more n }
-{
-    if n < usize::MAX { n + 1 } else { n }
-}
+// Nothing is read, and nothing counted.
+pub const START: State = State {
+    at: Window { from: 0, to: 0 },
+    skip: 0,
+    list: 0,
+    cases: 0,
+    counts: Counts {
+        checks: 0,
+        roles: 0,
+        everys: 0,
+        listings: 0,
+        taggeds: 0,
+        generics: 0,
+        differences: 0,
+    },
+};
 
 // One more where an answer is not right.
 fn count_wrong(n: usize, right: bool) -> usize
     ensures { result ≡ differing right n }
 {
-    if right { n } else { count(n) }
+    if right { n } else { n.saturating_add(1) }
 }
 
 // One more answer about this topic, right or not.
 pub fn counted(counts: Counts, topic: Topic, right: bool) -> Counts
     ensures { result ≡ counted counts topic right }
 {
-    let mut next = counts;
-    next.differences = count_wrong(counts.differences, right);
+    let differences = count_wrong(counts.differences, right);
     match topic {
-        Topic::Check => {
-            next.checks = count(counts.checks);
-            next
-        }
-        Topic::Roles => {
-            next.roles = count(counts.roles);
-            next
-        }
-        Topic::Every => {
-            next.everys = count(counts.everys);
-            next
-        }
-        Topic::Listing => {
-            next.listings = count(counts.listings);
-            next
-        }
-        Topic::Tagged => {
-            next.taggeds = count(counts.taggeds);
-            next
-        }
-        Topic::Generics(_) => {
-            next.generics = count(counts.generics);
-            next
-        }
+        Topic::Check => Counts {
+            checks: counts.checks.saturating_add(1),
+            differences,
+            ..counts
+        },
+        Topic::Roles => Counts {
+            roles: counts.roles.saturating_add(1),
+            differences,
+            ..counts
+        },
+        Topic::Every => Counts {
+            everys: counts.everys.saturating_add(1),
+            differences,
+            ..counts
+        },
+        Topic::Listing => Counts {
+            listings: counts.listings.saturating_add(1),
+            differences,
+            ..counts
+        },
+        Topic::Tagged => Counts {
+            taggeds: counts.taggeds.saturating_add(1),
+            differences,
+            ..counts
+        },
+        Topic::Generics(_) => Counts {
+            generics: counts.generics.saturating_add(1),
+            differences,
+            ..counts
+        },
     }
-}
-
-// The same with other unread bytes.
-pub fn moved(s: State, at: Window) -> State
-    ensures { result ≡ moved at s }
-{
-    let mut next = s;
-    next.at = at;
-    next
-}
-
-// Passes over n of the unread bytes.
-fn skipped(s: State, n: usize) -> State
-    requires { (s.at.from + n ≤ s.at.to) × (n ≤ s.skip) }
-    ensures { result ≡ skipped n s }
-{
-    let rest = advanced(s.at, n);
-    let mut next = moved(s, rest);
-    next.skip = s.skip - n;
-    next
 }
 
 // Passes over what is left of a section, as far as it was read.
@@ -122,10 +97,10 @@ pub fn passed(s: State) -> State
     requires { s.at.from ≤ s.at.to }
     ensures { result ≡ passed s }
 {
-    let at = s.at;
-    let unread = at.to - at.from;
-    if s.skip <= unread {
-        return skipped(s, s.skip);
+    let n = s.skip.min(s.at.to - s.at.from);
+    State {
+        at: advanced(s.at, n),
+        skip: s.skip - n,
+        ..s
     }
-    skipped(s, unread)
 }

@@ -1,12 +1,10 @@
 // The unread bytes of standard input, kept in a buffer.
-ghost use Rattle.std.specs.Prelude.{◌≡◌, ◌++◌, ◌+◌, ◌-◌, ◌≤◌, length, drop};
-ghost use Rattle.std.proofs.Math.Seq.{slice};
+ghost use Rattle.std.specs.Prelude.{◌+◌, ◌≡◌, ◌≤◌, length};
 ghost use Rattle.replay.specs.Window.{Within, advanced, Ready};
 
-// The descriptor of standard input.
-const STDIN: i32 = 0;
+use program::STDIN;
 
-// Where they start and end.
+// Where they start and end. That they are within the buffer is no invariant: each turn would hand on a lent buffer.
 #[derive(Clone, Copy)]
 pub struct Window {
     pub from: usize,
@@ -24,35 +22,19 @@ pub fn advanced(at: Window, n: usize) -> Window
     }
 }
 
-// Moves the bytes from `from` to `to` to the buffer's start, and answers how many there are.
-fn slide(buf: &mut [u8], from: usize, to: usize) -> usize
-    requires { (from ≤ to) × (to ≤ length buf.old) }
-    ensures value { result ≡ to - from }
-    ensures buf_after { buf.new ≡ slice from to buf.old ++ drop result buf.old }
-{
-    let n = to - from;
-    let mut i = 0;
-    while i < n {
-        buf[i] = buf[from + i];
-        i += 1;
-    }
-    n
-}
-
 // Reads on where there are fewer than `need`, until the buffer is full or the input ends.
 pub fn ready(buf: &mut [u8], at: Window, need: usize) -> Window
     requires { Within (length buf.old) at }
     ensures { Ready buf.old buf.new need at result }
 {
-    let from = at.from;
-    let to = at.to;
-    if need <= to - from {
+    let unread = at.to - at.from;
+    if need <= unread {
         return at;
     }
-    let n = slide(buf, from, to);
-    let more = io::read_full(STDIN, &mut buf[n..]);
+    buf.copy_within(at.from..at.to, 0);
+    let more = io::read_full(STDIN, &mut buf[unread..]);
     Window {
         from: 0,
-        to: n + more,
+        to: unread + more,
     }
 }

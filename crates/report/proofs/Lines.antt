@@ -1,13 +1,13 @@
 -- The lines of the roles, and how many roles there are.
 use mathlib.Core.Path.{◌≡◌, refl, ap, ◌∙◌, sym, subst}
 use mathlib.Core.Bool.{true, false, true≢false}
-use mathlib.Core.List.{List, [], ◌∷◌, ◌++◌, append_assoc, append-nil}
+use mathlib.Core.List.{List, [], ◌∷◌, ◌++◌}
 use Prim.Native.Nat.{ℕ, zero, suc, ◌+◌, ◌*◌, ◌-◌, ◌^◌, ◌≤◌, ◌<◌}
-use native.Mathlib.Nat.{add-zero, add-suc, suc-add}
+use native.Mathlib.Numerals.{add-one}
 use native.Mathlib.Omega.{arith}
-use borrow.Author.Tests.{ltb-true, eq-eqb, ne_eqb}
+use borrow.Author.Tests.{ltb-true, ne_eqb}
 use lib.Dec.{ltb, eqb}
-use lib.ListN.{length, get_or, take, drop, replicate, length-append, drop_of_length-le}
+use lib.ListN.{length, get_or, take, drop, replicate, length-append}
 use lib.Seq.{take_at}
 use Rattle.token_list.specs.Layout.{first_row}
 use Rattle.token_list.specs.Text.{all}
@@ -23,44 +23,26 @@ use Rattle.reading.specs.Declaration.{Declaration}
 use Rattle.reading.specs.Reading.{item}
 use Rattle.reading.specs.Answer.{Answer, declared, refused, item_answer, answer, buffer, accepts}
 use Rattle.reading.proofs.Frame.{framed_cases}
-use Rattle.parse.specs.Contract.{Answered, ParsedAs, accepted}
-use Rattle.parse.specs.declared.item.Parse.{Parse}
-use Rattle.parse.specs.declared.item.Parse.TheVariants as parses
+use Rattle.parse.specs.Contract.{Answered, accepted}
+use Rattle.parse.specs.declared.item.ItemAt.{ItemAt}
 use Rattle.reading.proofs.GrammarSound.{obeys_sound}
 use Rattle.reading.proofs.Promise.{obeys_each}
 use Rattle.parse.proofs.Items.{accepted_as}
+use Rattle.std.specs.Prelude.{Result, Ok, Err}
 use Rattle.output.proofs.Texts.{decimal-within, decimal_few}
 use Rattle.report.specs.Text.{answer_text}
 use Rattle.report.specs.Roles.{assigned, role_line, role_lines, NAMES, read_as_lem}
-use Rattle.report.specs.declared.roles.Roles.{Roles}
-use Rattle.report.specs.declared.roles.Roles.TheVariants.{Rows, Refused}
 
--- one more line
-pub lines_more : (row : ℕ) (rs : List ℕ) (r : ℕ) → role_lines row (rs ++ r ∷ []) ≡
-    role_lines row rs ++ role_line (row + length rs) r
-lines_more row [] r = append-nil _ ∙ ap (λ (k : ℕ). role_line k r) (sym (add-zero row))
-lines_more row (q ∷ rs) r =
-    ap (λ (l : List ℕ). role_line row q ++ l) (lines_more (suc row) rs r)
-    ∙ sym (append_assoc (role_line row q) (role_lines (suc row) rs) (role_line (suc row + length rs) r))
-    ∙ ap (λ (k : ℕ). (role_line row q ++ role_lines (suc row) rs) ++ role_line k r)
-    (suc-add row (length rs) ∙ sym (add-suc row (length rs)))
+-- the lines from row i on
+pub lines_next : (i : ℕ) (s : List ℕ) → i < length s →
+    role_line i (get_or s i 0) ++ role_lines (i + 1) (drop (i + 1) s) ≡ role_lines i (drop i s)
+lines_next i s h = rw (drop_next s i h, add-one)
 
 -- the report of a list that passes
 pub rows_few : (n : ℕ) → n < 2 ^ 64 → length (answer_text (list.Answer.passed n)) ≤ 64
 rows_few n h = simp length-append (omega (arith, decimal_few n h))
 
 -- ## The bytes before the first 255
-
-module _ (s : List ℕ) where
-  pub assigned_here : (i : ℕ) → i < length s → get_or s i 0 ≡ 255 → assigned (drop i s) ≡ 0
-  assigned_here i h e = rw (drop_next s i h, eq-eqb _ 255 e)
-
-  pub assigned_next : (i : ℕ) → i < length s → (get_or s i 0 ≡ 255 → ⊥) →
-      assigned (drop i s) ≡ suc (assigned (drop (i + 1) s))
-  assigned_next i h e = rw (drop_next s i h, ne_eqb _ 255 e)
-
-  pub assigned_end : (i : ℕ) → length s ≤ i → assigned (drop i s) ≡ 0
-  assigned_end i h = rw (drop_of_length-le s {i = i} h)
 
 abbrev Named : List ℕ → Type 0
 Named rs = all (λ r. ltb r 19) rs ≡ true
@@ -75,7 +57,7 @@ assigned-all [] n h = none n
 assigned-all (r ∷ rs) n h =
     let b = and_parts (ltb r 19) (all (λ q. ltb q 19) rs) h in
     let e : eqb r 255 ≡ false = ne_eqb r 255 (λ q. omega (arith, ltb-true r 19 b.0)) in
-    rw e (ap suc (assigned-all rs n b.1))
+    rw e (omega (arith, assigned-all rs n b.1))
 
 -- a row has at most four digits and a role two
 lines_few : (row : ℕ) (rs : List ℕ) → row + length rs ≤ 10000 → Named rs → length (role_lines row rs) ≤ 8 * length rs
@@ -128,11 +110,11 @@ module _ (s : List ℕ) (n : ℕ) (d : Declaration) (rs : List ℕ) where
       simp length-append (omega (arith, lines_few 0 rs (omega (arith, count)) (named e), count))
 
 module _ (s b0 : List ℕ) {b1 : List ℕ} where
-  pub rows_read : {p : Parse} → Answered s p b0 b1 → accepted p ≡ true → (n : ℕ) → n ≡ assigned b1 →
-      read_as_lem (Rows n) b1 (answer s (length b0))
+  pub rows_read : {p : Result ItemAt Refusal} → Answered s p b0 b1 → accepted p ≡ true → (n : ℕ) → n ≡ assigned b1 →
+      read_as_lem (Ok n) b1 (answer s (length b0))
   rows_read {p} h t n e = go (answer s (length b0)) refl
     where
-      go : (a : Answer) → answer s (length b0) ≡ a → read_as_lem (Rows n) b1 a
+      go : (a : Answer) → answer s (length b0) ≡ a → read_as_lem (Ok n) b1 a
       go (declared d rs) q =
           let rest : List ℕ = replicate (length b0 - length rs) 255 in
           let b : b1 ≡ rs ++ rest = h.buffer ∙ ap (buffer (length b0)) q in
@@ -140,15 +122,6 @@ module _ (s b0 : List ℕ) {b1 : List ℕ} where
           (named s (length b0) d rs q) in
           (omega (arith, ap length b, length-append rs rest), ap (take n) b ∙ take_at rs rest n (sym c))
       go (refused m r) q = absurd (true≢false (sym t ∙ accepted_as h ∙ ap accepts q))
-
-  pub refusal_read : (r : Refusal) {p : Parse} → p ≡ parses.Refused r → Answered s p b0 b1 →
-      read_as_lem (Refused r) b1 (answer s (length b0))
-  refusal_read r {p} e h =
-      go (answer s (length b0)) (subst (λ (x : Parse). ParsedAs s x (answer s (length b0))) e h.answer)
-    where
-      go : (a : Answer) → ParsedAs s (parses.Refused r) a → read_as_lem (Refused r) b1 a
-      go (declared d rs) k = absurd k
-      go (refused m q) k = k
 
 -- ## What was read
 
@@ -158,17 +131,18 @@ pub record Found (n : ℕ) (after : List ℕ) (a : Answer) : Type 0 where
   pub declaration : Declaration
   pub same : a ≡ declared declaration (take n after)
 
-pub found : {after : List ℕ} (n : ℕ) (a : Answer) {x : Roles} → x ≡ Rows n → read_as_lem x after a → Found n after a
-found {after} n a e h = go a (subst (λ (x : Roles). read_as_lem x after a) e h)
+pub found : {after : List ℕ} (n : ℕ) (a : Answer) {x : Result ℕ Refusal} → x ≡ Ok n → read_as_lem x after a →
+    Found n after a
+found {after} n a e h = go a (subst (λ (x : Result ℕ Refusal). read_as_lem x after a) e h)
   where
-    go : (a : Answer) → read_as_lem (Rows n) after a → Found n after a
+    go : (a : Answer) → read_as_lem (Ok n) after a → Found n after a
     go (declared d rs) k = record { within = k.0; declaration = d; same = ap (declared d) (sym k.1) }
     go (refused m p) k = absurd k
 
-pub not_found : (after : List ℕ) (r : Refusal) (a : Answer) {x : Roles} → x ≡ Refused r → read_as_lem x after a →
+pub not_found : (after : List ℕ) (r : Refusal) (a : Answer) {x : Result ℕ Refusal} → x ≡ Err r → read_as_lem x after a →
     a ≡ refused r.number r.place
-not_found after r a e h = go a (subst (λ (x : Roles). read_as_lem x after a) e h)
+not_found after r a e h = go a (subst (λ (x : Result ℕ Refusal). read_as_lem x after a) e h)
   where
-    go : (a : Answer) → read_as_lem (Refused r) after a → a ≡ refused r.number r.place
+    go : (a : Answer) → read_as_lem (Err r) after a → a ≡ refused r.number r.place
     go (declared d rs) k = absurd k
     go (refused m p) k = sym (λ i. refused (k.0 i) (k.1 i))

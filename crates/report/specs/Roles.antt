@@ -1,16 +1,15 @@
 -- The report of the roles.
-use Rattle.std.specs.Prelude.{◌≡◌, cond, List, [], ◌∷◌, ◌++◌, ℕ, suc, ◌≤◌, eqb, length, take}
+use Rattle.std.specs.Prelude.{◌≡◌, not, List, [], ◌∷◌, ◌++◌, ℕ, suc, ◌≤◌, eqb, length, take, Result, Ok, Err}
+use Rattle.std.specs.List.{prefix_len}
 use Rattle.token_list.specs.Byte.{bytes, SPACE, LF}
 use Rattle.reading.specs.Role.{none}
 use Rattle.reading.specs.Answer.{Answer, declared, refused}
 use Rattle.output.specs.Text.{decimal, refusal_text}
-use Rattle.report.specs.declared.roles.Roles.{Roles}
-use Rattle.report.specs.declared.roles.Roles.TheVariants.{Rows, Refused}
+use Rattle.token_list.specs.declared.check.Refusal.{Refusal}
 
 -- how many bytes of a role buffer stand before the first that holds no role
 abbrev pub assigned : List ℕ → ℕ
-assigned [] = 0
-assigned (r ∷ rs) = cond (eqb r none) 0 (suc (assigned rs))
+assigned rs = prefix_len (λ r. not (eqb r none)) rs
 
 -- a row, one space and its role
 unfoldable pub role_line : ℕ → ℕ → List ℕ
@@ -31,8 +30,8 @@ roles_text (declared d rs) = NAMES ++ role_lines 0 rs
 roles_text (refused n p) = refusal_text n p
 
 -- the first n bytes of the buffer are the roles, or the refusal is the answer's
-abbrev pub read_as_lem : Roles → List ℕ → Answer → Type 0
-read_as_lem (Rows n) after (declared d rs) = (n ≤ length after) × (take n after ≡ rs)
-read_as_lem (Rows n) after (refused m p) = ⊥
-read_as_lem (Refused r) after (declared d rs) = ⊥
-read_as_lem (Refused r) after (refused m p) = (r.number ≡ m) × (r.place ≡ p)
+abbrev pub read_as_lem : Result ℕ Refusal → List ℕ → Answer → Type 0
+read_as_lem (Ok n) after (declared d rs) = (n ≤ length after) × (take n after ≡ rs)
+read_as_lem (Ok n) after (refused m p) = ⊥
+read_as_lem (Err r) after (declared d rs) = ⊥
+read_as_lem (Err r) after (refused m p) = (r.number ≡ m) × (r.place ≡ p)

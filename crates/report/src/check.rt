@@ -7,19 +7,19 @@ ghost use Rattle.report.specs.Text.{answer_text};
 ghost use Rattle.output.specs.Contract.{Printed};
 
 use output::put::{put_byte, put_bytes, put_number, put_refusal};
-use token_list::check::{Checked, check};
+use token_list::check::{Refusal, check};
 
-fn put_answer(out: &mut [u8], answer: Checked) -> usize
+fn put_answer(out: &mut [u8], answer: Result<usize, Refusal>) -> usize
     ensures printed { Printed out.old out.new result (answer_text (checked answer)) }
     ensures upper_bound { result ≤ 64 }
 {
     match answer {
-        Checked::Passed(rows) => {
+        Ok(rows) => {
             let word = put_bytes(out, 0, b"rows ");
             let number = put_number(out, word, rows);
             put_byte(out, number, b'\n')
         }
-        Checked::Refused(refusal) => put_refusal(out, refusal),
+        Err(refusal) => put_refusal(out, refusal),
     }
 }
 

@@ -6,44 +6,27 @@ ghost use Rattle.output.specs.Contract.{Put, Printed};
 ghost use Rattle.report.specs.Roles.{assigned, role_line, role_lines, roles_text, read_as_lem};
 
 use output::put::{put_byte, put_bytes, put_number, put_refusal};
-use parse::item::{Parse, new};
+use parse::item::new;
 use parse::role::NONE;
 use token_list::check::Refusal;
-
-// How many rows have a role, or the refusal.
-#[derive(Clone, Copy)]
-pub enum Roles {
-    Rows(usize),
-    Refused(Refusal),
-}
 
 // How many bytes stand before the first that holds no role.
 fn count_assigned(roles: &[u8]) -> usize
     ensures { result ≡ assigned roles.now }
 {
-    let mut i = 0;
-    while i < roles.len() {
-        if roles[i] == NONE {
-            return i;
-        }
-        i += 1;
-    }
-    i
+    roles.iter().take_while(|role| **role != NONE).count()
 }
 
-// Reads the list, with a byte of `roles` for each row.
-pub fn read_roles(list: &[u8], roles: &mut [u8]) -> Roles
+// Reads the list, with a byte of `roles` for each row: how many rows have a role, or the refusal.
+pub fn read_roles(list: &[u8], roles: &mut [u8]) -> Result<usize, Refusal>
     ensures read_as { read_as_lem result roles.new (answer list.now (length roles.old)) }
     ensures roles_after { roles.new ≡ buffer (length roles.old)
         (answer list.now (length roles.old)) }
     ensures by_index { (n p : ℕ) → answer list.now (length roles.old) ≡ refused n p →
         OneRefusal read_number list.now n p }
 {
-    match new(list, roles) {
-        Parse::Refused(r) => Roles::Refused(r),
-        Parse::Struct(_) => Roles::Rows(count_assigned(roles)),
-        Parse::Enum(_) => Roles::Rows(count_assigned(roles)),
-    }
+    new(list, roles)?;
+    Ok(count_assigned(roles))
 }
 
 fn put_line(out: &mut [u8], at: usize, row: usize, role: u8) -> usize
@@ -58,11 +41,9 @@ fn put_line(out: &mut [u8], at: usize, row: usize, role: u8) -> usize
 fn put_lines(out: &mut [u8], at: usize, roles: &[u8]) -> usize
     ensures { Put out.old out.new at result (role_lines 0 roles.now) }
 {
-    let mut i = 0;
     let mut end = at;
-    while i < roles.len() {
-        end = put_line(out, end, i, roles[i]);
-        i += 1;
+    for (row, role) in roles.iter().enumerate() {
+        end = put_line(out, end, row, *role);
     }
     end
 }
@@ -78,8 +59,8 @@ pub fn report_roles(list: &[u8], roles: &mut [u8], out: &mut [u8]) -> usize
         OneRefusal read_number list.now n p }
 {
     match read_roles(list, roles) {
-        Roles::Refused(r) => put_refusal(out, r),
-        Roles::Rows(n) => {
+        Err(r) => put_refusal(out, r),
+        Ok(n) => {
             let names = put_bytes(out, 0, b"row role\n");
             put_lines(out, names, &roles[..n])
         }

@@ -11,6 +11,7 @@ use lib.Seq.{get_or-set_same, get_or-set_other, set-get_or, set-set}
 use Rattle.token_list.specs.Byte.{PARENTHESIS, BRACKET, BRACE}
 use Rattle.source.specs.Bytes.{opens}
 use Rattle.source.specs.Brackets.{Open}
+use Rattle.std.specs.Prelude.{Some, None}
 use Rattle.source.specs.Stack.{PER_CELL, bits_of, delimiter_of, kinds, capacity, delimiters_of, Held, Popped}
 
 -- ## Two bits for each kind
@@ -59,13 +60,6 @@ capacity_next (suc zero) h = refl
 capacity_next (suc (suc zero)) h = refl
 capacity_next (suc (suc (suc zero))) h = refl
 capacity_next (suc (suc (suc (suc n)))) h = absurd (omega (arith, h))
-
-pub capacity_few : (n : ℕ) → n ≤ 3 → capacity n ≤ 64
-capacity_few zero h = omega arith
-capacity_few (suc zero) h = omega arith
-capacity_few (suc (suc zero)) h = omega arith
-capacity_few (suc (suc (suc zero))) h = omega arith
-capacity_few (suc (suc (suc (suc n)))) h = absurd (omega (arith, h))
 
 capacity_full : (m n : ℕ) → 4 ≤ m → 4 ≤ n → capacity m ≡ capacity n
 capacity_full (suc (suc (suc (suc m)))) (suc (suc (suc (suc n)))) h k = refl
@@ -182,7 +176,7 @@ module _ (cells : List ℕ) (o : Open) (os : List Open) where
             let n : depth + 1 - 4 * x ≡ length (o ∷ os) - PER_CELL * x = omega arith in
             omega (arith, get_or-set_other cells cell x w₀ 0 other, h.room x, other_room depth x other, ap capacity n)
 
-    pub popped_inside : Held cells (o ∷ os) → Popped (set cells cell (kept / 4)) o os (delimiter_of (kept % 4))
+    pub popped_inside : Held cells (o ∷ os) → Popped (set cells cell (kept / 4)) o os (Some (delimiter_of (kept % 4)))
     popped_inside h =
         let m : suc depth ≡ min (length (o ∷ os)) (PER_CELL * length cells) = omega (arith, l) in
         let n : length (o ∷ os) - PER_CELL * length cells ≡ 0 = omega (arith, l) in
@@ -195,7 +189,7 @@ module _ (cells : List ℕ) (o : Open) (os : List Open) where
             same = same-inside (set cells cell (kept / 4)) os (omega arith) (length-set cells cell (kept / 4)) more;
             room = λ x. room x (eqb x cell) refl;
           };
-          told = λ e. first;
+          told = first;
         }
       where
         room : (x : ℕ) (b : Bool) → eqb x cell ≡ b
@@ -253,24 +247,17 @@ module _ (cells : List ℕ) (o : Open) (os : List Open) where
           room = λ x. room_past depth (length (o ∷ os)) (omega arith) (omega arith) x (h.room x);
         }
 
-    pub popped_outside : Held cells (o ∷ os) → Popped cells o os 0
+    pub popped_outside : Held cells (o ∷ os) → Popped cells o os None
     popped_outside h =
         record {
           held = record {
             same = sym (ap (kinds cells) all_full) ∙ h.same ∙ ap (λ (n : ℕ). delimiters_of (drop n (o ∷ os))) deeper;
             room = λ x. room_past (length (o ∷ os)) depth (omega arith) (omega arith) x (h.room x);
           };
-          told = λ e. absurd (e refl);
+          told = tt;
         }
 
 -- ## By the depth that the code counts
-
--- a cell that is not full
-pub room_left : {cells : List ℕ} {os : List Open} {depth : ℕ} → Held cells os → length os ≡ depth
-    → get_or cells (depth / 4) 0 < 64
-room_left {cells} {os} {depth} h e =
-    let few = capacity_few (length os - PER_CELL * (length os / 4)) (omega arith) in
-    subst (λ (n : ℕ). get_or cells (n / 4) 0 < 64) e (omega (arith, h.room (length os / 4), few))
 
 module _ {cells : List ℕ} {o : Open} {os : List Open} {depth : ℕ} (e : length os ≡ depth) where
   pub pushed : {b : ℕ} → depth / 4 < length cells → opens o.delimiter ≡ true → b ≡ bits_of o.delimiter
@@ -284,15 +271,15 @@ module _ {cells : List ℕ} {o : Open} {os : List Open} {depth : ℕ} (e : lengt
 
   pub popped : {r : ℕ} → depth / 4 < length cells → r ≡ delimiter_of (get_or cells (depth / 4) 0 % 4)
       → Held cells (o ∷ os)
-      → Popped (set cells (depth / 4) (get_or cells (depth / 4) 0 / 4)) o os r
+      → Popped (set cells (depth / 4) (get_or cells (depth / 4) 0 / 4)) o os (Some r)
   popped {r} l c h =
       let inside = popped_inside cells o os (omega (arith, ap (λ (n : ℕ). n / 4) e, l)) h in
       let out : ℕ → List ℕ = λ n. set cells (n / 4) (get_or cells (n / 4) 0 / 4) in
-      subst (λ (x : ℕ). Popped (out depth) o os x) (sym c)
-      (subst (λ (n : ℕ). Popped (out n) o os (delimiter_of (get_or cells (n / 4) 0 % 4))) e inside)
+      subst (λ (x : ℕ). Popped (out depth) o os (Some x)) (sym c)
+      (subst (λ (n : ℕ). Popped (out n) o os (Some (delimiter_of (get_or cells (n / 4) 0 % 4)))) e inside)
 
   pub pushed_past : length cells ≤ depth / 4 → Held cells os → Held cells (o ∷ os)
   pushed_past l h = pushed_outside cells o os (omega (arith, ap (λ (n : ℕ). n / 4) e, l)) h
 
-  pub popped_past : length cells ≤ depth / 4 → Held cells (o ∷ os) → Popped cells o os 0
+  pub popped_past : length cells ≤ depth / 4 → Held cells (o ∷ os) → Popped cells o os None
   popped_past l h = popped_outside cells o os (omega (arith, ap (λ (n : ℕ). n / 4) e, l)) h

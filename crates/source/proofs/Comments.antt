@@ -1,19 +1,18 @@
 -- Laws on comments, from an offset on.
 use mathlib.Core.Path.{◌≡◌, refl, ap, ◌∙◌, sym}
-use mathlib.Core.Bool.{Bool, true, false, not, cond, ◌&&◌, ◌||◌}
+use mathlib.Core.Bool.{Bool, true, false, cond, ◌&&◌}
 use mathlib.Core.List.{List, [], ◌∷◌}
 use Prim.Native.Nat.{ℕ, zero, suc, ◌+◌, ◌-◌, ◌≤◌, ◌<◌}
 use native.Mathlib.Omega.{arith}
 use borrow.Author.Tests.{eq-eqb, ne_eqb, eqb-true}
 use lib.Dec.{eqb}
 use lib.ListN.{length, get_or, drop}
-use Rattle.token_list.specs.Byte.{LF}
 use Rattle.token_list.proofs.Texts.{drop_next, chosen, passed_over, and_parts}
-use Rattle.source.specs.Bytes.{CR, SLASH, STAR, BANG, in_doc}
+use Rattle.source.specs.Bytes.{SLASH, STAR, in_doc}
 use Rattle.source.specs.Taken.{takes, fault, after, run}
-use Rattle.source.specs.Comment.{block, block_doc, outer_line, line_ends, doc_line}
+use Rattle.source.specs.Comment.{block, line_ends, doc_line}
 use Rattle.source.specs.Contract.{RunEnd, NoSlash}
-use Rattle.source.proofs.Offsets.{and_fails_last, stands, byte-first, byte_behind, drop_behind}
+use Rattle.source.proofs.Offsets.{and_fails_last, stands, byte-first, drop_behind}
 use Rattle.source.proofs.Passed.{after_none, after_more}
 
 -- what is passed over is as if it were not there
@@ -78,27 +77,6 @@ module _ (depth : ℕ) (s : List ℕ) (e : ℕ) (l : e ≤ length s) where
 -- ## Doc comments
 
 module _ (s : List ℕ) (i : ℕ) where
-  fourth : get_or (drop i s) 3 0 ≡ get_or s (i + 2 + 1) 0
-  fourth = let n : i + 3 ≡ i + 2 + 1 = omega arith in byte_behind s i 3 ∙ ap (λ (j : ℕ). get_or s j 0) n
-
-  pub block_doc_at : {b c : ℕ} → b ≡ get_or s (i + 2) 0 → c ≡ get_or s (i + 2 + 1) 0
-      → block_doc (drop i s) ≡ (eqb b BANG || (eqb b STAR && not (eqb c STAR || eqb c SLASH)))
-  unfolding block_doc
-  block_doc_at p q = rw (p, q, ← fourth, ← byte_behind s i 2)
-
-  pub block_doc_star : {b c : ℕ} → b ≡ get_or s (i + 2) 0 → c ≡ get_or s (i + 2 + 1) 0 → b ≡ STAR
-      → block_doc (drop i s) ≡ not (eqb c STAR || eqb c SLASH)
-  block_doc_star p q e = block_doc_at p q ∙ simp e
-
-  pub outer-line_at : {b c : ℕ} → b ≡ get_or s (i + 2) 0 → c ≡ get_or s (i + 2 + 1) 0
-      → outer_line (drop i s) ≡ (eqb b SLASH && not (eqb c SLASH))
-  unfolding outer_line
-  outer-line_at p q = rw (p, q, ← fourth, ← byte_behind s i 2)
-
-  pub line_ends_at : i < length s
-      → line_ends (drop i s) ≡ (eqb (get_or s i 0) LF || (eqb (get_or s i 0) CR && eqb (get_or s (i + 1) 0) LF))
-  line_ends_at h = rw (drop_next s i h, byte-first s (i + 1))
-
   -- the text of the line ends at e
   module _ (e : ℕ) (r : RunEnd in_doc s (i + 3) e) where
     doc_line_of : doc_line (drop i s) ≡ after 3 (cond (line_ends (drop e s)) (takes (e - (i + 3))) fault)

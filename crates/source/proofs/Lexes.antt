@@ -11,11 +11,12 @@ use Rattle.token_list.specs.Byte.{QUOTE}
 use Rattle.token_list.specs.Rows.{ident, punct}
 use Rattle.token_list.proofs.Texts.{drop_next, drop_of_take}
 use Rattle.source.specs.Piece.{Piece, piece}
-use Rattle.source.specs.Lex.{Lexed, end, token, row_at, doc_rows, found, lex_from, lex}
+use Rattle.source.specs.Lex.{Lexed, end, token, stops, row_at, doc_rows, found, lex_from, lex}
 use Rattle.source.specs.Bytes.{blank}
 use Rattle.source.specs.Contract.{RunEnd, PieceAs, piece_tokens, piece_end}
 use Rattle.source.specs.Contract.{gap as gap-as, row as Row-as, lifetime as lifetime-as, doc as doc-as}
 use Rattle.source.specs.Contract.{none as none-as}
+use Rattle.std.specs.Prelude.{Some, None}
 use Rattle.source.specs.declared.piece.Piece as code
 use Rattle.source.specs.Stack.{rest}
 use Rattle.source.proofs.Offsets.{drop_behind}
@@ -63,8 +64,8 @@ module _ (s : List ℕ) (i : ℕ) (here : i < length s) where
       ap (lex_from i 0) cons ∙ ap (λ (t : List ℕ). found i t (piece t) (onwards s i)) (sym cons)
       ∙ ap (λ (p : Piece). found i (drop i s) p (onwards s i)) h
 
-  pub rest-piece : {p : code.Piece} → PieceAs s i (piece (drop i s)) p
-      → rest s i ≡ piece_tokens s i p (rest s (piece_end s p))
+  pub rest-piece : {p : code.Piece} → PieceAs s i (piece (drop i s)) (Some p)
+      → rest s i ≡ piece_tokens s i p (rest s (piece_end p))
   rest-piece (gap-as {e} h) = rest_found h.told ∙ onwards_rest s i e h.forth
   rest-piece (Row-as {k} {e} h) =
       let text = sym (drop_of_take i e s) in
@@ -77,22 +78,26 @@ module _ (s : List ℕ) (i : ℕ) (here : i < length s) where
       rest_found h.told ∙ (λ j. name (text_behind s i e 1 j) (n j) (onwards_rest s i e h.forth j))
   rest-piece (doc-as {e} h l) =
       rest_found h.told ∙ (λ j. doc_rows i (e - i) (text_behind s i e 3 j) (onwards_rest s i e h.forth j))
-  rest-piece (none-as h) = rest_found h
+
+  pub rest-stops : PieceAs s i (piece (drop i s)) None → rest s i ≡ stops i
+  rest-stops (none-as h) = rest_found h
 
 -- a piece has a byte at least, and stands in the text
-pub piece_forth : {s : List ℕ} {i : ℕ} {t : Piece} {p : code.Piece} → i < length s → PieceAs s i t p → i < piece_end s p
-piece_forth l (gap-as h) = h.forth
-piece_forth l (Row-as h) = h.forth
-piece_forth l (lifetime-as h) = h.forth
-piece_forth l (doc-as h m) = h.forth
-piece_forth l (none-as h) = l
+module _ {s : List ℕ} {i : ℕ} {t : Piece} where
+  pub piece_forth : {p : code.Piece} → PieceAs s i t (Some p) → i < piece_end p
+  piece_forth (gap-as h) = h.forth
+  piece_forth (Row-as h) = h.forth
+  piece_forth (lifetime-as h) = h.forth
+  piece_forth (doc-as h m) = h.forth
 
-pub piece-within : {s : List ℕ} {i : ℕ} {t : Piece} {p : code.Piece} → PieceAs s i t p → piece_end s p ≤ length s
-piece-within (gap-as h) = h.within
-piece-within (Row-as h) = h.within
-piece-within (lifetime-as h) = h.within
-piece-within (doc-as h l) = h.within
-piece-within (none-as h) = omega arith
+  pub piece-within : {p : code.Piece} → PieceAs s i t (Some p) → piece_end p ≤ length s
+  piece-within (gap-as h) = h.within
+  piece-within (Row-as h) = h.within
+  piece-within (lifetime-as h) = h.within
+  piece-within (doc-as h l) = h.within
+
+  pub piece-here : {p : code.Piece} → PieceAs s i t (Some p) → i < length s
+  piece-here h = omega (arith, piece_forth h, piece-within h)
 
 -- ## Whitespace
 

@@ -24,79 +24,82 @@ use Rattle.source.specs.Tokens.{piece_rows, depth_after, row_more, rows_more_lem
 use Rattle.source.specs.declared.piece.Piece as code
 use Rattle.source.specs.declared.piece.Piece.TheVariants as pieces
 use Rattle.source.specs.declared.tokens.Size.{Size}
-use Rattle.source.specs.declared.tokens.Measured.{Measured}
-use Rattle.source.specs.declared.tokens.Measured.TheVariants.{Within, Over}
+use Rattle.std.specs.Prelude.{Option, Some, None}
 use Rattle.source.proofs.Offsets.{and_fails_last}
-use Rattle.source.proofs.Lexes.{rest-piece, rest-none}
+use Rattle.source.proofs.Lexes.{rest-piece, rest-stops, rest-none}
 
 -- ## The rows from an offset on
 
 rows_tokens : (s : List ℕ) (i : ℕ) (p : code.Piece)
-    → rows_of (piece_tokens s i p (rest s (piece_end s p))) ≡ piece_rows s i p ++ rows_of (rest s (piece_end s p))
+    → rows_of (piece_tokens s i p (rest s (piece_end p))) ≡ piece_rows s i p ++ rows_of (rest s (piece_end p))
 rows_tokens s i (pieces.Gap e) = refl
 rows_tokens s i (pieces.Row k e) = refl
 rows_tokens s i (pieces.Lifetime e) = refl
 rows_tokens s i (pieces.Doc e) = refl
-rows_tokens s i pieces.Fault = ap rows_of (sym (rest-none s (length s) (omega arith)))
 
-rows-piece : (s : List ℕ) (i : ℕ) {p : code.Piece} → i < length s → PieceAs s i (piece (drop i s)) p
-    → rows_of (rest s i) ≡ piece_rows s i p ++ rows_of (rest s (piece_end s p))
+rows-piece : (s : List ℕ) (i : ℕ) {p : code.Piece} → i < length s → PieceAs s i (piece (drop i s)) (Some p)
+    → rows_of (rest s i) ≡ piece_rows s i p ++ rows_of (rest s (piece_end p))
 rows-piece s i {p} here h = ap rows_of (rest-piece s i here h) ∙ rows_tokens s i p
 
-pub rows_none : (s : List ℕ) (i : ℕ) → length s ≤ i → rows_of (rest s i) ≡ []
-rows_none s i h = ap rows_of (rest-none s i h)
+-- where no piece stands
+pub rows_none : {s : List ℕ} {i : ℕ} → PieceAs s i (piece (drop i s)) None → rows_of (rest s i) ≡ []
+rows_none {s} {i} h = go (dec_le (length s) i)
+  where
+    go : Dec (length s ≤ i) → rows_of (rest s i) ≡ []
+    go (yes l) = ap rows_of (rest-none s i l)
+    go (no l) = ap rows_of (rest-stops s i (omega arith) h)
 
 -- ## The bytes of a piece
 
 module _ {s : List ℕ} {i : ℕ} {t : Piece} where
-  pub row_to : {k e : ℕ} → PieceAs s i t (pieces.Row k e) → PieceTo s i t (row k (e - i)) e
+  pub row_to : {k e : ℕ} → PieceAs s i t (Some (pieces.Row k e)) → PieceTo s i t (row k (e - i)) e
   row_to (Row-as h) = h
 
-  pub lifetime_to : {e : ℕ} → PieceAs s i t (pieces.Lifetime e) → PieceTo s i t (lifetime (e - i)) e
+  pub lifetime_to : {e : ℕ} → PieceAs s i t (Some (pieces.Lifetime e)) → PieceTo s i t (lifetime (e - i)) e
   lifetime_to (lifetime-as h) = h
 
-  pub doc_to : {e : ℕ} → PieceAs s i t (pieces.Doc e) → PieceTo s i t (doc (e - i)) e
+  pub doc_to : {e : ℕ} → PieceAs s i t (Some (pieces.Doc e)) → PieceTo s i t (doc (e - i)) e
   doc_to (doc-as h l) = h
 
-  pub doc_long : {e : ℕ} → PieceAs s i t (pieces.Doc e) → i + 3 ≤ e
+  pub doc_long : {e : ℕ} → PieceAs s i t (Some (pieces.Doc e)) → i + 3 ≤ e
   doc_long (doc-as h l) = l
 
-  pub row-bytes : {k e : ℕ} → PieceAs s i t (pieces.Row k e) → length (slice i e s) ≡ e - i
+  pub row-bytes : {k e : ℕ} → PieceAs s i t (Some (pieces.Row k e)) → length (slice i e s) ≡ e - i
   row-bytes {k} {e} h = length-slice i e s (row_to h).within
 
-  pub name-bytes : {e : ℕ} → PieceAs s i t (pieces.Lifetime e) → length (slice (i + 1) e s) ≡ e - i - 1
+  pub name-bytes : {e : ℕ} → PieceAs s i t (Some (pieces.Lifetime e)) → length (slice (i + 1) e s) ≡ e - i - 1
   name-bytes {e} h = omega (arith, length-slice (i + 1) e s (lifetime_to h).within)
 
-  pub doc_bytes : {e : ℕ} → PieceAs s i t (pieces.Doc e) → length (slice (i + 3) e s) + 2 ≡ e - i - 1
+  pub doc_bytes : {e : ℕ} → PieceAs s i t (Some (pieces.Doc e)) → length (slice (i + 3) e s) + 2 ≡ e - i - 1
   doc_bytes {e} h = omega (arith, length-slice (i + 3) e s (doc_to h).within, doc_long h)
 
 -- ## Rows more
 
-more_append : (m : Measured) (rs us : List Row) → rows_more_lem m (rs ++ us) ≡ rows_more_lem (rows_more_lem m rs) us
+more_append : (m : Option Size) (rs us : List Row) → rows_more_lem m (rs ++ us) ≡ rows_more_lem (rows_more_lem m rs) us
 more_append m [] us = refl
 more_append m (r ∷ rs) us = more_append (row_more m r.kind (length r.text)) rs us
 
-module _ (s : List ℕ) (i : ℕ) {p : code.Piece} (here : i < length s) (h : PieceAs s i (piece (drop i s)) p) where
-  pub measured_piece : (m : Measured) {n : Measured} {e : ℕ} → n ≡ rows_more_lem m (piece_rows s i p)
-      → e ≡ piece_end s p
+module _ (s : List ℕ) (i : ℕ) {p : code.Piece} (here : i < length s) (h : PieceAs s i (piece (drop i s)) (Some p)) where
+  pub measured_piece : (m : Option Size) {n : Option Size} {e : ℕ} → n ≡ rows_more_lem m (piece_rows s i p)
+      → e ≡ piece_end p
       → rows_more_lem n (rows_of (rest s e)) ≡ rows_more_lem m (rows_of (rest s i))
   measured_piece m q l =
       (λ j. rows_more_lem (q j) (rows_of (rest s (l j))))
-      ∙ sym (more_append m (piece_rows s i p) (rows_of (rest s (piece_end s p))))
+      ∙ sym (more_append m (piece_rows s i p) (rows_of (rest s (piece_end p))))
       ∙ ap (rows_more_lem m) (sym (rows-piece s i here h))
 
-  pub written-piece : {e : ℕ} (done : List ℕ) → e ≡ piece_end s p
+  pub written-piece : {e : ℕ} (done : List ℕ) → e ≡ piece_end p
       → (done ++ written false (piece_rows s i p)) ++ written false (rows_of (rest s e))
       ≡ done ++ written false (rows_of (rest s i))
   written-piece done l =
       let first = piece_rows s i p in
-      let behind = rows_of (rest s (piece_end s p)) in
+      let behind = rows_of (rest s (piece_end p)) in
       let both = ap (written false) (rows-piece s i here h) ∙ written_append false first behind in
       (λ j. (done ++ written false first) ++ written false (rows_of (rest s (l j))))
       ∙ append_assoc done (written false first) (written false behind)
       ∙ ap (λ (t : List ℕ). done ++ t) (sym both)
 
-over_stays : (rs : List Row) → rows_more_lem Over rs ≡ Over
+over_stays : (rs : List Row) → rows_more_lem None rs ≡ None
 over_stays [] = refl
 over_stays (r ∷ rs) = over_stays rs
 
@@ -106,24 +109,24 @@ or_holds_last : (a : Bool) {b : Bool} → b ≡ true → (a || b) ≡ true
 or_holds_last true e = refl
 or_holds_last false e = e
 
-over_last : (a : Bool) {m : Measured} → m ≡ Over → cond a Over m ≡ Over
+over_last : (a : Bool) {m : Option Size} → m ≡ None → cond a None m ≡ None
 over_last true e = refl
 over_last false e = e
 
 module _ (z : Size) (k n : ℕ) where
-  pub more_long : MAX_TEXT < n → row_more (Within z) k n ≡ Over
+  pub more_long : MAX_TEXT < n → row_more (Some z) k n ≡ None
   more_long h = chosen (ltb MAX_TEXT n || leb MAX_ROWS z.rows) _ _ (or_holds _ _ (lt-ltb MAX_TEXT n h))
 
-  pub more_rows : MAX_ROWS ≤ z.rows → row_more (Within z) k n ≡ Over
+  pub more_rows : MAX_ROWS ≤ z.rows → row_more (Some z) k n ≡ None
   more_rows h =
       chosen (ltb MAX_TEXT n || leb MAX_ROWS z.rows) _ _
       (or_holds_last (ltb MAX_TEXT n) (le-leb MAX_ROWS z.rows h))
 
-  pub more_bytes : MAX_BYTES < z.bytes + n + 3 → row_more (Within z) k n ≡ Over
+  pub more_bytes : MAX_BYTES < z.bytes + n + 3 → row_more (Some z) k n ≡ None
   more_bytes h =
       over_last (ltb MAX_TEXT n || leb MAX_ROWS z.rows) (chosen _ _ _ (lt-ltb MAX_BYTES (z.bytes + n + 3) h))
 
-  pub more_deep : k ≡ OPEN → MAX_DEPTH ≤ z.depth → row_more (Within z) k n ≡ Over
+  pub more_deep : k ≡ OPEN → MAX_DEPTH ≤ z.depth → row_more (Some z) k n ≡ None
   more_deep e h =
       over_last (ltb MAX_TEXT n || leb MAX_ROWS z.rows)
       (over_last (ltb MAX_BYTES (z.bytes + n + 3))
@@ -133,7 +136,7 @@ module _ (z : Size) (k n : ℕ) where
   larger = record { rows = z.rows + 1; bytes = z.bytes + n + 3; depth = depth_after k z.depth }
 
   pub more_within : n ≤ MAX_TEXT → z.rows < MAX_ROWS → z.bytes + n + 3 ≤ MAX_BYTES → (k ≡ OPEN → z.depth < MAX_DEPTH)
-      → row_more (Within z) k n ≡ Within larger
+      → row_more (Some z) k n ≡ Some larger
   more_within text rows bytes deep =
       passed_over (ltb MAX_TEXT n || leb MAX_ROWS z.rows) _ _
       (or_last (ltb MAX_TEXT n) _ (le-ltb MAX_TEXT n text) ∙ lt-leb MAX_ROWS z.rows rows)
@@ -187,17 +190,17 @@ shallow-more d r rs h = go (eqb r.kind OPEN) (eqb r.kind CLOSE) (λ e. lt-ltb d 
     go false false q = refl
 
 -- a row behind a list of this size
-data Step (z : Size) (r : Row) : Measured → Type 0 where
-  past : ((rs : List Row) → fits z (r ∷ rs) ≡ false) → Step z r Over
+data Step (z : Size) (r : Row) : Option Size → Type 0 where
+  past : ((rs : List Row) → fits z (r ∷ rs) ≡ false) → Step z r None
   on : {y : Size} → ((rs : List Row) → fits z (r ∷ rs) ≡ fits y rs)
       → ((rs : List Row) → z.bytes + length (written false (r ∷ rs)) ≡ y.bytes + length (written false rs))
-      → y.rows ≤ MAX_ROWS → y.bytes ≤ MAX_BYTES → Step z r (Within y)
+      → y.rows ≤ MAX_ROWS → y.bytes ≤ MAX_BYTES → Step z r (Some y)
 
 module _ (z : Size) (r : Row) where
-  abbrev more : Measured
-  more = row_more (Within z) r.kind (length r.text)
+  abbrev more : Option Size
+  more = row_more (Some z) r.kind (length r.text)
 
-  over_step : more ≡ Over → ((rs : List Row) → fits z (r ∷ rs) ≡ false) → Step z r more
+  over_step : more ≡ None → ((rs : List Row) → fits z (r ∷ rs) ≡ false) → Step z r more
   over_step e h = subst⁻¹ (Step z r) e (past h)
 
   within_step : length r.text ≤ MAX_TEXT → z.rows < MAX_ROWS → z.bytes + length r.text + 3 ≤ MAX_BYTES
@@ -245,22 +248,22 @@ module _ (z : Size) (r : Row) where
           (λ rs. too_large z (r ∷ rs) (omega (arith, row_length r rs)))
 
 -- what the measure says of rows behind a list of this size
-data Judged (z : Size) (rs : List Row) : Measured → Type 0 where
-  past : fits z rs ≡ false → Judged z rs Over
-  kept : {y : Size} → fits z rs ≡ true → y.bytes ≡ z.bytes + length (written false rs) → Judged z rs (Within y)
+data Judged (z : Size) (rs : List Row) : Option Size → Type 0 where
+  past : fits z rs ≡ false → Judged z rs None
+  kept : {y : Size} → fits z rs ≡ true → y.bytes ≡ z.bytes + length (written false rs) → Judged z rs (Some y)
 
-judged-step : {z : Size} {r : Row} {m : Measured} (rs : List Row) → Step z r m
-    → ((y : Size) → y.rows ≤ MAX_ROWS → y.bytes ≤ MAX_BYTES → Judged y rs (rows_more_lem (Within y) rs))
+judged-step : {z : Size} {r : Row} {m : Option Size} (rs : List Row) → Step z r m
+    → ((y : Size) → y.rows ≤ MAX_ROWS → y.bytes ≤ MAX_BYTES → Judged y rs (rows_more_lem (Some y) rs))
     → Judged z (r ∷ rs) (rows_more_lem m rs)
 judged-step {z} {r} rs (past h) go = subst⁻¹ (Judged z (r ∷ rs)) (over_stays rs) (past (h rs))
 judged-step {z} {r} rs (on {y} same sum rows bytes) go = behind (go y rows bytes)
   where
-    behind : {m : Measured} → Judged y rs m → Judged z (r ∷ rs) m
+    behind : {m : Option Size} → Judged y rs m → Judged z (r ∷ rs) m
     behind (past h) = past (same rs ∙ h)
     behind (kept h e) = kept (same rs ∙ h) (e ∙ sym (sum rs))
 
 judged : (z : Size) (rs : List Row) → z.rows ≤ MAX_ROWS → z.bytes ≤ MAX_BYTES
-    → Judged z rs (rows_more_lem (Within z) rs)
+    → Judged z rs (rows_more_lem (Some z) rs)
 judged z [] rows bytes =
     let size = le-leb (z.bytes + 0) MAX_BYTES (omega arith) in
     let count = le-leb (z.rows + 0) MAX_ROWS (omega arith) in
@@ -283,24 +286,24 @@ module _ (rs : List Row) where
   whole : Judged NONE rs (rows_more_lem NO_ROWS rs)
   whole = judged NONE rs (omega arith) (omega arith)
 
-  pub past_limits : Over ≡ rows_more_lem NO_ROWS rs → within_limits rs ≡ false
+  pub past_limits : None ≡ rows_more_lem NO_ROWS rs → within_limits rs ≡ false
   past_limits e = go (subst⁻¹ (Judged NONE rs) e whole)
     where
-      go : Judged NONE rs Over → within_limits rs ≡ false
+      go : Judged NONE rs None → within_limits rs ≡ false
       go (past h) = limits ∙ h
 
-  pub keeps_limits : {z : Size} → Within z ≡ rows_more_lem NO_ROWS rs
+  pub keeps_limits : {z : Size} → Some z ≡ rows_more_lem NO_ROWS rs
       → (within_limits rs ≡ true) × (z.bytes ≡ length (list_of false rs))
   keeps_limits {z} e = go (subst⁻¹ (Judged NONE rs) e whole)
     where
-      go : Judged NONE rs (Within z)
+      go : Judged NONE rs (Some z)
           → (within_limits rs ≡ true) × (z.bytes ≡ length (list_of false rs))
       go (kept h b) = (limits ∙ h, b ∙ sym (length-append (names false) (written false rs)))
 
 -- ## The size of a list
 
 -- as many rows more as are measured
-rows_counted : (z : Size) (rs : List Row) {y : Size} → Within y ≡ rows_more_lem (Within z) rs
+rows_counted : (z : Size) (rs : List Row) {y : Size} → Some y ≡ rows_more_lem (Some z) rs
     → y.rows ≡ z.rows + length rs
 rows_counted z [] {y} e = let same : y ≡ z = cc in omega (arith, ap (λ (x : Size). x.rows) same)
 rows_counted z (r ∷ rs) {y} e =
@@ -310,13 +313,13 @@ rows_counted z (r ∷ rs) {y} e =
     x : Size
     x = larger z r.kind (length r.text)
 
-    never : Within y ≡ rows_more_lem Over rs → y.rows ≡ z.rows + length (r ∷ rs)
+    never : Some y ≡ rows_more_lem None rs → y.rows ≡ z.rows + length (r ∷ rs)
     never f =
-        let over : Within y ≡ Over = f ∙ over_stays rs in
+        let over : Some y ≡ None = f ∙ over_stays rs in
         let one : ◌≡◌ {A = ℕ} 0 1 = cc in absurd (omega arith)
 
-    go : (a b c : Bool) → (Within y ≡ rows_more_lem (Within x) rs → y.rows ≡ x.rows + length rs)
-        → Within y ≡ rows_more_lem (cond a Over (cond b Over (cond c Over (Within x)))) rs
+    go : (a b c : Bool) → (Some y ≡ rows_more_lem (Some x) rs → y.rows ≡ x.rows + length rs)
+        → Some y ≡ rows_more_lem (cond a None (cond b None (cond c None (Some x)))) rs
         → y.rows ≡ z.rows + length (r ∷ rs)
     go true b c h f = never f
     go false true c h f = never f
@@ -336,7 +339,7 @@ few_bytes rs e =
     let sizes = (and_parts (leb (length (list_of false rs)) MAX_BYTES && leb (length rs) MAX_ROWS) _ e).0 in
     leb-true _ _ (and_parts (leb (length (list_of false rs)) MAX_BYTES) _ sizes).0
 
-pub sized : (rs : List Row) {z : Size} → Within z ≡ rows_more_lem NO_ROWS rs → Sized rs z
+pub sized : (rs : List Row) {z : Size} → Some z ≡ rows_more_lem NO_ROWS rs → Sized rs z
 sized rs {z} e =
     let known = keeps_limits rs e in
     record {

@@ -1,16 +1,16 @@
 -- Numbers, from an offset on.
 use mathlib.Core.Path.{◌≡◌, refl, ap, ◌∙◌, sym}
 use mathlib.Core.Bool.{Bool, true, false, cond, not, ◌&&◌, ◌||◌, false≢true}
-use mathlib.Core.List.{List}
+use mathlib.Core.List.{List, [], ◌∷◌}
 use Prim.Native.Nat.{ℕ, ◌+◌, ◌-◌, ◌≤◌, ◌<◌}
 use native.Mathlib.Omega.{arith}
 use borrow.Author.Tests.{eq-eqb, ne_eqb, eqb-true, lt-ltb, leb-true, leb-false}
 use lib.Dec.{eqb, leb}
 use lib.ListN.{length, get_or, take, drop}
-use lib.Seq.{slice}
 use Rattle.token_list.specs.Byte.{DOT, ZERO, UNDERSCORE}
-use Rattle.token_list.specs.Text.{digit, name_start, digit_worth}
-use Rattle.token_list.proofs.Texts.{drop_of_take, slice-none, chosen, passed_over, and_both, and_parts, and_fails}
+use Rattle.std.specs.List.{list_any}
+use Rattle.token_list.specs.Text.{all, digit, name_start, digit_worth}
+use Rattle.token_list.proofs.Texts.{chosen, passed_over, and_both, and_parts, and_fails}
 use Rattle.token_list.proofs.Digits.{digit-worth}
 use Rattle.source.specs.Bytes.{in_digits}
 use Rattle.source.specs.Taken.{Taken, takes, fault, after, run}
@@ -31,19 +31,30 @@ dotted-stands s i h =
     let dot = eqb-true (get_or s i 0) DOT (and_parts (eqb (get_or s i 0) DOT) _ (sym (dotted_at s i) ∙ h)).0 in
     stands s i (λ e. omega (arith, e, dot))
 
-pub reserved_at : (s : List ℕ) (i : ℕ)
-    → reserved (drop i s) ≡ ((digit (get_or s i 0) || exponent_start (get_or s i 0)) || dotted (drop i s))
-unfolding reserved
-reserved_at s i = rw (byte-first s i)
-
 -- no digit stands in nothing
-pub any_forth : (s : List ℕ) (i e : ℕ) → any_digit (slice i e s) ≡ true → i < e
+pub any_forth : (s : List ℕ) (i e : ℕ) → any_digit (take (e - i) (drop i s)) ≡ true → i < e
 unfolding any_digit
 any_forth s i e h = go (leb e i) refl
   where
     go : (b : Bool) → leb e i ≡ b → i < e
-    go true q = absurd (false≢true (sym (ap any_digit (slice-none s i e (leb-true e i q))) ∙ h))
+    go true q =
+        let n : e - i ≡ 0 = omega (arith, leb-true e i q) in
+        absurd (false≢true (sym (ap (λ (k : ℕ). any_digit (take k (drop i s))) n) ∙ h))
     go false q = leb-false e i q
+
+-- a digit is what is no `_`
+pub any_other : (t : List ℕ) → list_any (λ b. not (eqb b UNDERSCORE)) t ≡ any_digit t
+unfolding any_digit
+any_other [] = refl
+any_other (b ∷ t) = go (eqb b UNDERSCORE) (any_other t)
+  where
+    some : Bool
+    some = list_any (λ b. not (eqb b UNDERSCORE)) t
+
+    go : (c : Bool) → some ≡ not (all (λ b. eqb b UNDERSCORE) t)
+        → (not c || some) ≡ not (c && all (λ b. eqb b UNDERSCORE) t)
+    go true e = e
+    go false e = refl
 
 -- ## A run of digits from i to e
 
@@ -51,30 +62,24 @@ module _ {p : ℕ → Bool} {s : List ℕ} {i e : ℕ} (h : RunEnd p s i e) wher
   length_of : run p (drop i s) ≡ e - i
   length_of = omega (arith, h.told)
 
-  text_of : take (run p (drop i s)) (drop i s) ≡ slice i e s
-  text_of = ap (λ (n : ℕ). take n (drop i s)) length_of ∙ sym (drop_of_take i e s)
+  text_of : take (run p (drop i s)) (drop i s) ≡ take (e - i) (drop i s)
+  text_of = ap (λ (n : ℕ). take n (drop i s)) length_of
 
   behind : drop (run p (drop i s)) (drop i s) ≡ drop e s
   behind = drop_behind s i (run p (drop i s)) ∙ ap (λ (n : ℕ). drop n s) (sym h.told)
 
   pub digits_at : digits_of (run p (drop i s)) (drop i s)
-      ≡ cond (any_digit (slice i e s) && not (reserved (drop e s))) (takes (e - i)) fault
+      ≡ cond (any_digit (take (e - i) (drop i s)) && not (reserved (drop e s))) (takes (e - i)) fault
   digits_at =
       (λ j. cond (any_digit (text_of j) && not (reserved (behind j))) (takes (length_of j)) fault)
 
-  pub exponent-digits : exponent_of (run p (drop i s)) (drop i s) ≡ cond (any_digit (slice i e s)) (takes (e - i)) fault
+  pub exponent-digits : exponent_of (run p (drop i s)) (drop i s)
+      ≡ cond (any_digit (take (e - i) (drop i s))) (takes (e - i)) fault
   exponent-digits = (λ j. cond (any_digit (text_of j)) (takes (length_of j)) fault)
 
 -- ## The fraction
 
 module _ {s : List ℕ} {i e : ℕ} (h : RunEnd (in_digits 10) s i e) (within : i ≤ length s) where
-  pub fraction-none : dotted (drop e s) ≡ false → FractionEnd s i e
-  fraction-none q =
-      record {
-        told = h.told ∙ ap (λ (n : ℕ). i + n) (sym (passed_over _ _ _ (ap dotted (behind h) ∙ q)));
-        within = h.within within;
-      }
-
   pub fraction_some : {r : ℕ} → dotted (drop e s) ≡ true → RunEnd (in_digits 10) s (e + 1) r → FractionEnd s i r
   fraction_some {r} q k =
       let n = run (in_digits 10) (drop i s) in

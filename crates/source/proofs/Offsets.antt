@@ -10,8 +10,7 @@ use lib.ListN.{length, get_or, drop, get_or-eq_default}
 use lib.Seq.{get_or-drop, drop-drop}
 use Rattle.source.specs.Taken.{Taken, takes, fault, after}
 use Rattle.source.specs.Contract.{EndsTo, EndsAs, ends, none}
-use Rattle.source.specs.declared.bytes.Ends.{Ends}
-use Rattle.source.specs.declared.bytes.Ends.TheVariants.{To, Fault}
+use Rattle.std.specs.Prelude.{Option, Some, None}
 
 pub and_fails_last : (a : Bool) {b : Bool} → b ≡ false → (a && b) ≡ false
 and_fails_last true e = e
@@ -40,11 +39,11 @@ module _ (s : List ℕ) (i : ℕ) where
 -- ## What is taken
 
 module _ {s : List ℕ} {i : ℕ} where
-  pub ends_as : {t u : Taken} {r : Ends} → t ≡ u → EndsAs s i u r → EndsAs s i t r
+  pub ends_as : {t u : Taken} {r : Option ℕ} → t ≡ u → EndsAs s i u r → EndsAs s i t r
   ends_as {r = r} e h = subst (λ (t : Taken). EndsAs s i t r) (sym e) h
 
   -- from k bytes on another production stands
-  pub ends_behind : {t u : Taken} {r : Ends} (k : ℕ) → t ≡ after k u → EndsAs s (i + k) u r → EndsAs s i t r
+  pub ends_behind : {t u : Taken} {r : Option ℕ} (k : ℕ) → t ≡ after k u → EndsAs s (i + k) u r → EndsAs s i t r
   ends_behind k q (ends {e} h) =
       let n : k + (e - (i + k)) ≡ e - i = omega (arith, h.forth) in
       ends (record {
@@ -55,17 +54,17 @@ module _ {s : List ℕ} {i : ℕ} where
   ends_behind k q (none h) = none (q ∙ ap (after k) h)
 
   -- the same, by where the other one begins
-  pub ends_from : {t u : Taken} {r : Ends} (j : ℕ) → i ≤ j → t ≡ after (j - i) u → EndsAs s j u r → EndsAs s i t r
+  pub ends_from : {t u : Taken} {r : Option ℕ} (j : ℕ) → i ≤ j → t ≡ after (j - i) u → EndsAs s j u r → EndsAs s i t r
   ends_from {t} {u} {r} j l q h =
       let place : j ≡ i + (j - i) = omega arith in
       ends_behind (j - i) q (subst (λ (n : ℕ). EndsAs s n u r) place h)
 
   -- where it is known where it ends, or that it does not
-  pub ends_to : {t : Taken} {e : ℕ} → EndsAs s i t (To e) → EndsTo s i t e
+  pub ends_to : {t : Taken} {e : ℕ} → EndsAs s i t (Some e) → EndsTo s i t e
   ends_to (ends h) = h
 
-  pub ends_of : {t : Taken} {e : ℕ} → EndsTo s i t e → EndsAs s i t (To e)
+  pub ends_of : {t : Taken} {e : ℕ} → EndsTo s i t e → EndsAs s i t (Some e)
   ends_of h = ends h
 
-  pub ends_not : {t : Taken} → EndsAs s i t Fault → t ≡ fault
+  pub ends_not : {t : Taken} → EndsAs s i t None → t ≡ fault
   ends_not (none h) = h

@@ -6,8 +6,7 @@ use native.Mathlib.Omega.{arith}
 use lib.ListN.{length}
 use Rattle.source.specs.Taken.{Taken, takes, fault, after}
 use Rattle.source.specs.Contract.{EndsAs, ends}
-use Rattle.source.specs.declared.bytes.Ends.{Ends}
-use Rattle.source.specs.declared.bytes.Ends.TheVariants.{To}
+use Rattle.std.specs.Prelude.{Option, Some}
 use Rattle.source.proofs.Offsets.{ends_from}
 
 pub after_none : (t : Taken) → after 0 t ≡ t
@@ -25,7 +24,7 @@ after_more k u e =
 
 -- it takes k bytes
 pub ends_takes : {s : List ℕ} {i e : ℕ} {t : Taken} (k : ℕ) → t ≡ takes k → e ≡ i + k → 0 < k → e ≤ length s
-    → EndsAs s i t (To e)
+    → EndsAs s i t (Some e)
 ends_takes {i = i} {e = e} k q p h l =
     let n : k ≡ e - i = omega arith in
     ends (record { taken = q ∙ ap takes n; forth = omega arith; within = l })
@@ -50,5 +49,6 @@ module _ {t : Taken} {from : ℕ} where
         same = p.same ∙ ap (after (i - from)) q ∙ after-after (i - from) k w ∙ ap (λ (m : ℕ). after m w) n;
       }
 
-  pub passed_ends : {s : List ℕ} {u : Taken} {i : ℕ} {r : Ends} → EndsAs s i u r → Passed t from i u → EndsAs s from t r
+  pub passed_ends : {s : List ℕ} {u : Taken} {i : ℕ} {r : Option ℕ} → EndsAs s i u r → Passed t from i u
+      → EndsAs s from t r
   passed_ends {i = i} h p = ends_from i p.start p.same h

@@ -6,14 +6,14 @@ use Prim.Native.Nat.{ℕ, ◌+◌, ◌-◌, ◌≤◌, ◌<◌}
 use native.Mathlib.Omega.{arith}
 use borrow.Author.Tests.{eq-eqb, eqb-true}
 use lib.Dec.{eqb}
-use lib.ListN.{length, get_or, take, drop, length-drop}
+use lib.ListN.{length, get_or, take, drop, drop_of_length-le, length-drop}
 use lib.Seq.{slice, length-take-le}
 use Rattle.token_list.specs.Byte.{bytes, QUOTE, HASH, UNDERSCORE}
 use Rattle.token_list.specs.Layout.{IDENT, LITERAL, PUNCT}
 use Rattle.token_list.specs.Text.{member, same, digit, name_start, name_part, never_raw}
 use Rattle.token_list.proofs.Texts.{drop_of_take, drop_next, chosen, passed_over, and_fails, and_parts, or_holds}
 use Rattle.token_list.proofs.Texts.{same_length}
-use Rattle.source.specs.Bytes.{SLASH, STAR, BANG, DOUBLE_QUOTE, blank, in_line, in_doc}
+use Rattle.source.specs.Bytes.{SLASH, STAR, BANG, DOUBLE_QUOTE, blank, in_line, in_doc, opens, closes}
 use Rattle.source.specs.Taken as taken
 use Rattle.source.specs.Taken.{Taken, takes, after, run}
 use Rattle.source.specs.Quoted.{character, string}
@@ -26,12 +26,13 @@ use Rattle.source.specs.Piece.{single}
 use Rattle.source.specs.Piece.{piece}
 use Rattle.source.specs.Contract.{RunEnd, EndsTo, SuffixEnd, PieceAs}
 use Rattle.source.specs.Contract.{gap as gap-as, row as Row-as}
+use Rattle.std.specs.Prelude.{Option, Some}
 use Rattle.source.specs.declared.piece.Piece as code
 use Rattle.source.specs.declared.piece.Piece.TheVariants as pieces
 use Rattle.source.proofs.Runs.{run_on}
 use Rattle.source.proofs.Offsets.{stands, byte-first, byte_behind, drop_behind}
 
-pub piece_as : {s : List ℕ} {i : ℕ} {t u : Piece} {r : code.Piece} → t ≡ u → PieceAs s i u r → PieceAs s i t r
+pub piece_as : {s : List ℕ} {i : ℕ} {t u : Piece} {r : Option code.Piece} → t ≡ u → PieceAs s i u r → PieceAs s i t r
 piece_as {s} {i} {t} {u} {r} e h = subst (λ (p : Piece). PieceAs s i p r) (sym e) h
 
 pub one_byte : {k : ℕ} (i : ℕ) → row k 1 ≡ row k (i + 1 - i)
@@ -71,7 +72,7 @@ suffix-none s i q =
 -- ## Literals
 
 pub literal_to : {s : List ℕ} {i e r : ℕ} {t : Taken} → EndsTo s i t e → SuffixEnd s e r
-    → PieceAs s i (literal (drop i s) t) (pieces.Row LITERAL r)
+    → PieceAs s i (literal (drop i s) t) (Some (pieces.Row LITERAL r))
 literal_to {s} {i} {e} {r} h f =
     let place : i + (e - i) ≡ e = omega (arith, h.forth) in
     let rest = drop_behind s i (e - i) ∙ ap (λ (n : ℕ). drop n s) place in
@@ -142,21 +143,35 @@ module _ (s : List ℕ) (i : ℕ) where
       λ t one. same_length (take n (drop i s)) t (λ e. h (sym long ∙ e ∙ one)) in
       passed_over _ _ _ (other (bytes "b") refl) ∙ passed_over _ _ _ (and_fails _ _ (other (bytes "r") refl))
 
-  module _ (here : i < length s) where
-    pub prefix_at : prefixed 1 (drop i s)
+  -- with the byte directly behind, at e
+  module _ (e : ℕ) (here : i < length s) (one_long : e - i ≡ 1) where
+    pub prefix_at : prefixed (e - i) (drop i s)
         ≡ cond (eqb (get_or s i 0) 98 && true)
-        (cond (eqb (get_or s (i + 1) 0) DOUBLE_QUOTE) (literal (drop i s) (after 2 (string true 0 (drop (i + 2) s))))
-        (cond (eqb (get_or s (i + 1) 0) QUOTE) (literal (drop i s) (after 2 (character true (drop (i + 2) s)))) fault))
-        (cond ((eqb (get_or s i 0) 114 && true) && eqb (get_or s (i + 1) 0) HASH) raw_at_lem fault)
+        (cond (eqb (get_or s e 0) DOUBLE_QUOTE) (literal (drop i s) (after 2 (string true 0 (drop (i + 2) s))))
+        (cond (eqb (get_or s e 0) QUOTE) (literal (drop i s) (after 2 (character true (drop (i + 2) s)))) fault))
+        (cond ((eqb (get_or s i 0) 114 && true) && eqb (get_or s e 0) HASH) raw_at_lem fault)
     unfolding prefixed
     prefix_at =
         let one : take 1 (drop i s) ≡ get_or s i 0 ∷ [] = ap (take 1) (drop_next s i here) in
-        let b = byte_behind s i 1 in
+        let place : i + 1 ≡ e = omega arith in
+        let b = byte_behind s i 1 ∙ ap (λ (n : ℕ). get_or s n 0) place in
         let rest = drop_behind s i 2 in
-        (λ j. cond (same (one j) (bytes "b"))
+        ap (λ (n : ℕ). prefixed n (drop i s)) one_long
+        ∙ (λ j. cond (same (one j) (bytes "b"))
         (cond (eqb (b j) DOUBLE_QUOTE) (literal (drop i s) (after 2 (string true 0 (rest j))))
         (cond (eqb (b j) QUOTE) (literal (drop i s) (after 2 (character true (rest j)))) fault))
         (cond (same (one j) (bytes "r") && eqb (b j) HASH) raw_at_lem fault))
+
+    pub prefix_string : get_or s i 0 ≡ 98 → get_or s e 0 ≡ DOUBLE_QUOTE
+        → prefixed (e - i) (drop i s) ≡ literal (drop i s) (after 2 (string true 0 (drop (i + 2) s)))
+    prefix_string p q = prefix_at ∙ simp (p, q)
+
+    pub prefix_character : get_or s i 0 ≡ 98 → get_or s e 0 ≡ QUOTE
+        → prefixed (e - i) (drop i s) ≡ literal (drop i s) (after 2 (character true (drop (i + 2) s)))
+    prefix_character p q = prefix_at ∙ simp (p, q)
+
+    pub prefix_raw : get_or s i 0 ≡ 114 → get_or s e 0 ≡ HASH → prefixed (e - i) (drop i s) ≡ raw_at_lem
+    prefix_raw p q = prefix_at ∙ simp (p, q)
 
   pub name-stands : name_start (get_or s i 0) ≡ true → i < length s
   name-stands h = stands s i (λ z. false≢true (sym (ap name_start z) ∙ h))
@@ -218,9 +233,24 @@ module _ (s : List ℕ) (i : ℕ) where
   unfolding piece
   piece_at = rw (byte-first s i, drop_behind s i 1)
 
+module _ (s : List ℕ) (i : ℕ) (blanks : blank (get_or s i 0) ≡ false) (names : name_start (get_or s i 0) ≡ false) where
+  pub by_digit : digit (get_or s i 0) ≡ true → piece (drop i s) ≡ literal (drop i s) (number (drop i s))
+  by_digit d = piece_at s i ∙ passed_over _ _ _ blanks ∙ passed_over _ _ _ names ∙ chosen _ _ _ d
+
+  pub by_mark : digit (get_or s i 0) ≡ false → piece (drop i s)
+      ≡ cond (eqb (get_or s i 0) DOUBLE_QUOTE) (literal (drop i s) (after 1 (string false 0 (drop (i + 1) s))))
+      (cond (eqb (get_or s i 0) QUOTE) (quote (drop i s))
+      (cond (eqb (get_or s i 0) SLASH) (slash (drop i s)) (single (get_or s i 0))))
+  by_mark d = piece_at s i ∙ passed_over _ _ _ blanks ∙ passed_over _ _ _ names ∙ passed_over _ _ _ d
+
+-- at the end nothing stands
+pub piece_none : (s : List ℕ) (i : ℕ) → length s ≤ i → piece (drop i s) ≡ fault
+unfolding piece blank single opens closes
+piece_none s i h = ap piece (drop_of_length-le s {i = i} h)
+
 -- whitespace up to r
 pub gap_at : {s : List ℕ} {i r : ℕ} → i < length s → blank (get_or s i 0) ≡ true → RunEnd blank s i r
-    → PieceAs s i (piece (drop i s)) (pieces.Gap r)
+    → PieceAs s i (piece (drop i s)) (Some (pieces.Gap r))
 gap_at {s} {i} {r} here q h =
     let n : run blank (drop i s) ≡ r - i = omega (arith, h.told) in
     gap-as (record {

@@ -1,12 +1,12 @@
 -- Laws on what stands in quotes, from an offset on.
 use mathlib.Core.Path.{◌≡◌, refl, ap, ◌∙◌, sym}
-use mathlib.Core.Bool.{Bool, true, false, not, cond, ◌&&◌}
+use mathlib.Core.Bool.{Bool, not, cond, ◌&&◌}
 use mathlib.Core.List.{List, [], ◌∷◌}
 use Prim.Native.Nat.{ℕ, zero, suc, ◌+◌, ◌-◌, ◌*◌, ◌^◌, ◌≤◌, ◌<◌}
 use native.Mathlib.Nat.{pow-suc, pow-le-pow_right}
 use native.Mathlib.Numerals.{add-one}
 use native.Mathlib.Omega.{arith}
-use borrow.Author.Tests.{not-true, not-false, eq-eqb, ne_eqb, lt-ltb, le-ltb}
+use borrow.Author.Tests.{eq-eqb, ne_eqb, lt-ltb, le-ltb}
 use lib.Dec.{ltb, eqb}
 use lib.ListN.{length, get_or, drop}
 use Rattle.token_list.specs.Byte.{code, bytes, UNDERSCORE, QUOTE}
@@ -31,17 +31,7 @@ digit_there s i h = stands s i (λ e. omega (arith, ap digit_worth e, before-dig
 abbrev pub limit : Bool → ℕ
 limit byte = cond byte 16 8
 
-pub limit_most : (byte : Bool) → limit byte ≤ 16
-limit_most true = omega arith
-limit_most false = omega arith
-
 module _ (byte : Bool) where
-  pub limit_text : not byte ≡ true → limit byte ≡ 8
-  limit_text e = ap limit (not-true byte e)
-
-  pub limit_byte : not byte ≡ false → limit byte ≡ 16
-  limit_byte e = ap limit (not-false byte e)
-
   -- digits worth a and b
   pub hex_at : {a b : ℕ} (s : List ℕ) (i : ℕ) → a ≡ digit_worth (get_or s i 0) → b ≡ digit_worth (get_or s (i + 1) 0)
       → hex_escape byte (drop i s) ≡ cond (ltb a (limit byte) && ltb b 16) (takes 2) fault
@@ -98,10 +88,6 @@ module _ (byte : Bool) (s : List ℕ) (i : ℕ) where
       (cond (eqb b (code "u") && not byte) (after 1 (unicode_escape (drop (i + 1) s))) fault))
   unfolding escape
   escape_at e = rw (e, byte-first s i, drop_behind s i 1)
-
-  pub escape-other : {b : ℕ} → b ≡ get_or s i 0 → member b (bytes "nrt\\0'\"") ≡ false → (b ≡ code "x" → ⊥)
-      → escape byte (drop i s) ≡ cond (eqb b (code "u") && not byte) (after 1 (unicode_escape (drop (i + 1) s))) fault
-  escape-other e q x = escape_at e ∙ passed_over _ _ _ q ∙ passed_over _ _ _ (ne_eqb _ _ x)
 
   pub unit_at : {b : ℕ} (quote : ℕ) → b ≡ get_or s i 0 → unit byte quote (drop i s)
       ≡ cond (eqb b BACKSLASH) (after 1 (escape byte (drop (i + 1) s)))

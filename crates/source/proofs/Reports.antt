@@ -1,5 +1,5 @@
 -- What is printed of a source text.
-use mathlib.Core.Path.{◌≡◌, refl, ap, ◌∙◌, sym}
+use mathlib.Core.Path.{◌≡◌, refl, ap, sym}
 use mathlib.Core.Bool.{Bool, true, false, cond, ◌&&◌}
 use mathlib.Core.List.{List, [], ◌∷◌}
 use Prim.Native.Nat.{ℕ, ◌+◌, ◌^◌, ◌≤◌, ◌<◌}
@@ -13,44 +13,18 @@ use Rattle.token_list.specs.Layout.{MAX_BYTES, MAX_ROWS}
 use Rattle.token_list.specs.Row.{Row}
 use Rattle.token_list.specs.Rows.{list_of}
 use Rattle.token_list.specs.Check.{END}
-use Rattle.token_list.specs.declared.check.Refusal.{Refusal}
 use Rattle.token_list.proofs.Texts.{and_parts}
-use Rattle.output.specs.Text.{refusal_text}
-use Rattle.output.specs.Contract.{Printed}
 use Rattle.output.proofs.Texts.{decimal-within}
 use Rattle.source.specs.Brackets.{Matched, sound, faulty, brackets}
 use Rattle.source.specs.Lex.{lex}
-use Rattle.source.specs.Answer.{Answer, wrote, fault_at, refused, rows_of, within_limits, fitted}
-use Rattle.source.specs.Answer.{matched_answer, answer, output}
+use Rattle.source.specs.Answer.{wrote, refused, rows_of, within_limits, fitted}
+use Rattle.source.specs.Answer.{matched_answer, answer}
 use Rattle.source.specs.Place.{line_after, column_after, line_of, column_of}
 use Rattle.source.specs.Tokens.{TokensAs}
-use Rattle.source.specs.Report.{position_text, fault_text, tokens_text, at_most}
-use Rattle.source.specs.declared.tokens.Tokens.{Tokens}
-use Rattle.source.specs.declared.tokens.Tokens.TheVariants as answers
-
--- ## An answer by its variant
-
-module _ (s : List ℕ) {x y : List ℕ} {a : Answer} where
-  pub list_printed : {n : ℕ} → TokensAs x y a (answers.List n) → Printed x y n (tokens_text s a)
-  list_printed {n} l =
-      let q : a ≡ wrote (take n y) = sym l.answer in
-      rw q (record { counted = sym (length-take-le n y l.room); bytes = l.output ∙ ap (output x) q })
-
-  pub fault_printed : {z : List ℕ} {n offset : ℕ} → TokensAs x y a (answers.FaultAt offset)
-      → Printed y z n (fault_text s offset)
-      → Printed x z n (tokens_text s a)
-  fault_printed {z} {n} {offset} l p =
-      let q : a ≡ fault_at offset = sym l.answer in
-      let same : y ≡ x = l.output ∙ ap (output x) q in
-      rw q (rw same at p)
-
-  pub refusal_printed : {z : List ℕ} {n : ℕ} {r : Refusal} → TokensAs x y a (answers.Refused r)
-      → Printed y z n (refusal_text r.number r.place)
-      → Printed x z n (tokens_text s a)
-  refusal_printed {z} {n} {r} l p =
-      let q : a ≡ refused r.number r.place = sym l.answer in
-      let same : y ≡ x = l.output ∙ ap (output x) q in
-      rw q (rw same at p)
+use Rattle.source.specs.Report.{position_text, fault_text, at_most}
+use Rattle.std.specs.Prelude.{Result, Ok, Err}
+use Rattle.source.specs.declared.tokens.SourceError.{SourceError}
+use Rattle.source.specs.declared.tokens.SourceError.TheVariants as errors
 
 -- ## Lengths
 
@@ -116,10 +90,10 @@ answer_few n s t e = go (brackets [] (lex s)) e
     go sound q = limit (within_limits rs) refl q
     go (faulty offset) q = let z : ◌≡◌ {A = ℕ} 0 1 = cc in absurd (omega arith)
 
-pub report_short : (s : List ℕ) {x y : List ℕ} (r : Tokens) → TokensAs x y (answer (length x) s) r
+pub report_short : (s : List ℕ) {x y : List ℕ} (r : Result ℕ SourceError) → TokensAs x y (answer (length x) s) r
     → at_most r ≤ MAX_BYTES
-report_short s {x} {y} (answers.List n) h =
+report_short s {x} {y} (Ok n) h =
     let text = answer_few (length x) s (take n y) (sym h.answer) in
     omega (arith, text, length-take-le n y h.room)
-report_short s (answers.FaultAt offset) h = omega arith
-report_short s (answers.Refused r) h = omega arith
+report_short s (Err (errors.FaultAt offset)) h = omega arith
+report_short s (Err (errors.Refused r)) h = omega arith

@@ -17,20 +17,21 @@ use Rattle.source.specs.Contract.{RunEnd, PieceAs, piece_end}
 use Rattle.source.specs.Stack.{rest, Reached}
 use Rattle.source.specs.Tokens.{piece_rows, rows_more_lem, NO_ROWS, Listed}
 use Rattle.source.specs.declared.piece.Piece as code
-use Rattle.source.specs.declared.tokens.Measured.{Measured}
+use Rattle.std.specs.Prelude.{Option, Some, None}
+use Rattle.source.specs.declared.tokens.Size.{Size}
 use Rattle.source.proofs.Lexes.{rest_all, rest-blank, piece-within}
 use Rattle.source.proofs.Measures.{rows_none, measured_piece, written-piece}
 use Rattle.source.proofs.Walks.{reached_start, reached_sound, reached_blank}
 
 -- the text was read up to i: `done` was appended to the list, and the rows from i on are what is left of it
-pub record ScannedTo (s cells list₀ list : List ℕ) (at₀ at i depth : ℕ) (m : Measured) (done : List ℕ) : Type 0 where
+pub record ScannedTo (s cells list₀ list : List ℕ) (at₀ at i depth : ℕ) (m : Option Size) (done : List ℕ) : Type 0 where
   pub within : i ≤ length s
   pub reached : Reached s cells i depth
   pub measured : rows_more_lem m (rows_of (rest s i)) ≡ rows_more_lem NO_ROWS (rows_of (lex s))
   pub appended : Appended list₀ list at₀ at done
   pub left : done ++ written false (rows_of (rest s i)) ≡ written false (rows_of (lex s))
 
-abbrev pub Scanning : List ℕ → List ℕ → List ℕ → List ℕ → ℕ → ℕ → ℕ → ℕ → Measured → Type 0
+abbrev pub Scanning : List ℕ → List ℕ → List ℕ → List ℕ → ℕ → ℕ → ℕ → ℕ → Option Size → Type 0
 Scanning s cells list₀ list at₀ at i depth m = (done : List ℕ) × ScannedTo s cells list₀ list at₀ at i depth m done
 
 pub scan_start : (s cells : List ℕ) {list : List ℕ} {at : ℕ} → ((c : ℕ) → get_or cells c 0 ≡ 0)
@@ -46,12 +47,13 @@ scan_start s cells zeros = (
   },
 )
 
-module _ {s cells list₀ list : List ℕ} {at₀ at i depth : ℕ} {m : Measured} where
+module _ {s cells list₀ list : List ℕ} {at₀ at i depth : ℕ} {m : Option Size} where
   -- a piece, and the whitespace up to r behind it
-  pub scan_piece : {cells₁ list₁ : List ℕ} {at₁ r d : ℕ} {n : Measured} {p : code.Piece} → i < length s
-      → PieceAs s i (piece (drop i s)) p → Reached s cells₁ (piece_end s p) d → n ≡ rows_more_lem m (piece_rows s i p)
+  pub scan_piece : {cells₁ list₁ : List ℕ} {at₁ r d : ℕ} {n : Option Size} {p : code.Piece} → i < length s
+      → PieceAs s i (piece (drop i s)) (Some p) → Reached s cells₁ (piece_end p) d
+      → n ≡ rows_more_lem m (piece_rows s i p)
       → Appended list list₁ at at₁ (written false (piece_rows s i p))
-      → RunEnd blank s (piece_end s p) r
+      → RunEnd blank s (piece_end p) r
       → Scanning s cells list₀ list at₀ at i depth m
       → Scanning s cells₁ list₀ list₁ at₀ at₁ r d n
   scan_piece {n = n} here stands turned more put blanks (done, h) =
@@ -70,11 +72,12 @@ module _ {s cells list₀ list : List ℕ} {at₀ at i depth : ℕ} {m : Measure
       )
 
   -- the whole text, where nothing is left open
-  pub scan_whole : {list₋ : List ℕ} → length s ≤ i → depth ≡ 0 → Appended list₋ list₀ 0 at₀ (names false)
+  pub scan_whole : {list₋ : List ℕ} → length s ≤ i → depth ≡ 0 → PieceAs s i (piece (drop i s)) None
+      → Appended list₋ list₀ 0 at₀ (names false)
       → Scanning s cells list₀ list at₀ at i depth m
       → Listed s list m
-  scan_whole all closed first (done, h) =
-      let none = rows_none s i all in
+  scan_whole all closed last first (done, h) =
+      let none = rows_none last in
       let rows = sym (append-nil done) ∙ sym (ap (λ (t : List Row). done ++ written false t) none) ∙ h.left in
       record {
         matched = reached_sound all closed h.reached;

@@ -1,10 +1,10 @@
 -- What each piece is to brackets, and the groups that are open at an offset.
-use mathlib.Core.Path.{◌≡◌, refl, ap, ◌∙◌, sym, subst}
+use mathlib.Core.Path.{◌≡◌, refl, ap, ◌∙◌, sym, subst, subst⁻¹}
 use mathlib.Core.Bool.{Bool, true, false, cond, not, ◌&&◌, true≢false}
 use mathlib.Core.List.{List, [], ◌∷◌}
 use Prim.Native.Nat.{ℕ, zero, suc, ◌+◌, ◌-◌, ◌≤◌, ◌<◌}
 use native.Mathlib.Omega.{arith}
-use borrow.Author.Tests.{lt-ltb, le-ltb, ltb-false, eqb-true}
+use borrow.Author.Tests.{lt-ltb, le-ltb, ltb-false, ne_eqb}
 use lib.Dec.{ltb, eqb}
 use lib.ListN.{length, get_or, drop, take}
 use lib.Seq.{slice}
@@ -22,18 +22,16 @@ use Rattle.source.specs.Comment.{block_comment, outer_line, doc_line}
 use Rattle.source.specs.Piece.{Piece, gap, row, lifetime, doc, fault, literal, raw_name, prefixed, word}
 use Rattle.source.specs.Piece.{lifetime_of}
 use Rattle.source.specs.Piece.{quoted_or, quote, gap_of, doc_of_lem, line_comment, slash, single, piece}
-use Rattle.source.specs.Lex.{token, stops, row_at, found, lex_from}
+use Rattle.source.specs.Lex.{token, row_at, found, lex_from}
 use Rattle.source.specs.Brackets.{Open, Matched, faulty, brackets, close}
-use Rattle.source.specs.Contract.{PieceTo, PieceAs}
+use Rattle.source.specs.Contract.{PieceTo, PieceAs, piece_end}
 use Rattle.source.specs.Contract.{gap as gap-as, row as Row-as, lifetime as lifetime-as, doc as doc-as}
-use Rattle.source.specs.Contract.{none as none-as}
+use Rattle.std.specs.Prelude.{Some}
 use Rattle.source.specs.declared.piece.Piece as code
-use Rattle.source.specs.declared.brackets.Step.TheVariants as steps
-use Rattle.source.specs.Stack.{rest, stack_to, Passing, Opening, close_at, Closing, Within}
-use Rattle.source.specs.Stack.{StepAs, passing, opening, closing, row_step_lem, step_of}
-use Rattle.source.specs.Stack.{fault as fault-step}
+use Rattle.source.specs.declared.piece.Piece.TheVariants as pieces
+use Rattle.source.specs.Stack.{rest, stack_to, Passing, Opening, close_at, Closing, Within, IsNot, StepAs}
 use Rattle.source.proofs.Offsets.{byte-first}
-use Rattle.source.proofs.Lexes.{rest-piece}
+use Rattle.source.proofs.Lexes.{rest-piece, piece_forth, piece-within}
 
 -- ## A row that opens a group begins with an opening delimiter
 
@@ -191,30 +189,6 @@ module _ {s : List ℕ} {i e : ℕ} (w : Within s i e) where
       }
 
 module _ (s : List ℕ) (i : ℕ) (here : i < length s) where
-  row_step : {k e : ℕ} → PieceTo s i (piece (drop i s)) (row k (e - i)) e → StepAs s i (row_step_lem k e)
-  row_step {k} {e} h = go (eqb k OPEN) (eqb k CLOSE) refl refl
-    where
-      w : Within s i e
-      w = record { forth = h.forth; within = h.within }
-
-      stands : rest s i ≡ token (row_at k i (slice i e s)) (rest s e)
-      stands = rest-piece s i here (Row-as h)
-
-      of-kind : (j : ℕ) → k ≡ j → rest s i ≡ token (row_at j i (slice i e s)) (rest s e)
-      of-kind j q = subst (λ (n : ℕ). rest s i ≡ token (row_at n i (slice i e s)) (rest s e)) q stands
-
-      delimiter : k ≡ OPEN → opens (get_or s i 0) ≡ true
-      delimiter q =
-          ap opens (sym (byte-first s i))
-          ∙ open_delimiter (drop i s) (e - i) (h.told ∙ ap (λ (n : ℕ). row n (e - i)) q)
-
-      go : (a b : Bool) → eqb k OPEN ≡ a → eqb k CLOSE ≡ b
-          → StepAs s i (cond a (steps.Opens e) (cond b (steps.Closes e) (steps.Passes e)))
-      go true b p q =
-          let o = eqb-true k OPEN p in opening w (opening-row w (of-kind OPEN o) (delimiter o))
-      go false true p q = closing w (closing-row w (of-kind CLOSE (eqb-true k CLOSE q)))
-      go false false p q = passing w (passing_row w stands p q)
-
   lifetime_step : {e : ℕ} → PieceTo s i (piece (drop i s)) (lifetime (e - i)) e → Passing s i e
   lifetime_step {e} h =
       let q = rest-piece s i here (lifetime-as h) in
@@ -236,27 +210,49 @@ module _ (s : List ℕ) (i : ℕ) (here : i < length s) where
         stack = λ u os l. ap (stack_to u os) q ∙ simp (lt-ltb i u l);
       }
 
-  pub step-piece : {p : code.Piece} → PieceAs s i (piece (drop i s)) p → StepAs s i (step_of p)
-  step-piece (gap-as h) =
+  opens_row : {e : ℕ} → PieceAs s i (piece (drop i s)) (Some (pieces.Row OPEN e)) → Opening s i e
+  opens_row {e} (Row-as h) =
+      let delimiter = ap opens (sym (byte-first s i)) ∙ open_delimiter (drop i s) (e - i) h.told in
+      opening-row (record { forth = h.forth; within = h.within }) (rest-piece s i here (Row-as h)) delimiter
+
+  closes_row : {e : ℕ} → PieceAs s i (piece (drop i s)) (Some (pieces.Row CLOSE e)) → Closing s i e
+  closes_row (Row-as h) =
+      closing-row (record { forth = h.forth; within = h.within }) (rest-piece s i here (Row-as h))
+
+  pub piece_opens : {p : code.Piece} (e : ℕ) → p ≡ pieces.Row OPEN e → PieceAs s i (piece (drop i s)) (Some p)
+      → Opening s i (piece_end p)
+  piece_opens e q h =
+      subst⁻¹ (λ p. Opening s i (piece_end p)) q
+      (opens_row (subst (λ p. PieceAs s i (piece (drop i s)) (Some p)) q h))
+
+  pub piece_closes : {p : code.Piece} (e : ℕ) → p ≡ pieces.Row CLOSE e → PieceAs s i (piece (drop i s)) (Some p)
+      → Closing s i (piece_end p)
+  piece_closes e q h =
+      subst⁻¹ (λ p. Closing s i (piece_end p)) q
+      (closes_row (subst (λ p. PieceAs s i (piece (drop i s)) (Some p)) q h))
+
+  pub piece_passes : {p : code.Piece} → PieceAs s i (piece (drop i s)) (Some p) → IsNot OPEN p → IsNot CLOSE p
+      → Passing s i (piece_end p)
+  piece_passes (gap-as h) a b =
       let q = rest-piece s i here (gap-as h) in
-      passing (record { forth = h.forth; within = h.within })
-      (record { brackets = λ os. ap (brackets os) q; stack = λ u os l. ap (stack_to u os) q })
-  step-piece (Row-as h) = row_step h
-  step-piece (lifetime-as h) = passing (record { forth = h.forth; within = h.within }) (lifetime_step h)
-  step-piece (doc-as h m) = passing (record { forth = h.forth; within = h.within }) (doc_step h m)
-  step-piece (none-as h) = fault-step (rest-piece s i here (none-as h))
+      record { brackets = λ os. ap (brackets os) q; stack = λ u os l. ap (stack_to u os) q }
+  piece_passes (Row-as {k} {e} h) a b =
+      let row : ℕ → code.Piece = λ j. pieces.Row j e in
+      passing_row (record { forth = h.forth; within = h.within }) (rest-piece s i here (Row-as h))
+      (ne_eqb k OPEN (λ q. a e (ap row q))) (ne_eqb k CLOSE (λ q. b e (ap row q)))
+  piece_passes (lifetime-as h) a b = lifetime_step h
+  piece_passes (doc-as h m) a b = doc_step h m
 
--- ## What is known of a step by its variant
+pub piece_stands : {s : List ℕ} {i : ℕ} {t : Piece} {p : code.Piece} → PieceAs s i t (Some p) → Within s i (piece_end p)
+piece_stands h = record { forth = piece_forth h; within = piece-within h }
 
-module _ {s : List ℕ} {i : ℕ} where
-  pub passing_known : {e : ℕ} → StepAs s i (steps.Passes e) → Within s i e × Passing s i e
-  passing_known (passing w p) = (w, p)
-
-  pub opening_known : {e : ℕ} → StepAs s i (steps.Opens e) → Within s i e × Opening s i e
-  opening_known (opening w p) = (w, p)
-
-  pub closing_known : {e : ℕ} → StepAs s i (steps.Closes e) → Within s i e × Closing s i e
-  closing_known (closing w p) = (w, p)
-
-  pub fault_known : StepAs s i steps.Fault → rest s i ≡ stops i
-  fault_known (fault-step h) = h
+-- what stands at i, as brackets see it
+pub piece_step : (s : List ℕ) (i : ℕ) → i < length s → {p : code.Piece} → PieceAs s i (piece (drop i s)) (Some p)
+    → StepAs s i p
+piece_step s i here h =
+    record {
+      within = piece_stands h;
+      opening = λ e q. piece_opens s i here e q h;
+      closing = λ e q. piece_closes s i here e q h;
+      passing = λ a b. piece_passes s i here h a b;
+    }

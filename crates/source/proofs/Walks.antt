@@ -1,6 +1,6 @@
 -- The walk over the pieces of a text: the groups that are open, and the innermost of them.
 use mathlib.Core.Path.{◌≡◌, refl, ap, ◌∙◌, sym, subst}
-use mathlib.Core.Bool.{Bool, true, false, cond}
+use mathlib.Core.Bool.{Bool, true, false}
 use mathlib.Core.List.{List, [], ◌∷◌}
 use Prim.Native.Nat.{ℕ, suc, ◌+◌, ◌-◌, ◌≤◌, ◌<◌}
 use native.Mathlib.Omega.{arith}
@@ -13,14 +13,10 @@ use Rattle.token_list.proofs.Texts.{chosen, passed_over}
 use Rattle.source.specs.Brackets.{Open, sound, faulty, brackets}
 use Rattle.source.specs.Stack.{rest, open_at, stack_to, Passing, Opening, Closing, Within, InnermostOf, top}
 use Rattle.source.specs.Stack.{InnermostAt, Held, Popped, DelimiterAt, ReachedBy, Reached, TurnedAs, turned}
-use Rattle.source.specs.Stack.{fault, row_step_lem, step_of, step_end}
+use Rattle.source.specs.Stack.{fault, Told}
 use Rattle.source.specs.Bytes.{blank}
-use Rattle.source.specs.Contract.{RunEnd, piece_end}
-use Rattle.source.specs.declared.piece.Piece as code
-use Rattle.source.specs.declared.piece.Piece.TheVariants as pieces
-use Rattle.source.specs.declared.brackets.Step.TheVariants as steps
-use Rattle.token_list.specs.Layout.{OPEN, CLOSE}
-use Rattle.source.specs.declared.brackets.Depth.TheVariants as depths
+use Rattle.source.specs.Contract.{RunEnd}
+use Rattle.std.specs.Prelude.{Option, Some, None}
 use Rattle.source.proofs.Lexes.{rest_all, rest-none, rest-blank}
 use Rattle.source.proofs.Stacks.{stack_here}
 use Rattle.source.proofs.Cells.{held_none}
@@ -91,29 +87,25 @@ module _ {s : List ℕ} {u depth : ℕ} (some : 0 < depth) where
             subst (λ (m : ℕ). InnermostOf s r (drop m (open_at s i ∷ os))) n
             (subst (λ (x : ℕ). InnermostOf s x (drop (count - depth) os)) (sym (latest.1 other)) before)
 
-    pub sought_empty : Closing s i e → count ≡ 0 → Sought s u depth i count found → Sought s u depth e count found
-    sought_empty p z ([], h) = (
+    -- a close without its open changes nothing
+    pub sought-closes : Closing s i e → Sought s u depth i count found → Sought s u depth e (count - 1) found
+    sought-closes p ([], h) = (
       [],
       record {
         low = omega (arith, h.low, w.forth);
         stack = h.stack ∙ p.stack u [] l;
-        counted = h.counted;
-        innermost = h.innermost;
+        counted = omega (arith, h.counted);
+        innermost = λ k. absurd (omega (arith, k, some, h.counted));
       },
     )
-    sought_empty p z (o ∷ os, h) = absurd (omega (arith, z, h.counted))
-
-    pub sought-closes : Closing s i e → 0 < count → Sought s u depth i count found
-        → Sought s u depth e (count - 1) found
-    sought-closes p z ([], h) = absurd (omega (arith, z, h.counted))
-    sought-closes p z (o ∷ os, h) = (
+    sought-closes p (o ∷ os, h) = (
       os,
       record {
         low = omega (arith, h.low, w.forth);
         stack = h.stack ∙ p.stack u (o ∷ os) l;
         counted = omega (arith, h.counted);
         innermost = λ k.
-            let n : count - depth ≡ suc (count - 1 - depth) = omega (arith, k, z, some) in
+            let n : count - depth ≡ suc (count - 1 - depth) = omega (arith, k, some, h.counted) in
             subst (λ (m : ℕ). InnermostOf s found (drop m (o ∷ os))) n (h.innermost (omega (arith, k)));
       },
     )
@@ -185,19 +177,16 @@ module _ {s cells : List ℕ} {i depth : ℕ} where
   pub reached_count : Reached s cells i depth → length (stack_to i [] (lex s)) ≡ depth
   reached_count (os, h) = ap length (h.stack i (omega arith) ∙ stack_here s i i os (omega arith)) ∙ h.count
 
-  module _ {cells₁ : List ℕ} {held d e : ℕ} (p : Closing s i e) (some : 0 < depth) (told : DelimiterAt s i held d)
+  module _ {cells₁ : List ℕ} {held : Option ℕ} (d : ℕ) {e : ℕ} (p : Closing s i e) (some : 0 < depth)
+      (told : DelimiterAt s i held d)
       (pop : (o : Open) (os : List Open) → Held cells (o ∷ os) → length os ≡ depth - 1 → Popped cells₁ o os held) where
     -- the innermost delimiter is known
     delimiter : {o : Open} {os : List Open} → ReachedBy s cells i depth (o ∷ os) → d ≡ o.delimiter
-    delimiter {o} {os} h = go (eqb held 0) refl
+    delimiter {o} {os} h = go held told (pop o os h.held (omega (arith, h.count))).told
       where
-        out : Popped cells₁ o os held
-        out = pop o os h.held (omega (arith, h.count))
-
-        go : (b : Bool) → eqb held 0 ≡ b → d ≡ o.delimiter
-        go true q =
-            told.found (eqb-true held 0 q) o os (h.stack i (omega arith) ∙ stack_here s i i (o ∷ os) (omega arith))
-        go false q = let other = eqb-false held 0 q in told.kept other ∙ out.told other
+        go : (x : Option ℕ) → DelimiterAt s i x d → Told x o.delimiter → d ≡ o.delimiter
+        go (Some y) t k = t ∙ k
+        go None t k = t o os (h.stack i (omega arith) ∙ stack_here s i i (o ∷ os) (omega arith))
 
     pub reached_closes : Within s i e → closer d ≡ get_or s i 0 → Reached s cells i depth
         → Reached s cells₁ e (depth - 1)
@@ -264,33 +253,13 @@ module _ {s : List ℕ} {r : ℕ} where
 -- ## What is known of a turn by its variant
 
 module _ {s cells : List ℕ} {i e : ℕ} where
-  pub turned_known : {d : ℕ} → TurnedAs s cells i e (depths.Open d) → Within s i e × Reached s cells e d
+  pub turned_known : {d : ℕ} → TurnedAs s cells i e (Some d) → Within s i e × Reached s cells e d
   turned_known (turned w h) = (w, h)
 
-  pub unturned : TurnedAs s cells i e depths.Fault → brackets [] (lex s) ≡ faulty i
+  pub unturned : TurnedAs s cells i e None → brackets [] (lex s) ≡ faulty i
   unturned (fault h) = h
 
--- a row ends where its step does
-row-step_end : (i k e : ℕ) → step_end i (row_step_lem k e) ≡ e
-row-step_end i k e = go (eqb k OPEN) (eqb k CLOSE)
-  where
-    go : (a b : Bool) → step_end i (cond a (steps.Opens e) (cond b (steps.Closes e) (steps.Passes e))) ≡ e
-    go true b = refl
-    go false true = refl
-    go false false = refl
-
--- behind a piece that turned
-pub turned_piece : {s cells : List ℕ} {i d : ℕ} (p : code.Piece)
-    → TurnedAs s cells i (step_end i (step_of p)) (depths.Open d)
-    → Within s i (piece_end s p) × Reached s cells (piece_end s p) d
-turned_piece (pieces.Gap e) h = turned_known h
-turned_piece {s} {cells} {i} {d} (pieces.Row k e) h =
-    turned_known (subst (λ (u : ℕ). TurnedAs s cells i u (depths.Open d)) (row-step_end i k e) h)
-turned_piece (pieces.Lifetime e) h = turned_known h
-turned_piece (pieces.Doc e) h = turned_known h
-turned_piece pieces.Fault h = absurd (omega (arith, (turned_known h).0.forth))
-
--- and behind the whitespace that follows it
+-- behind whitespace
 pub reached_blank : {s cells : List ℕ} {i r depth : ℕ} → RunEnd blank s i r → Reached s cells i depth
     → Reached s cells r depth
 reached_blank {s} {r = r} b (os, h) =

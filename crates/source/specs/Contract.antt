@@ -1,19 +1,17 @@
 -- What ties the code's answers to the meaning.
-use Rattle.std.specs.Prelude.{◌≡◌, Bool, List, ℕ, ◌+◌, ◌-◌, ◌≤◌, ◌<◌, length, get_or, drop}
+use Rattle.std.specs.Prelude.{◌≡◌, Bool, List, ℕ, ◌+◌, ◌-◌, ◌≤◌, ◌<◌, Option, Some, None, length, get_or, drop}
 use Rattle.std.proofs.Math.Seq.{slice}
 use Rattle.token_list.specs.Byte.{QUOTE}
 use Rattle.token_list.specs.Text.{name_part}
 use Rattle.token_list.specs.Rows.{ident, punct}
 use Rattle.source.specs.Bytes.{SLASH, blank, in_line, in_doc, in_digits}
 use Rattle.source.specs.Taken.{Taken, takes, fault, run}
-use Rattle.source.specs.Number.{fraction, sign_length}
+use Rattle.source.specs.Number.{radix_of, fraction, sign_length}
 use Rattle.source.specs.Piece as piece
-use Rattle.source.specs.Lex.{Lexed, token, stops, row_at, doc_rows}
+use Rattle.source.specs.Lex.{Lexed, token, row_at, doc_rows}
 use Rattle.source.specs.Piece.{suffix}
 use Rattle.source.specs.declared.bytes.Class.{Class}
 use Rattle.source.specs.declared.bytes.Class.TheVariants.{Blank, Name, Line, Doc, Digits}
-use Rattle.source.specs.declared.bytes.Ends.{Ends}
-use Rattle.source.specs.declared.bytes.Ends.TheVariants.{To, Fault}
 use Rattle.source.specs.declared.piece.Piece.{Piece}
 use Rattle.source.specs.declared.piece.Piece.TheVariants as pieces
 
@@ -35,9 +33,14 @@ pub record EndsTo (s : List ℕ) (i : ℕ) (t : Taken) (e : ℕ) : Type 0 where
   pub forth : i < e
   pub within : e ≤ length s
 
-pub data EndsAs (s : List ℕ) (i : ℕ) (t : Taken) : Ends → Type 0 where
-  ends : {e : ℕ} → EndsTo s i t e → EndsAs s i t (To e)
-  none : t ≡ fault → EndsAs s i t Fault
+pub data EndsAs (s : List ℕ) (i : ℕ) (t : Taken) : Option ℕ → Type 0 where
+  ends : {e : ℕ} → EndsTo s i t e → EndsAs s i t (Some e)
+  none : t ≡ fault → EndsAs s i t None
+
+-- what a byte tells behind a first 0: its radix, or none
+abbrev pub RadixAs : ℕ → Option ℕ → Type 0
+RadixAs b (Some r) = (r ≡ radix_of b) × (r ≡ 0 → ⊥)
+RadixAs b None = radix_of b ≡ 0
 
 -- no `/` stands from i up to e
 abbrev pub NoSlash : List ℕ → ℕ → ℕ → Type 0
@@ -70,12 +73,13 @@ pub record PieceTo (s : List ℕ) (i : ℕ) (t u : piece.Piece) (e : ℕ) : Type
   pub forth : i < e
   pub within : e ≤ length s
 
-pub data PieceAs (s : List ℕ) (i : ℕ) (t : piece.Piece) : Piece → Type 0 where
-  gap : {e : ℕ} → PieceTo s i t (piece.gap (e - i)) e → PieceAs s i t (pieces.Gap e)
-  row : {k e : ℕ} → PieceTo s i t (piece.row k (e - i)) e → PieceAs s i t (pieces.Row k e)
-  lifetime : {e : ℕ} → PieceTo s i t (piece.lifetime (e - i)) e → PieceAs s i t (pieces.Lifetime e)
-  doc : {e : ℕ} → PieceTo s i t (piece.doc (e - i)) e → i + 3 ≤ e → PieceAs s i t (pieces.Doc e)
-  none : t ≡ piece.fault → PieceAs s i t pieces.Fault
+-- or none does
+pub data PieceAs (s : List ℕ) (i : ℕ) (t : piece.Piece) : Option Piece → Type 0 where
+  gap : {e : ℕ} → PieceTo s i t (piece.gap (e - i)) e → PieceAs s i t (Some (pieces.Gap e))
+  row : {k e : ℕ} → PieceTo s i t (piece.row k (e - i)) e → PieceAs s i t (Some (pieces.Row k e))
+  lifetime : {e : ℕ} → PieceTo s i t (piece.lifetime (e - i)) e → PieceAs s i t (Some (pieces.Lifetime e))
+  doc : {e : ℕ} → PieceTo s i t (piece.doc (e - i)) e → i + 3 ≤ e → PieceAs s i t (Some (pieces.Doc e))
+  none : t ≡ piece.fault → PieceAs s i t None
 
 -- ## Tokens
 
@@ -87,12 +91,10 @@ piece_tokens s i (pieces.Lifetime e) ts =
     token (record { row = punct QUOTE; offset = i; length = 1 })
     (token (record { row = ident (slice (i + 1) e s); offset = i + 1; length = e - (i + 1) }) ts)
 piece_tokens s i (pieces.Doc e) ts = doc_rows i (e - i) (slice (i + 3) e s) ts
-piece_tokens s i pieces.Fault ts = stops i
 
--- where a piece ends; behind a fault nothing is read
-abbrev pub piece_end : List ℕ → Piece → ℕ
-piece_end s (pieces.Gap e) = e
-piece_end s (pieces.Row k e) = e
-piece_end s (pieces.Lifetime e) = e
-piece_end s (pieces.Doc e) = e
-piece_end s pieces.Fault = length s
+-- where a piece ends
+abbrev pub piece_end : Piece → ℕ
+piece_end (pieces.Gap e) = e
+piece_end (pieces.Row k e) = e
+piece_end (pieces.Lifetime e) = e
+piece_end (pieces.Doc e) = e

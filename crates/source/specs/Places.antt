@@ -15,7 +15,6 @@ row_count (pieces.Gap e) = 0
 row_count (pieces.Row k e) = 1
 row_count (pieces.Lifetime e) = 2
 row_count (pieces.Doc e) = 6
-row_count pieces.Fault = 0
 
 -- where row n of the piece at i stands
 abbrev pub span_in : ℕ → Piece → ℕ → Span
@@ -24,7 +23,6 @@ span_in i (pieces.Row k e) n = record { offset = i; length = e - i }
 span_in i (pieces.Lifetime e) zero = record { offset = i; length = 1 }
 span_in i (pieces.Lifetime e) (suc n) = record { offset = i + 1; length = e - (i + 1) }
 span_in i (pieces.Doc e) n = record { offset = i; length = e - i }
-span_in i pieces.Fault n = record { offset = i; length = 0 }
 
 pub record LineColumn (s : List ℕ) (offset : ℕ) (r : Position) : Type 0 where
   pub line : r.line ≡ line_of s offset

@@ -1,22 +1,17 @@
 -- What ties the code's brackets to the meaning: the groups that are open at an offset, and the cells that hold their
 -- kinds.
 use Rattle.std.specs.Prelude.{◌≡◌, true, cond, List, [], ◌∷◌, ℕ, zero, suc, ◌-◌, ◌*◌, ◌/◌, ◌%◌, ◌≤◌, ◌<◌, min, ltb, eqb}
-use Rattle.std.specs.Prelude.{length, get_or, set, drop}
+use Rattle.std.specs.Prelude.{Option, Some, None, length, get_or, set, drop}
 use Rattle.token_list.specs.Byte.{PARENTHESIS, BRACKET, BRACE}
 use Rattle.token_list.specs.Layout.{OPEN, CLOSE}
 use Rattle.token_list.specs.Text.{closer}
 use Rattle.token_list.specs.Row.{first}
 use Rattle.source.specs.Bytes.{opens}
 use Rattle.source.specs.Lex.{Token, Lexed, end, token, stops, lex_from, lex}
-use Rattle.source.specs.Brackets.{Open, Matched, sound, faulty, brackets}
+use Rattle.source.specs.Brackets.{Open, Matched, faulty, brackets}
+use Rattle.source.specs.Contract.{piece_end}
 use Rattle.source.specs.declared.piece.Piece.{Piece}
 use Rattle.source.specs.declared.piece.Piece.TheVariants as pieces
-use Rattle.source.specs.declared.brackets.Step.{Step}
-use Rattle.source.specs.declared.brackets.Step.TheVariants as steps
-use Rattle.source.specs.declared.brackets.Depth.{Depth}
-use Rattle.source.specs.declared.brackets.Depth.TheVariants as depths
-use Rattle.source.specs.declared.brackets.Matched as code
-use Rattle.source.specs.declared.brackets.Matched.TheVariants as matches
 
 -- ## What stands from an offset on
 
@@ -67,30 +62,16 @@ pub record Within (s : List ℕ) (i e : ℕ) : Type 0 where
   pub forth : i < e
   pub within : e ≤ length s
 
-pub data StepAs (s : List ℕ) (i : ℕ) : Step → Type 0 where
-  passing : {e : ℕ} → Within s i e → Passing s i e → StepAs s i (steps.Passes e)
-  opening : {e : ℕ} → Within s i e → Opening s i e → StepAs s i (steps.Opens e)
-  closing : {e : ℕ} → Within s i e → Closing s i e → StepAs s i (steps.Closes e)
-  fault : rest s i ≡ stops i → StepAs s i steps.Fault
+-- a piece that is no row of this kind
+abbrev pub IsNot : ℕ → Piece → Type 0
+IsNot k p = (e : ℕ) → p ≡ pieces.Row k e → ⊥
 
--- a row of this kind that ends at e
-abbrev pub row_step_lem : ℕ → ℕ → Step
-row_step_lem k e = cond (eqb k OPEN) (steps.Opens e) (cond (eqb k CLOSE) (steps.Closes e) (steps.Passes e))
-
--- what a piece is to brackets
-abbrev pub step_of : Piece → Step
-step_of (pieces.Gap e) = steps.Passes e
-step_of (pieces.Row k e) = row_step_lem k e
-step_of (pieces.Lifetime e) = steps.Passes e
-step_of (pieces.Doc e) = steps.Passes e
-step_of pieces.Fault = steps.Fault
-
--- where a step ends
-abbrev pub step_end : ℕ → Step → ℕ
-step_end i (steps.Passes e) = e
-step_end i (steps.Opens e) = e
-step_end i (steps.Closes e) = e
-step_end i steps.Fault = i
+-- what a piece at i is to brackets
+pub record StepAs (s : List ℕ) (i : ℕ) (p : Piece) : Type 0 where
+  pub within : Within s i (piece_end p)
+  pub opening : (e : ℕ) → p ≡ pieces.Row OPEN e → Opening s i (piece_end p)
+  pub closing : (e : ℕ) → p ≡ pieces.Row CLOSE e → Closing s i (piece_end p)
+  pub passing : IsNot OPEN p → IsNot CLOSE p → Passing s i (piece_end p)
 
 -- ## The innermost group
 
@@ -140,15 +121,20 @@ pub record Held (cells : List ℕ) (os : List Open) : Type 0 where
       ≡ delimiters_of (drop (length os - PER_CELL * length cells) os)
   pub room : (c : ℕ) → get_or cells c 0 < capacity (length os - PER_CELL * c)
 
--- r is the delimiter of o, taken out of the cells, or 0 where they do not hold it
-pub record Popped (cells : List ℕ) (o : Open) (os : List Open) (r : ℕ) : Type 0 where
-  pub held : Held cells os
-  pub told : (r ≡ 0 → ⊥) → r ≡ o.delimiter
+-- what was taken out is this delimiter, or none
+abbrev pub Told : Option ℕ → ℕ → Type 0
+Told (Some d) e = d ≡ e
+Told None e = Unit
 
--- r is `held`, or where that is 0 the delimiter of the innermost group that is open at i
-pub record DelimiterAt (s : List ℕ) (i held r : ℕ) : Type 0 where
-  pub kept : (held ≡ 0 → ⊥) → r ≡ held
-  pub found : held ≡ 0 → (o : Open) (os : List Open) → stack_to i [] (lex s) ≡ o ∷ os → r ≡ o.delimiter
+-- r is the delimiter of o, taken out of the cells, or none where they do not hold it
+pub record Popped (cells : List ℕ) (o : Open) (os : List Open) (r : Option ℕ) : Type 0 where
+  pub held : Held cells os
+  pub told : Told r o.delimiter
+
+-- r is what was held, or where that is none the delimiter of the innermost group that is open at i
+abbrev pub DelimiterAt : List ℕ → ℕ → Option ℕ → ℕ → Type 0
+DelimiterAt s i (Some d) r = r ≡ d
+DelimiterAt s i None r = (o : Open) (os : List Open) → stack_to i [] (lex s) ≡ o ∷ os → r ≡ o.delimiter
 
 -- ## The walk
 
@@ -164,10 +150,6 @@ abbrev pub Reached : List ℕ → List ℕ → ℕ → ℕ → Type 0
 Reached s cells i depth = (os : List Open) × ReachedBy s cells i depth os
 
 -- behind a piece at i that ends at e
-pub data TurnedAs (s cells : List ℕ) (i e : ℕ) : Depth → Type 0 where
-  turned : {d : ℕ} → Within s i e → Reached s cells e d → TurnedAs s cells i e (depths.Open d)
-  fault : brackets [] (lex s) ≡ faulty i → TurnedAs s cells i e depths.Fault
-
-abbrev pub matched_of : code.Matched → Matched
-matched_of matches.Sound = sound
-matched_of (matches.FaultAt i) = faulty i
+pub data TurnedAs (s cells : List ℕ) (i e : ℕ) : Option ℕ → Type 0 where
+  turned : {d : ℕ} → Within s i e → Reached s cells e d → TurnedAs s cells i e (Some d)
+  fault : brackets [] (lex s) ≡ faulty i → TurnedAs s cells i e None

@@ -6,15 +6,8 @@ ghost use Rattle.source.specs.Contract.{in_class, RunEnd};
 
 use token_list::text::{digit_worth, is_digit, is_name_start};
 
-// Where a production ends, or that it stands there in no form.
-#[derive(Clone, Copy)]
-pub enum Ends {
-    To(usize),
-    Fault,
-}
-
-// The bytes that a run may have.
-#[derive(Clone, Copy)]
+// The bytes that a run may have. `Digits` are those of this radix, and `_`.
+#[derive(Clone, Copy, Debug, PartialEq, Eq)]
 pub enum Class {
     Blank,
     Name,
@@ -27,57 +20,37 @@ pub enum Class {
 pub fn byte_at(s: &[u8], i: usize) -> u8
     ensures { result ≡ get_or s.now i 0 }
 {
-    if i < s.len() {
-        return s[i];
-    }
-    0
+    s.get(i).copied().unwrap_or(0)
 }
 
+#[tactic(auto, unfolding(crate::specs::Bytes::blank))]
 pub fn is_blank(b: u8) -> bool
     ensures { result ≡ blank b }
 {
-    if b < 9 {
-        return false;
-    }
-    if b <= 13 {
-        return true;
-    }
-    b == b' '
+    (9..=13).contains(&b) || b == b' '
 }
 
 fn is_name_part(b: u8) -> bool
     ensures { result ≡ name_part b }
 {
-    if is_name_start(b) {
-        return true;
-    }
-    is_digit(b)
+    is_name_start(b) || is_digit(b)
 }
 
+#[tactic(auto, unfolding(crate::specs::Bytes::in_doc))]
 fn is_in_doc(b: u8) -> bool
     ensures { result ≡ in_doc b }
 {
-    if b < b' ' {
-        return false;
-    }
-    if b'~' < b {
-        return false;
-    }
-    if b == b'"' {
-        return false;
-    }
-    b != b'\\'
+    (b' '..=b'~').contains(&b) && b != b'"' && b != b'\\'
 }
 
+#[tactic(auto, unfolding(crate::specs::Bytes::in_digits))]
 fn is_in_digits(radix: usize, b: u8) -> bool
     ensures { result ≡ in_digits radix b }
 {
-    if b == b'_' {
-        return true;
-    }
-    digit_worth(b) < radix
+    b == b'_' || digit_worth(b) < radix
 }
 
+#[tactic(auto, unfolding(crate::specs::Bytes::in_line))]
 fn is_in(class: Class, b: u8) -> bool
     ensures { result ≡ in_class class b }
 {
@@ -94,26 +67,11 @@ fn is_in(class: Class, b: u8) -> bool
 pub fn run_end(s: &[u8], from: usize, class: Class) -> usize
     ensures { RunEnd (in_class class) s.now from result }
 {
-    let mut i = from;
-    while i < s.len() {
+    // No chain: three proofs of `take_while` with a closure over `class` did not close.
+    for i in from..s.len() {
         if !is_in(class, s[i]) {
             return i;
         }
-        i += 1;
     }
-    i
-}
-
-// The first place from `from` on with neither a digit of the radix nor `_`, or the end.
-pub fn digits_end(s: &[u8], from: usize, radix: usize) -> usize
-    ensures { RunEnd (in_digits radix) s.now from result }
-{
-    let mut i = from;
-    while i < s.len() {
-        if !is_in_digits(radix, s[i]) {
-            return i;
-        }
-        i += 1;
-    }
-    i
+    from.max(s.len())
 }

@@ -1,5 +1,5 @@
 // Where a row's text stands in the source, and the line and column of an offset.
-ghost use Rattle.std.specs.Prelude.{◌≡◌, List, ℕ, ◌-◌, ◌<◌, length};
+ghost use Rattle.std.specs.Prelude.{◌≡◌, List, ℕ, Some, ◌<◌, length};
 ghost use Rattle.source.specs.Piece as piece;
 ghost use Rattle.source.specs.Contract.{PieceAs};
 ghost use Rattle.source.specs.Place.{row_span};
@@ -8,14 +8,14 @@ ghost use Rattle.source.specs.Places.{row_count, span_in, span_at, LineColumn};
 use crate::piece::{Piece, piece_at, piece_end};
 
 // The first byte, and how many.
-#[derive(Clone, Copy)]
+#[derive(Clone, Copy, Debug, PartialEq, Eq)]
 pub struct Place {
     pub offset: usize,
     pub length: usize,
 }
 
 // A line and a column, each counted from 1; columns are bytes.
-#[derive(Clone, Copy)]
+#[derive(Clone, Copy, Debug, PartialEq, Eq)]
 pub struct Position {
     pub line: usize,
     pub column: usize,
@@ -30,46 +30,27 @@ fn row_count(p: Piece) -> usize
         Piece::Row(_, _) => 1,
         Piece::Lifetime(_) => 2,
         Piece::Doc(_) => 6,
-        Piece::Fault => 0,
     }
-}
-
-// From i to e.
-fn span(i: usize, e: usize) -> Place
-    requires { i < e }
-    ensures { span_at result ≡ record { offset = i; length = e - i } }
-{
-    let length = e - i;
-    Place { offset: i, length }
 }
 
 // Where row n of the piece p stands, which begins at i.
 fn place_in(i: usize, p: Piece, n: usize) -> Place
-    requires { (s : List ℕ) × (t : piece.Piece) × (i < length s) × PieceAs s i t p }
+    requires { (s : List ℕ) × (t : piece.Piece) × PieceAs s i t (Some p) }
     ensures { n < row_count p → span_at result ≡ span_in i p n }
 {
     match p {
-        Piece::Gap(e) => span(i, e),
-        Piece::Row(_, e) => span(i, e),
-        Piece::Doc(e) => span(i, e),
-        Piece::Fault => Place {
+        Piece::Lifetime(_) if n == 0 => Place {
             offset: i,
-            length: 0,
+            length: 1,
         },
-        Piece::Lifetime(e) => {
-            if n == 0 {
-                return Place {
-                    offset: i,
-                    length: 1,
-                };
-            }
-            let name = i + 1;
-            let length = e - name;
-            Place {
-                offset: name,
-                length,
-            }
-        }
+        Piece::Lifetime(e) => Place {
+            offset: i + 1,
+            length: e - (i + 1),
+        },
+        Piece::Gap(e) | Piece::Row(_, e) | Piece::Doc(e) => Place {
+            offset: i,
+            length: e - i,
+        },
     }
 }
 
@@ -79,14 +60,13 @@ pub fn row_place(s: &[u8], row: usize) -> Place
 {
     let mut i = 0;
     let mut left = row;
-    while i < s.len() {
-        let p = piece_at(s, i);
+    while let Some(p) = piece_at(s, i) {
         let rows = row_count(p);
         if left < rows {
             return place_in(i, p, left);
         }
         left -= rows;
-        i = piece_end(s, p);
+        i = piece_end(p);
     }
     Place {
         offset: s.len(),
@@ -98,21 +78,15 @@ pub fn row_place(s: &[u8], row: usize) -> Place
 pub fn position_of(s: &[u8], offset: usize) -> Position
     ensures { LineColumn s.now offset result }
 {
-    let mut i = 0;
     let mut line = 1;
     let mut column = 1;
-    while i < offset {
-        if s.len() <= i {
-            return Position { line, column };
-        }
-        let b = s[i];
-        i += 1;
-        if b == b'\n' {
+    for b in &s[..offset.min(s.len())] {
+        if *b == b'\n' {
             line += 1;
             column = 1;
-            continue;
+        } else {
+            column += 1;
         }
-        column += 1;
     }
     Position { line, column }
 }

@@ -6,7 +6,7 @@ ghost use Rattle.source.specs.Tokens.{TokensAs};
 ghost use Rattle.source.specs.Report.{position_text, fault_text, tokens_text, at_most, ReportedTokens};
 
 use crate::places::position_of;
-use crate::tokens::{Tokens, write_tokens};
+use crate::tokens::{SourceError, write_tokens};
 use output::put::{put_byte, put_bytes, put_number, put_refusal};
 
 // The line and the column of an offset.
@@ -33,15 +33,15 @@ pub fn put_fault(out: &mut [u8], s: &[u8], offset: usize) -> usize
 }
 
 // The answer as a program prints it: a refusal is written where the list would stand.
-fn put_tokens(out: &mut [u8], s: &[u8], answer: Tokens) -> usize
+fn put_tokens(out: &mut [u8], s: &[u8], answer: Result<usize, SourceError>) -> usize
     ensures by_index { (before : List ℕ) (a : Answer) → TokensAs before out.old a answer →
         Printed before out.new result (tokens_text s.now a) }
     ensures upper_bound { result ≤ at_most answer }
 {
     match answer {
-        Tokens::List(n) => n,
-        Tokens::FaultAt(offset) => put_fault(out, s, offset),
-        Tokens::Refused(r) => put_refusal(out, r),
+        Ok(n) => n,
+        Err(SourceError::FaultAt(offset)) => put_fault(out, s, offset),
+        Err(SourceError::Refused(r)) => put_refusal(out, r),
     }
 }
 

@@ -1,40 +1,25 @@
 // The listing of the declaration in the source text on standard input, or the refusal with its line and column.
 #![tactic(auto)]
 
-ghost use Rattle.std.specs.Prelude.{◌≡◌, length};
-
-// The descriptors of standard input, output and error.
-const STDIN: i32 = 0;
-
-const STDOUT: i32 = 1;
-
-const STDERR: i32 = 2;
-
-// The longest text that is read, and one byte more: enough to see that a text is longer.
-const MOST: usize = 1048576;
-
-fn text_buffer() -> [u8; 1048577] {
-    [0; 1048577]
-}
+use from_source::report::report_listing;
+use program::{MAX_TEXT, STDERR, STDIN, STDOUT, TEXT};
+use token_list::buffer::zeroed;
 
 // As many bytes as the longest listing may have: MOST in describe/specs/Listing.antt.
-fn output() -> [u8; 176145]
-    ensures { 176145 ≡ length result }
-{
-    [0; 176145]
-}
+const OUTPUT: usize = 176145;
 
 fn main() {
-    let mut text = text_buffer();
+    // By a call: as an array here the check would go over each of its million bytes.
+    let mut text = zeroed::<TEXT>();
     let n = io::read_full(STDIN, &mut text);
-    if MOST < n {
+    if MAX_TEXT < n {
         io::write_all(
             STDERR,
             b"source_listing: a source text of more than 1048576 bytes is not read\n",
         );
         return;
     }
-    let mut out = output();
-    let k = from_source::report::report_listing(&text[..n], &mut out);
+    let mut out = [0; OUTPUT];
+    let k = report_listing(&text[..n], &mut out);
     io::write_all(STDOUT, &out[..k]);
 }

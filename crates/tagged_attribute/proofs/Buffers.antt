@@ -1,34 +1,12 @@
 -- Laws on the role buffer: the rows of an entry, and all rows of a list.
 use mathlib.Core.Path.{◌≡◌, ap, ◌∙◌, sym}
 use mathlib.Core.List.{List, ◌++◌}
-use Prim.Native.Nat.{ℕ, suc, ◌+◌, ◌-◌, ◌≤◌}
+use Prim.Native.Nat.{ℕ, ◌+◌, ◌-◌, ◌≤◌}
 use native.Mathlib.Omega.{arith}
-use lib.ListN.{length, set, replicate, length-append, length-replicate}
+use lib.ListN.{length, replicate, length-append, length-replicate}
 use lib.Seq.{sets, length-sets}
 use Rattle.parse.proofs.Buffer.{sets_append}
 use Rattle.parse.proofs.Items.{sets_all}
-use Rattle.tagged_reading.specs.Role as role
-use Rattle.tagged_reading.specs.Role.{others}
-use Rattle.tagged_attribute.specs.Contract.{part_roles, tag_roles, property_roles}
-
-module _ (b0 : List ℕ) (row end : ℕ) where
-  pub tag_set : (b1 b2 : List ℕ) → b1 ≡ set b0 row role.tag → b2 ≡ sets b1 (row + 1) (others (end - (row + 1)))
-      → b2 ≡ sets b0 row (part_roles tag_roles row end)
-  tag_set b1 b2 p q =
-      let one : row + 1 ≡ suc row = omega arith in
-      q ∙ (λ i. sets (p i) (one i) (others (end - (row + 1))))
-
-  pub property_set : (b1 b2 b3 b4 : List ℕ) → b1 ≡ set b0 row role.key → b2 ≡ set b1 (row + 1) role.other
-      → b3 ≡ set b2 (row + 2) role.value → b4 ≡ sets b3 (row + 3) (others (end - (row + 3)))
-      → b4 ≡ sets b0 row (part_roles property_roles row end)
-  property_set b1 b2 b3 b4 p q r t =
-      let one : row + 1 ≡ suc row = omega arith in
-      let two : row + 2 ≡ suc (suc row) = omega arith in
-      let three : row + 3 ≡ suc (suc (suc row)) = omega arith in
-      let second : b2 ≡ set (set b0 row role.key) (suc row) role.other = q ∙ (λ i. set (p i) (one i) role.other) in
-      let third : b3 ≡ set (set (set b0 row role.key) (suc row) role.other) (suc (suc row)) role.value =
-      r ∙ (λ i. set (second i) (two i) role.value) in
-      t ∙ (λ i. sets (third i) (three i) (others (end - (row + 3))))
 
 -- the roles of the first rows, v for those that are left, and w past them
 pub stored : (b0 b1 rs : List ℕ) (v w end rows left : ℕ) → b1 ≡ sets b0 0 rs → end ≡ length rs → length rs + left ≡ rows

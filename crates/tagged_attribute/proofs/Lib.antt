@@ -4,7 +4,7 @@ pub mod Cursors
 pub mod Entries
 pub mod Turns
 pub mod Finding
-pub mod Answers
 pub mod Lines
 pub mod Lengths
+pub mod Answers
 pub mod Reports

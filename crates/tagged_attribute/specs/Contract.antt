@@ -1,5 +1,6 @@
 -- What ties the code's answers and the role buffer to what is read of a tagged attribute.
 use Rattle.std.specs.Prelude.{◌≡◌, Bool, true, false, List, [], ◌∷◌, ◌++◌, ℕ, ◌+◌, ◌-◌, ◌≤◌, ◌<◌, length}
+use Rattle.std.specs.Prelude.{Option, Some, None, Result, Ok, Err}
 use Rattle.std.proofs.lemmas.List.Edits.{sets}
 use Rattle.std.proofs.Math.Seq.{slice}
 use Rattle.token_list.specs.Layout.{first_row}
@@ -8,10 +9,9 @@ use Rattle.token_list.specs.Stream.{Trees, at}
 use Rattle.token_list.specs.Place.{OneRefusal}
 use Rattle.token_list.specs.Contract.{InList}
 use Rattle.token_list.specs.declared.check.Cursor.{Cursor}
+use Rattle.token_list.specs.declared.check.Refusal.{Refusal}
 use Rattle.token_list.specs.declared.stream.Token.{Token}
 use Rattle.parse.specs.Contract.{stream, TextOf, TokenIn}
-use Rattle.parse.specs.declared.utils.Step.{Step}
-use Rattle.parse.specs.declared.utils.Step.TheVariants as steps
 use Rattle.tagged_reading.specs.Role as role
 use Rattle.tagged_reading.specs.Role.{others}
 use Rattle.tagged_reading.specs.Entry.{Entry, property}
@@ -20,17 +20,9 @@ use Rattle.tagged_reading.specs.Reading.{tagged}
 use Rattle.tagged_reading.specs.Answer as answers
 use Rattle.tagged_attribute.specs.declared.entry.TagAt.{TagAt}
 use Rattle.tagged_attribute.specs.declared.entry.PropertyAt.{PropertyAt}
-use Rattle.tagged_attribute.specs.declared.entry.EntryStep.{EntryStep}
-use Rattle.tagged_attribute.specs.declared.entry.EntryStep.TheVariants as entry_steps
+use Rattle.tagged_attribute.specs.declared.entry.EntryAt.{EntryAt}
+use Rattle.tagged_attribute.specs.declared.entry.EntryAt.TheVariants.{Tag, Property, Lost}
 use Rattle.tagged_attribute.specs.declared.utils.EntriesAt.{EntriesAt}
-use Rattle.tagged_attribute.specs.declared.utils.TakeStep.{TakeStep}
-use Rattle.tagged_attribute.specs.declared.utils.TakeStep.TheVariants as take_steps
-use Rattle.tagged_attribute.specs.declared.utils.Entered.{Entered}
-use Rattle.tagged_attribute.specs.declared.utils.Entered.TheVariants as entereds
-use Rattle.tagged_attribute.specs.declared.utils.Found.{Found}
-use Rattle.tagged_attribute.specs.declared.utils.Found.TheVariants as founds
-use Rattle.tagged_attribute.specs.declared.utils.Tagged.{Tagged}
-use Rattle.tagged_attribute.specs.declared.utils.Tagged.TheVariants as taggeds
 
 -- ## One entry
 
@@ -76,12 +68,12 @@ pub record PropertyRead (s : List ℕ) (c : Cursor) (was : Answer) (p : Property
   pub added : Added s c p.next (property name text ∷ []) (part_roles property_roles c.row p.next.row) was
 
 -- what is read at c, by the answer
-abbrev pub EntryRead : List ℕ → Cursor → Answer → EntryStep → Type 0
-EntryRead s c was (entry_steps.Tag t) = TagRead s c was t
-EntryRead s c was (entry_steps.Property p) = PropertyRead s c was p
-EntryRead s c was (entry_steps.Lost d) = Added s c d [] (part_roles [] c.row d.row) was
-EntryRead s c was entry_steps.Done = was ≡ read [] []
-EntryRead s c was (entry_steps.Refused r) = was ≡ refused r.number r.place
+abbrev pub EntryRead : List ℕ → Cursor → Answer → Result (Option EntryAt) Refusal → Type 0
+EntryRead s c was (Ok (Some (Tag t))) = TagRead s c was t
+EntryRead s c was (Ok (Some (Property p))) = PropertyRead s c was p
+EntryRead s c was (Ok (Some (Lost d))) = Added s c d [] (part_roles [] c.row d.row) was
+EntryRead s c was (Ok None) = was ≡ read [] []
+EntryRead s c was (Err r) = was ≡ refused r.number r.place
 
 -- ## The entries
 
@@ -97,10 +89,10 @@ pub record Taken (s : List ℕ) (c d : Cursor) (n : ℕ) (b0 b1 : List ℕ) : Ty
   pub added : Added s c d es rs (entries_at s c)
   pub roles : b1 ≡ sets b0 c.row rs
 
-abbrev pub TakeRead : List ℕ → Cursor → List ℕ → List ℕ → TakeStep → Type 0
-TakeRead s c b0 b1 (take_steps.On d n) = Taken s c d n b0 b1
-TakeRead s c b0 b1 take_steps.Done = (entries_at s c ≡ read [] []) × (b1 ≡ b0)
-TakeRead s c b0 b1 (take_steps.Refused r) = (entries_at s c ≡ refused r.number r.place) × (b1 ≡ b0)
+abbrev pub TakeRead : List ℕ → Cursor → List ℕ → List ℕ → Result (Option (Cursor × ℕ)) Refusal → Type 0
+TakeRead s c b0 b1 (Ok (Some (d, n))) = Taken s c d n b0 b1
+TakeRead s c b0 b1 (Ok None) = (entries_at s c ≡ read [] []) × (b1 ≡ b0)
+TakeRead s c b0 b1 (Err r) = (entries_at s c ≡ refused r.number r.place) × (b1 ≡ b0)
 
 -- all entries from c on: they end at d, and there are n of them
 pub record EntriesRead (s : List ℕ) (c d : Cursor) (n : ℕ) (b0 b1 : List ℕ) : Type 0 where
@@ -112,9 +104,9 @@ pub record EntriesRead (s : List ℕ) (c d : Cursor) (n : ℕ) (b0 b1 : List ℕ
   pub roles : b1 ≡ sets b0 c.row rs
 
 -- Which rows were marked before a refusal is free, since every byte is filled then.
-abbrev pub EnteredAs : List ℕ → Cursor → List ℕ → List ℕ → Entered → Type 0
-EnteredAs s c b0 b1 (entereds.At d n) = EntriesRead s c d n b0 b1
-EnteredAs s c b0 b1 (entereds.Refused r) = entries_at s c ≡ refused r.number r.place
+abbrev pub EnteredAs : List ℕ → Cursor → List ℕ → List ℕ → Result (Cursor × ℕ) Refusal → Type 0
+EnteredAs s c b0 b1 (Ok (d, n)) = EntriesRead s c d n b0 b1
+EnteredAs s c b0 b1 (Err r) = entries_at s c ≡ refused r.number r.place
 
 -- ## Where the entries begin
 
@@ -132,9 +124,9 @@ pub record GroupAlone (s : List ℕ) (d : Cursor) : Type 0 where
   pub row : d.row ≡ 1
   pub same : (prefix : List ℕ) → tagged prefix (listed s) ≡ attribute prefix (stream s d)
 
-abbrev pub AloneAs : List ℕ → Step → Type 0
-AloneAs s (steps.At d) = GroupAlone s d
-AloneAs s (steps.Refused r) = (prefix : List ℕ) → tagged prefix (listed s) ≡ refused r.number r.place
+abbrev pub AloneAs : List ℕ → Result Cursor Refusal → Type 0
+AloneAs s (Ok d) = GroupAlone s d
+AloneAs s (Err r) = (prefix : List ℕ) → tagged prefix (listed s) ≡ refused r.number r.place
 
 -- the entries at a cursor, with so many rows behind them, are what is read
 pub record EntriesFrom (s : List ℕ) (was : Answer) (d : Cursor) : Type 0 where
@@ -143,10 +135,13 @@ pub record EntriesFrom (s : List ℕ) (was : Answer) (d : Cursor) : Type 0 where
   pub behind : ℕ
   pub same : was ≡ adding [] (others FIRST_ENTRY) (before behind (entries_at s d))
 
-abbrev pub FoundAs : List ℕ → Answer → Found → Type 0
-FoundAs s was (founds.At d) = EntriesFrom s was d
-FoundAs s was founds.Absent = was ≡ none
-FoundAs s was (founds.Refused r) = was ≡ refused r.number r.place
+abbrev pub FoundAt : List ℕ → Answer → Option Cursor → Type 0
+FoundAt s was (Some d) = EntriesFrom s was d
+FoundAt s was None = was ≡ none
+
+abbrev pub FoundAs : List ℕ → Answer → Result (Option Cursor) Refusal → Type 0
+FoundAs s was (Ok found) = FoundAt s was found
+FoundAs s was (Err r) = was ≡ refused r.number r.place
 
 -- ## The whole answer
 
@@ -159,34 +154,30 @@ pub record EntriesOf (s : List ℕ) (e : EntriesAt) (es : List Entry) (rs : List
   pub roles : List ℕ
   pub same : entries_at s e.first ≡ read es roles
 
--- the answer, by its own enum
-abbrev pub TaggedAs : List ℕ → Tagged → Answer → Type 0
-TaggedAs s taggeds.Absent none = Unit {0}
-TaggedAs s taggeds.Absent (read es rs) = ⊥
-TaggedAs s taggeds.Absent (refused n p) = ⊥
-TaggedAs s (taggeds.Read e) none = ⊥
-TaggedAs s (taggeds.Read e) (read es rs) = EntriesOf s e es rs
-TaggedAs s (taggeds.Read e) (refused n p) = ⊥
-TaggedAs s (taggeds.Refused r) none = ⊥
-TaggedAs s (taggeds.Refused r) (read es rs) = ⊥
-TaggedAs s (taggeds.Refused r) (refused n p) = (r.number ≡ n) × (r.place ≡ p)
+-- the answer of the code
+abbrev pub TaggedAs : List ℕ → Result (Option EntriesAt) Refusal → Answer → Type 0
+TaggedAs s (Ok None) none = Unit {0}
+TaggedAs s (Ok None) (read es rs) = ⊥
+TaggedAs s (Ok None) (refused n p) = ⊥
+TaggedAs s (Ok (Some e)) none = ⊥
+TaggedAs s (Ok (Some e)) (read es rs) = EntriesOf s e es rs
+TaggedAs s (Ok (Some e)) (refused n p) = ⊥
+TaggedAs s (Err r) none = ⊥
+TaggedAs s (Err r) (read es rs) = ⊥
+TaggedAs s (Err r) (refused n p) = (r.number ≡ n) × (r.place ≡ p)
 
--- the entries, with so many rows behind them, fill the rows of the list
-abbrev pub Fits : Answer → ℕ → ℕ → Type 0
-Fits a behind rows = (es : List Entry) (rs : List ℕ) → a ≡ read es rs → FIRST_ENTRY + length rs + behind ≡ rows
+abbrev pub reads : Result (Option EntriesAt) Refusal → Bool
+reads (Ok None) = false
+reads (Ok (Some e)) = true
+reads (Err r) = false
 
--- the code's answer and its last role bytes are those of a
-pub record Given (s : List ℕ) (a : Answer) (r : Tagged) (b0 b1 : List ℕ) : Type 0 where
-  pub answer : TaggedAs s r a
-  pub buffer : b1 ≡ answers.buffer (length b0) a
+-- the whole answer for a prefix and a list s, with the role bytes of the entries that are read
+pub record Marked (prefix s : List ℕ) (r : Result (Option EntriesAt) Refusal) (b0 b1 : List ℕ) : Type 0 where
+  pub answer : TaggedAs s r (answers.answer prefix s (length b0))
+  pub buffer : reads r ≡ true → b1 ≡ answers.buffer (length b0) (answers.answer prefix s (length b0))
 
-abbrev pub reads : Tagged → Bool
-reads taggeds.Absent = false
-reads (taggeds.Read e) = true
-reads (taggeds.Refused r) = false
-
--- the whole answer for a prefix and a list s, what holds of a refusal, and the whole role buffer
-pub record Answered (prefix s : List ℕ) (r : Tagged) (b0 b1 : List ℕ) : Type 0 where
+-- the same, what holds of a refusal, and the whole role buffer
+pub record Answered (prefix s : List ℕ) (r : Result (Option EntriesAt) Refusal) (b0 b1 : List ℕ) : Type 0 where
   pub answer : TaggedAs s r (answers.answer prefix s (length b0))
   pub refusal : (n p : ℕ) → answers.answer prefix s (length b0) ≡ refused n p →
       OneRefusal answers.tagged_number s n p

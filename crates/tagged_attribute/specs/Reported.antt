@@ -1,5 +1,5 @@
 -- What ties the written lines to what is read of a tagged attribute.
-use Rattle.std.specs.Prelude.{◌≡◌, List, [], ℕ, ◌≤◌, length}
+use Rattle.std.specs.Prelude.{◌≡◌, List, [], ℕ, ◌≤◌, length, Option, Some, None}
 use Rattle.token_list.specs.Layout.{MAX_ROWS}
 use Rattle.token_list.specs.Place.{OneRefusal}
 use Rattle.token_list.specs.declared.check.Cursor.{Cursor}
@@ -10,8 +10,6 @@ use Rattle.tagged_reading.specs.Reading.{read, refused}
 use Rattle.tagged_reading.specs.Answer as answers
 use Rattle.tagged_attribute.specs.Contract.{Added, entries_at}
 use Rattle.tagged_attribute.specs.Listing.{entry_lines, answer_text, MOST}
-use Rattle.tagged_attribute.specs.declared.listing.LineStep.{LineStep}
-use Rattle.tagged_attribute.specs.declared.listing.LineStep.TheVariants as line_turns
 
 -- a token whose text stands in the list
 pub record Readable (s : List ℕ) (t : Token) : Type 0 where
@@ -30,9 +28,9 @@ pub record NoLine (s : List ℕ) (c : Cursor) (x y : List ℕ) : Type 0 where
   pub none : (es : List Entry) (rs : List ℕ) → entries_at s c ≡ read es rs → es ≡ []
   pub kept : y ≡ x
 
-abbrev pub LineRead : List ℕ → Cursor → List ℕ → List ℕ → ℕ → LineStep → Type 0
-LineRead s c x y at (line_turns.On d r) = LineAt s c d x y at r
-LineRead s c x y at line_turns.Done = NoLine s c x y
+abbrev pub LineRead : List ℕ → Cursor → List ℕ → List ℕ → ℕ → Option (Cursor × ℕ) → Type 0
+LineRead s c x y at (Some (d, r)) = LineAt s c d x y at r
+LineRead s c x y at None = NoLine s c x y
 
 -- the report of a prefix and a list s: the text of the answer, in an output that was x and is y, with role bytes that
 -- were b0 and are b1

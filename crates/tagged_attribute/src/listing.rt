@@ -8,27 +8,18 @@ ghost use Rattle.tagged_attribute.specs.Contract.{token_text, entries_at};
 ghost use Rattle.tagged_attribute.specs.Listing.{entry_line, entry_lines};
 ghost use Rattle.tagged_attribute.specs.Reported.{Readable, LineRead, Reported};
 
-use crate::entry::{EntryStep, entry};
-use crate::utils::{Tagged, parse_tagged_attribute};
+use crate::entry::{EntryAt, entry};
+use crate::utils::parse_tagged_attribute;
 use output::put::{put_bytes, put_refusal};
 use token_list::check::Cursor;
 use token_list::stream::Token;
-
-// A line, or nothing, was written up to a place, and the next entry is at a cursor; or there are no more.
-#[derive(Clone, Copy)]
-pub enum LineStep {
-    On(Cursor, usize),
-    Done,
-}
 
 fn put_tag(s: &[u8], t: Token, out: &mut [u8], at: usize) -> usize
     requires { Readable s.now t }
     ensures { Put out.old out.new at result (entry_line (tag (token_text s.now t))) }
 {
-    let start = t.start;
-    let end = t.end;
     let word = put_bytes(out, at, b"tag ");
-    let name = put_bytes(out, word, &s[start..end]);
+    let name = put_bytes(out, word, &s[t.start..t.end]);
     put_bytes(out, name, b" -\n")
 }
 
@@ -38,39 +29,25 @@ fn put_property(s: &[u8], k: Token, l: Token, out: &mut [u8], at: usize) -> usiz
     ensures { Put out.old out.new at result
         (entry_line (property (token_text s.now k) (token_text s.now l))) }
 {
-    let key = k.start;
-    let key_end = k.end;
-    let literal = l.start;
-    let literal_end = l.end;
     let word = put_bytes(out, at, b"property ");
-    let name = put_bytes(out, word, &s[key..key_end]);
+    let name = put_bytes(out, word, &s[k.start..k.end]);
     let space = put_bytes(out, name, b" ");
-    let value = put_bytes(out, space, &s[literal..literal_end]);
+    let value = put_bytes(out, space, &s[l.start..l.end]);
     put_bytes(out, value, b"\n")
 }
 
-// The line of the entry at c.
-fn put_entry(s: &[u8], c: Cursor, out: &mut [u8], at: usize) -> LineStep
+// The line of the entry at c: the cursor after it, and where the next line goes; None where no entry can be read.
+fn put_entry(s: &[u8], c: Cursor, out: &mut [u8], at: usize) -> Option<(Cursor, usize)>
     requires { InList s.now c }
     ensures { LineRead s.now c out.old out.new at result }
 {
     match entry(s, c) {
-        EntryStep::Done => LineStep::Done,
-        EntryStep::Refused(_) => LineStep::Done,
-        EntryStep::Lost(d) => LineStep::On(d, at),
-        EntryStep::Tag(t) => {
-            let name = t.tag;
-            let next = t.next;
-            let end = put_tag(s, name, out, at);
-            LineStep::On(next, end)
+        Ok(Some(EntryAt::Tag(t))) => Some((t.next, put_tag(s, t.tag, out, at))),
+        Ok(Some(EntryAt::Property(p))) => {
+            Some((p.next, put_property(s, p.key, p.literal, out, at)))
         }
-        EntryStep::Property(p) => {
-            let key = p.key;
-            let literal = p.literal;
-            let next = p.next;
-            let end = put_property(s, key, literal, out, at);
-            LineStep::On(next, end)
-        }
+        Ok(Some(EntryAt::Lost(d))) => Some((d, at)),
+        Ok(None) | Err(_) => None,
     }
 }
 
@@ -82,17 +59,11 @@ fn put_entries(s: &[u8], from: Cursor, out: &mut [u8], start: usize) -> usize
 {
     let mut c = from;
     let mut at = start;
-    loop {
-        match put_entry(s, c, out, at) {
-            LineStep::On(next, end) => {
-                c = next;
-                at = end;
-            }
-            LineStep::Done => {
-                return at;
-            }
-        }
+    while let Some((next, end)) = put_entry(s, c, out, at) {
+        c = next;
+        at = end;
     }
+    at
 }
 
 // Reads the tagged attribute with this prefix and writes its entries, `none` or the refusal at the start of out;
@@ -102,12 +73,11 @@ pub fn report_tagged(list: &[u8], prefix: &[u8], roles: &mut [u8], out: &mut [u8
         out.old out.new result }
 {
     match parse_tagged_attribute(list, prefix, roles) {
-        Tagged::Absent => put_bytes(out, 0, b"none\n"),
-        Tagged::Refused(r) => put_refusal(out, r),
-        Tagged::Read(e) => {
-            let first = e.first;
+        Ok(Some(e)) => {
             let names = put_bytes(out, 0, b"part name value\n");
-            put_entries(list, first, out, names)
+            put_entries(list, e.first, out, names)
         }
+        Ok(None) => put_bytes(out, 0, b"none\n"),
+        Err(r) => put_refusal(out, r),
     }
 }

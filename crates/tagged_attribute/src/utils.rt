@@ -1,22 +1,20 @@
 // virtue's src/utils.rs: parse_tagged_attribute.
-ghost use Rattle.std.specs.Prelude.{◌≡◌, [], ℕ, ◌+◌, ◌-◌, ◌^◌, ◌<◌, ◌≤◌, length, replicate};
+ghost use Rattle.std.specs.Prelude.{◌≡◌, ◌+◌, ◌^◌, ◌<◌, length};
 ghost use Rattle.std.proofs.lemmas.List.Edits.{sets};
-ghost use Rattle.token_list.specs.Check as list;
 ghost use Rattle.token_list.specs.Contract.{InList, start_of};
-ghost use Rattle.reading.specs.Role.{none as no-role};
 ghost use Rattle.parse.specs.Contract.{stream};
-ghost use Rattle.tagged_reading.specs.Role.{others};
-ghost use Rattle.tagged_reading.specs.Reading.{adding, before, FIRST_ENTRY, attribute, tagged};
+ghost use Rattle.tagged_reading.specs.Reading.{attribute, tagged};
 ghost use Rattle.tagged_reading.specs.Promise.{TaggedAssignment};
 ghost use Rattle.tagged_attribute.specs.Contract.{part_roles, tag_roles, property_roles, TakeRead, EnteredAs};
-ghost use Rattle.tagged_attribute.specs.Contract.{AloneAs, FoundAs, Passed, listed, entries_at, Fits, Given};
+ghost use Rattle.tagged_attribute.specs.Contract.{AloneAs, FoundAt, FoundAs, Passed, listed, Marked};
 ghost use Rattle.tagged_attribute.specs.Contract.{Answered, reads};
 
-use crate::entry::{EntryStep, entry};
+use crate::entry::{EntryAt, entry};
 use crate::role;
 use parse::role::NONE;
-use parse::utils::{Step, fill, fill_rest, ident_eq, past, set_role};
-use token_list::check::{Checked, Cursor, END, Refusal, check, start};
+use parse::utils::{fill, fill_rest, ident_eq, past, set_role};
+use token_list::check::{Cursor, END, Refusal, check, start};
+use token_list::refusal;
 use token_list::stream::{Peeked, look, peek, skip};
 
 // Where the entries begin, how many there are, and how many rows the list has, each with its role.
@@ -27,45 +25,13 @@ pub struct EntriesAt {
     pub rows: usize,
 }
 
-// The answer: the prefix does not stand there; the entries; or a refusal.
-#[derive(Clone, Copy)]
-pub enum Tagged {
-    Absent,
-    Read(EntriesAt),
-    Refused(Refusal),
-}
-
-// Where something is looked for in the list: it does not stand there, it begins at a cursor, or a refusal.
-#[derive(Clone, Copy)]
-pub enum Found {
-    Absent,
-    At(Cursor),
-    Refused(Refusal),
-}
-
-// So many entries were taken, up to a cursor; the end; or a refusal.
-#[derive(Clone, Copy)]
-pub enum TakeStep {
-    On(Cursor, usize),
-    Done,
-    Refused(Refusal),
-}
-
-// The cursor after the entries and their number, or a refusal.
-#[derive(Clone, Copy)]
-pub enum Entered {
-    At(Cursor, usize),
-    Refused(Refusal),
-}
-
 // The roles of a tag that ends before the row `end`.
 fn set_tag(roles: &mut [u8], row: usize, end: usize)
     requires { row + 1 < 2 ^ 64 }
     ensures { roles.new ≡ sets roles.old row (part_roles tag_roles row end) }
 {
     set_role(roles, row, role::TAG);
-    let below = row + 1;
-    fill(roles, below, end, role::OTHER);
+    fill(roles, row + 1, end, role::OTHER);
 }
 
 // The roles of a property that ends before the row `end`.
@@ -74,208 +40,135 @@ fn set_property(roles: &mut [u8], row: usize, end: usize)
     ensures { roles.new ≡ sets roles.old row (part_roles property_roles row end) }
 {
     set_role(roles, row, role::KEY);
-    let equals = row + 1;
-    set_role(roles, equals, role::OTHER);
-    let value = row + 2;
-    set_role(roles, value, role::VALUE);
-    let after = row + 3;
-    fill(roles, after, end, role::OTHER);
+    set_role(roles, row + 1, role::OTHER);
+    set_role(roles, row + 2, role::VALUE);
+    fill(roles, row + 3, end, role::OTHER);
 }
 
-// One entry with its roles.
-fn take_entry(s: &[u8], c: Cursor, roles: &mut [u8]) -> TakeStep
+// One entry with its roles: the cursor after it, and how many entries that adds; None at the end.
+fn take_entry(s: &[u8], c: Cursor, roles: &mut [u8]) -> Result<Option<(Cursor, usize)>, Refusal>
     requires { InList s.now c }
     ensures { TakeRead s.now c roles.old roles.new result }
 {
-    let row = c.row;
-    match entry(s, c) {
-        EntryStep::Done => TakeStep::Done,
-        EntryStep::Refused(r) => TakeStep::Refused(r),
-        EntryStep::Lost(d) => {
-            let end = d.row;
-            fill(roles, row, end, role::OTHER);
-            TakeStep::On(d, 0)
+    match entry(s, c)? {
+        None => Ok(None),
+        Some(EntryAt::Lost(d)) => {
+            fill(roles, c.row, d.row, role::OTHER);
+            Ok(Some((d, 0)))
         }
-        EntryStep::Tag(t) => {
-            let next = t.next;
-            let end = next.row;
-            set_tag(roles, row, end);
-            TakeStep::On(next, 1)
+        Some(EntryAt::Tag(t)) => {
+            set_tag(roles, c.row, t.next.row);
+            Ok(Some((t.next, 1)))
         }
-        EntryStep::Property(p) => {
-            let next = p.next;
-            let end = next.row;
-            set_property(roles, row, end);
-            TakeStep::On(next, 1)
+        Some(EntryAt::Property(p)) => {
+            set_property(roles, c.row, p.next.row);
+            Ok(Some((p.next, 1)))
         }
     }
 }
 
-// The entries from `from` to the end of their group.
-fn entries(s: &[u8], from: Cursor, roles: &mut [u8]) -> Entered
+// The entries from `from` to the end of their group: the cursor after them, and their number.
+fn entries(s: &[u8], from: Cursor, roles: &mut [u8]) -> Result<(Cursor, usize), Refusal>
     requires { InList s.now from }
     ensures { EnteredAs s.now from roles.old roles.new result }
 {
     let mut c = from;
     let mut count = 0;
-    loop {
-        match take_entry(s, c, roles) {
-            TakeStep::On(next, added) => {
-                c = next;
-                count += added;
-            }
-            TakeStep::Done => {
-                return Entered::At(c, count);
-            }
-            TakeStep::Refused(r) => {
-                return Entered::Refused(r);
-            }
-        }
+    while let Some((next, added)) = take_entry(s, c, roles)? {
+        c = next;
+        count += added;
     }
+    Ok((c, count))
 }
 
 // The inside of the one group that the list is.
-fn one_group(s: &[u8], first: Cursor) -> Step
+#[tactic(auto, using(parse::proofs::Meeting::past_in_of))]
+fn one_group(s: &[u8], first: Cursor) -> Result<Cursor, Refusal>
     requires in_list { InList s.now first }
     requires first_value { first ≡ start_of s.now }
     ensures { AloneAs s.now result }
 {
-    match peek(s, first) {
-        Peeked::Nothing => Step::Refused(Refusal {
-            number: 31,
-            place: END,
-        }),
-        Peeked::Leaf(_) => Step::Refused(Refusal {
-            number: 31,
-            place: 0,
-        }),
+    let place = match peek(s, first) {
+        Peeked::Nothing => END,
+        Peeked::Leaf(_) => 0,
         Peeked::Group(t) => {
             let inside = past(s, first, t);
             let after = skip(s, inside);
-            let l = look(s, after);
-            if l.kind != 0 {
-                let row = after.row;
-                return Step::Refused(Refusal {
-                    number: 31,
-                    place: row,
-                });
+            if look(s, after).kind == 0 {
+                return Ok(inside);
             }
-            Step::At(inside)
+            after.row
         }
-    }
+    };
+    Err(Refusal {
+        number: refusal::NOT_ONE_GROUP,
+        place,
+    })
 }
 
-// The inside of the group after the prefix.
-fn entries_of(s: &[u8], prefix: &[u8], inside: Cursor) -> Found
+// The inside of the group after the prefix, if both stand there.
+#[tactic(auto, using(parse::proofs::Meeting::past_in_of))]
+fn entries_of(s: &[u8], prefix: &[u8], inside: Cursor) -> Option<Cursor>
     requires in_list { InList s.now inside }
     requires row_value { inside.row ≡ 1 }
-    ensures { FoundAs s.now (attribute prefix.now (stream s.now inside)) result }
+    ensures { FoundAt s.now (attribute prefix.now (stream s.now inside)) result }
 {
     match peek(s, inside) {
-        Peeked::Nothing => Found::Absent,
-        Peeked::Group(_) => Found::Absent,
-        Peeked::Leaf(p) => {
-            if !ident_eq(s, p, prefix) {
-                return Found::Absent;
-            }
+        Peeked::Leaf(p) if ident_eq(s, p, prefix) => {
             let d = past(s, inside, p);
             match peek(s, d) {
-                Peeked::Nothing => Found::Absent,
-                Peeked::Leaf(_) => Found::Absent,
-                Peeked::Group(g) => Found::At(past(s, d, g)),
+                Peeked::Group(g) => Some(past(s, d, g)),
+                _ => None,
             }
         }
+        _ => None,
     }
 }
 
 // Where the entries begin.
-fn find(s: &[u8], prefix: &[u8]) -> Found
+fn find(s: &[u8], prefix: &[u8]) -> Result<Option<Cursor>, Refusal>
     requires { Passed s.now }
     ensures { FoundAs s.now (tagged prefix.now (listed s.now)) result }
 {
-    let first = start(s);
-    match one_group(s, first) {
-        Step::Refused(r) => Found::Refused(r),
-        Step::At(inside) => entries_of(s, prefix, inside),
+    let inside = one_group(s, start(s))?;
+    Ok(entries_of(s, prefix, inside))
+}
+
+// The entries, their roles, and no role behind the list's rows; whatever bytes where there are none.
+fn read(s: &[u8], prefix: &[u8], roles: &mut [u8]) -> Result<Option<EntriesAt>, Refusal>
+    ensures { Marked prefix.now s.now result roles.old roles.new }
+{
+    let rows = check(s)?;
+    if roles.len() < rows {
+        return Err(Refusal {
+            number: refusal::SHORT_BUFFER,
+            place: END,
+        });
     }
-}
-
-// No role in any byte.
-fn clear(roles: &mut [u8])
-    ensures { roles.new ≡ replicate (length roles.old) no-role }
-{
-    let len = roles.len();
-    fill(roles, 0, len, NONE);
-}
-
-// A refusal: every role byte is 255, no role.
-fn refuse(roles: &mut [u8], r: Refusal) -> Tagged
-    ensures value { result ≡ Tagged.Refused r }
-    ensures roles_after { roles.new ≡ replicate (length roles.old) no-role }
-{
-    clear(roles);
-    Tagged::Refused(r)
-}
-
-// The entries from `first` on, and the roles of all rows.
-fn read_entries(s: &[u8], first: Cursor, roles: &mut [u8], rows: usize) -> Tagged
-    requires in_list { InList s.now first }
-    requires row_value { first.row ≡ FIRST_ENTRY }
-    requires rows_in_bounds { rows ≤ length roles.old }
-    ensures { (behind : ℕ) → Fits (entries_at s.now first) behind rows →
-        Given s.now (adding [] (others FIRST_ENTRY) (before behind (entries_at s.now first)))
-        result roles.old roles.new }
-{
-    let start = first.row;
-    fill(roles, 0, start, role::OTHER);
-    match entries(s, first, roles) {
-        Entered::Refused(r) => refuse(roles, r),
-        Entered::At(d, count) => {
-            let end = d.row;
-            fill_rest(roles, end, rows, role::OTHER);
-            Tagged::Read(EntriesAt { first, count, rows })
-        }
-    }
-}
-
-// Reads a list that passed the check with so many rows, with a role byte for each.
-fn read(s: &[u8], prefix: &[u8], roles: &mut [u8], rows: usize) -> Tagged
-    requires s_value { list.check s.now ≡ list.passed rows }
-    requires rows_in_bounds { rows ≤ length roles.old }
-    ensures { Given s.now (tagged prefix.now (listed s.now)) result
-        roles.old roles.new }
-{
-    match find(s, prefix) {
-        Found::Refused(r) => refuse(roles, r),
-        Found::Absent => {
-            clear(roles);
-            Tagged::Absent
-        }
-        Found::At(first) => read_entries(s, first, roles, rows),
-    }
+    let Some(first) = find(s, prefix)? else {
+        return Ok(None);
+    };
+    fill(roles, 0, first.row, role::OTHER);
+    let (end, count) = entries(s, first, roles)?;
+    fill_rest(roles, end.row, rows, role::OTHER);
+    Ok(Some(EntriesAt { first, count, rows }))
 }
 
 // virtue's parse_tagged_attribute, of a list that is the attribute's group: the entries and their role bytes, or 255
-// throughout.
-pub fn parse_tagged_attribute(s: &[u8], prefix: &[u8], roles: &mut [u8]) -> Tagged
+// throughout; None where the prefix does not stand there.
+pub fn parse_tagged_attribute(
+    s: &[u8],
+    prefix: &[u8],
+    roles: &mut [u8],
+) -> Result<Option<EntriesAt>, Refusal>
     ensures answered { Answered prefix.now s.now result roles.old
         roles.new }
     ensures assigned { TaggedAssignment prefix.now s.now (length roles.old)
         (reads result) roles.new }
 {
-    match check(s) {
-        Checked::Refused(r) => refuse(roles, r),
-        Checked::Passed(rows) => {
-            if roles.len() < rows {
-                return refuse(
-                    roles,
-                    Refusal {
-                        number: 8,
-                        place: END,
-                    },
-                );
-            }
-            read(s, prefix, roles, rows)
-        }
+    let answer = read(s, prefix, roles);
+    if !matches!(answer, Ok(Some(_))) {
+        roles.fill(NONE);
     }
+    answer
 }

@@ -1,5 +1,6 @@
 -- How much a list that passes the check may hold: its bytes, its rows, and the texts of its stream; the numbers and
 -- places of refusals.
+use Rattle.std.specs.Prelude.{Result}
 use mathlib.Core.Path.{◌≡◌, refl, ap, ◌∙◌, sym, subst}
 use mathlib.Core.Logic.{inl, inr}
 use mathlib.Core.Bool.{Bool, true, false, cond}
@@ -16,7 +17,7 @@ use Rattle.token_list.specs.Row.{form, mark_column_lem}
 use Rattle.token_list.specs.Check.{Answer, passed, refused, END, Open, step, walk, named, check}
 use Rattle.token_list.specs.Place.{OneRefusal, check_number}
 use Rattle.token_list.specs.Contract.{checked, CheckedAs}
-use Rattle.token_list.specs.declared.check.Checked.{Checked}
+use Rattle.token_list.specs.declared.check.Refusal.{Refusal}
 use Rattle.token_list.specs.Stream.{Trees, end, leaf, group, Streams, head, others, before, streams, rows_at, at}
 use Rattle.token_list.proofs.Streams.{before-close, before_open, before_leaf}
 use Rattle.token_list.proofs.Passed.{passed_list}
@@ -113,7 +114,7 @@ check-refusal s n p e = go refl (rw e at (check_limited s))
           });
         }
 
-pub checked_as : (s : List ℕ) (r : Checked) → checked r ≡ check s → CheckedAs s r
+pub checked_as : (s : List ℕ) (r : Result ℕ Refusal) → checked r ≡ check s → CheckedAs s r
 checked_as s r e = record { answer = e; refusal = λ n p q. check-refusal s n p (sym e ∙ q) }
 
 -- ## Texts

@@ -1,4 +1,7 @@
 -- Laws on what stands before a row's text, with marks or without, and on the offset of the first row.
+use Rattle.std.specs.Prelude.{Option, Some, None, IfSome}
+use Rattle.std.proofs.lemmas.Option.{IfSome_then}
+use lib.Pointwise.{pointwise}
 use mathlib.Core.Path.{◌≡◌, refl, ap, ◌∙◌, sym, subst}
 use mathlib.Core.Bool.{Bool, true, false, not, cond, ◌&&◌, ◌||◌, beq, false≢true}
 use mathlib.Core.List.{List, [], ◌∷◌, ◌++◌}
@@ -8,20 +11,21 @@ use borrow.Author.Tests.{eqb-true, le-leb, leb-true, ltb-true, ltb-false}
 use lib.Dec.{eqb, leb, ltb}
 use lib.ListN.{length, get_or, take, drop, length-drop}
 use lib.ListN.{get_or-eq_default}
-use lib.Seq.{drop-drop, get_or-drop}
+use lib.Seq.{drop-drop}
 use Rattle.token_list.specs.Byte.{ONE, QUOTE, SPACE, ZERO, code}
-use Rattle.token_list.specs.Text.{LF}
+use Rattle.token_list.specs.Text.{same, LF}
 use Rattle.token_list.specs.Layout.{names, marked, first_row, text_offset, PUNCT}
 use Rattle.token_list.specs.Row.{Row, Lines, tail, line, lines, front, byte, wrong, form, text_form, first}
 use Rattle.token_list.specs.Row.{mark_fits, columns_fit, own_mark_lem, mark_of, line_row_lem, row_of, mark_byte}
 use Rattle.token_list.specs.Row.{mark_column_lem}
 use Rattle.token_list.specs.Row.{right_mark}
 use Rattle.token_list.specs.Check.{named}
-use Rattle.token_list.specs.Contract.{shape, formed, spaced, mark_stands_lem, RowShaped, TextShaped, ColumnShaped}
+use Rattle.token_list.specs.Contract.{line_form, formed, spaced, mark_stands_lem, RowShaped, TextShaped, ColumnShaped}
 use Rattle.token_list.specs.declared.row.Line.{Line}
-use Rattle.token_list.proofs.Texts.{chosen, passed_over, and_fails, and_last, and_parts, drop_next, same_fits}
+use Rattle.token_list.proofs.Texts.{chosen, passed_over, and_fails, and_last}
+use Rattle.token_list.proofs.Texts.{and_parts, drop_next, same_fits, same_pointwise, same_swap}
 use Rattle.token_list.proofs.Lines.{prepend, joined, joined_lines}
-use Rattle.token_list.proofs.Forms.{lf_kind}
+use Rattle.token_list.proofs.Forms.{lf_kind, no_line, no_shape}
 
 -- ## Offsets
 
@@ -212,7 +216,7 @@ columns_wrong m bs e = go (lines bs) (joined_lines bs)
 
 -- ## The row at an offset, by its columns and its text
 
-row-shaped : (m : Bool) (s : List ℕ) (i : ℕ) (r : Line) → columns_fit m (drop i s) ≡ true →
+row-shaped : (m : Bool) (s : List ℕ) (i : ℕ) (r : Option Line) → columns_fit m (drop i s) ≡ true →
     TextShaped (first (drop i s)) s (i + text_offset m) r → RowShaped m s i r
 row-shaped m s i r e t =
     let off = text_offset m in
@@ -222,16 +226,18 @@ row-shaped m s i r e t =
     let low = offset_low m in
     record {
       right = t.right ∙ sym same;
-      past = λ w. let p = t.past w in (omega (arith, low, p.0), p.1);
-      rest = λ w. let x = t.rest w in kind (eqb (first bs) LF) refl w x;
+      past = IfSome_then r t.past (λ x p. (omega (arith, low, p.0), p.1));
+      rest = kind r (eqb (first bs) LF) refl t.right t.rest;
     }
   where
-    kind : (b : Bool) → eqb (first (drop i s)) LF ≡ b → (shape r.shape ≡ wrong → ⊥)
-        → (l : List ℕ) × (lines (drop (i + text_offset m) s) ≡ line l (lines (drop r.next s)))
-        → (l : List ℕ) × (lines (drop i s) ≡ line l (lines (drop r.next s)))
-    kind true q w x = absurd (w (t.right ∙ lf_formed (first (drop i s)) (lines (drop (i + text_offset m) s)) (eqb-true
-        (first (drop i s)) LF q)))
-    kind false q w x = (
+    kind : (r : Option Line) (b : Bool) → eqb (first (drop i s)) LF ≡ b
+        → line_form r ≡ formed (text_form (first (drop i s))) (lines (drop (i + text_offset m) s))
+        → IfSome r (λ x. (l : List ℕ) × (lines (drop (i + text_offset m) s) ≡ line l (lines (drop x.next s))))
+        → IfSome r (λ x. (l : List ℕ) × (lines (drop i s) ≡ line l (lines (drop x.next s))))
+    kind None b q right x = tt
+    kind (Some l) true q right x = absurd (no_shape l.shape (right ∙ lf_formed (first (drop i s))
+        (lines (drop (i + text_offset m) s)) (eqb-true (first (drop i s)) LF q)))
+    kind (Some l) false q right x = (
       take (text_offset m) (drop i s) ++ x.0,
       columns_line m (drop i s) e q ∙ ap (λ (ls : Lines). prepend (take (text_offset m) (drop i s)) ls)
           (ap lines (drop-drop (text_offset m) i s) ∙ x.1),
@@ -340,7 +346,7 @@ module _ (m : Bool) (s : List ℕ) (at : ℕ) where
       (ap (λ (x : Bool). columns_fit x (drop at s)) e ∙ columns_marked s at ∙ and_fails _ _ stands)
 
   -- the row by what stands behind its last column
-  pub row-column : (column : ℕ) (r : Line) → LastColumn m s at column → ColumnShaped (get_or s at 0) s column r →
+  pub row-column : (column : ℕ) (r : Option Line) → LastColumn m s at column → ColumnShaped (get_or s at 0) s column r →
       RowShaped m s at r
   row-column column r l c = go (spaced s column) refl
     where
@@ -353,12 +359,9 @@ module _ (m : Bool) (s : List ℕ) (at : ℕ) where
       go false e =
           let w = c.none e in
           let g = columns_wrong m (drop at s) (l.fits ∙ e) in
-          record { right = w ∙ sym g; past = λ x. absurd (x w); rest = λ x. absurd (x w) }
+          record { right = w ∙ sym g; past = no_line _ r w; rest = no_line _ r w }
 
 -- ## Marks byte by byte
-
-pub mark_column : (s : List ℕ) (i : ℕ) → eqb (get_or s (i + 2) 0) ONE ≡ mark_of true (drop i s)
-mark_column s i = ap (λ (b : ℕ). eqb b ONE) (sym (get_or-drop i s 2 0))
 
 pub own_mark : (s : List ℕ) (i : ℕ) → i + 2 < length s →
     mark_of false (drop i s) ≡ (eqb (get_or s i 0) PUNCT && eqb (get_or s (i + 2) 0) QUOTE)
@@ -372,10 +375,6 @@ pub marked-short : (s : List ℕ) → length s ≤ 5 → marked s ≡ false
 unfolding marked
 marked-short s h = ap (λ (b : ℕ). eqb b (code "j")) (get_or-eq_default s 0 h)
 
-pub marked-byte : (s : List ℕ) → eqb (get_or s 5 0) (code "j") ≡ marked s
-unfolding marked
-marked-byte s = refl
-
 pub first-row_by : (s : List ℕ) (m : Bool) → marked s ≡ m → length (names m) ≡ first_row s
 unfolding first_row
 first-row_by s m e = sym (ap (λ (x : Bool). length (names x)) e)
@@ -384,3 +383,11 @@ first-row_by s m e = sym (ap (λ (x : Bool). length (names x)) e)
 pub names-within : (s : List ℕ) → named s ≡ true → first_row s ≤ length s
 unfolding first_row
 names-within s e = same_fits s (names (marked s)) (length (names (marked s))) e
+
+-- a list that begins with the one of the two lines of names that it can have
+pub starts_named : (s : List ℕ) (m : Bool) → marked s ≡ m
+    → pointwise eqb (names m) (take (length (names m)) s) ≡ named s
+unfolding first_row
+starts_named s m e =
+    same_pointwise (names m) _ ∙ same_swap (names m) _
+    ∙ ap (λ (x : Bool). same (take (length (names x)) s) (names x)) (sym e)

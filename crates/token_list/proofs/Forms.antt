@@ -1,10 +1,12 @@
 -- Laws on the form of a row, by its kind.
+use Rattle.std.specs.Prelude.{Option, Some, None, IfSome}
+use Rattle.std.proofs.lemmas.Option.{IfSome_then}
 use mathlib.Core.Path.{◌≡◌, refl, ap, ◌∙◌, sym}
 use mathlib.Core.Bool.{Bool, true, false, cond, ◌&&◌, ◌||◌, false≢true}
 use mathlib.Core.List.{List, [], ◌∷◌}
 use Prim.Native.Nat.{ℕ, ◌+◌, ◌-◌, ◌≤◌, ◌<◌}
 use native.Mathlib.Omega.{arith}
-use borrow.Author.Tests.{eq-eqb, ne_eqb, eqb-true, eqb-false, le-leb, lt-leb, leb-true, ltb-true, lt-ltb}
+use borrow.Author.Tests.{eq-eqb, ne_eqb, eqb-true, eqb-false, le-leb, leb-true, ltb-true, lt-ltb}
 use lib.Dec.{eqb, leb, ltb}
 use lib.ListN.{length, get_or, drop}
 use lib.Seq.{slice, length-slice}
@@ -15,9 +17,11 @@ use Rattle.token_list.specs.Text.{printable, single, punctuation, opening, closi
 use Rattle.token_list.specs.Row.{line, lines, front, Form, plain, opens, closed, wrong, form_of, text_form}
 use Rattle.token_list.specs.Row.{first}
 use Rattle.token_list.specs.Check.{is_row}
-use Rattle.token_list.specs.Contract.{shape, single_form, one_byte_lem, formed, in_text, TokenLine}
+use Rattle.token_list.specs.Contract.{shape, line_form, token, one_byte_lem, formed, in_text, TokenEnd}
 use Rattle.token_list.specs.Contract.{TextShaped, ColumnShaped}
 use Rattle.token_list.specs.declared.row.Line.{Line}
+use Rattle.token_list.specs.declared.row.Shape.{Shape}
+use Rattle.token_list.specs.declared.row.Shape.TheVariants.{Plain, Opens, Closed}
 use Rattle.token_list.proofs.Texts.{chosen, passed_over, only, single_only, first_only, slice_next, slice-none}
 use Rattle.token_list.proofs.Texts.{and_last, and_both, and_parts, or_holds}
 use Rattle.token_list.proofs.Lines.{lines-byte, lines_end}
@@ -38,6 +42,13 @@ single_choice p f t e = rw (single_only p t e) (go (p (only t)) refl)
     go : (b : Bool) → p (only t) ≡ b → cond b (f (first t)) wrong ≡ cond b (f (only t)) wrong
     go true q = ap f (first_only p t e q)
     go false q = refl
+
+-- the form of a row of kind p, o or c whose text is the one byte b
+abbrev single_form : ℕ → ℕ → Form
+single_form k b =
+    cond (eqb k PUNCT) (cond (punctuation b) plain wrong)
+    (cond (eqb k OPEN) (cond (opening b) (opens b) wrong)
+    (cond (eqb k CLOSE) (cond (closing b) (closed b) wrong) wrong))
 
 pub single-form : (k : ℕ) (t : List ℕ) → (k ≡ IDENT → ⊥) → (k ≡ LITERAL → ⊥) → form_of k t ≡ single_form k (only t)
 unfolding form_of
@@ -70,24 +81,14 @@ literal-shown b e = go (digit b) refl e
         (le-leb 32 b (omega (arith, leb-true 48 b h.0))) (le-leb b 126 (omega (arith, leb-true b 57 h.1)))
     go false d q = member_passes printable b (34 ∷ 39 ∷ 98 ∷ 99 ∷ 114 ∷ []) refl q
 
-pub name-byte : (b : ℕ) → name (b ∷ []) ≡ name_start b
-name-byte b = go (name_start b)
-  where
-    go : (x : Bool) → ((x && true) || false) ≡ x
-    go true = refl
-    go false = refl
-
-pub literal-byte : (b : ℕ) → literal (b ∷ []) ≡ literal_start b
-literal-byte b = go (literal_start b) refl
+pub literal_byte : (b : ℕ) → literal (b ∷ []) ≡ literal_start b
+literal_byte b = go (literal_start b) refl
   where
     go : (x : Bool) → literal_start b ≡ x → (x && (printable b && true)) ≡ x
     go true e = ap (λ (y : Bool). y && true) (literal-shown b e)
     go false e = refl
 
 -- ## The form of a text by its length
-
-pub text_long : (k : ℕ) (t : List ℕ) → 255 < length t → text_form k t ≡ wrong
-text_long k t h = passed_over _ _ _ (lt-leb _ _ h)
 
 pub text-right : (k : ℕ) (t : List ℕ) → length t ≤ 255 → text_form k t ≡ form_of k t
 text-right k t h = chosen _ _ _ (le-leb _ _ h)
@@ -106,6 +107,15 @@ literal_fits k b t e n f = literal-form k (b ∷ t) e ∙ chosen _ _ _ (and_both
 -- a row's form is not wrong
 pub no_wrong : {f : Form} → f ≡ wrong → is_row f ≡ true → ⊥
 no_wrong e r = false≢true (sym (ap is_row e) ∙ r)
+
+pub no_shape : (x : Shape) → shape x ≡ wrong → ⊥
+no_shape Plain e = no_wrong e refl
+no_shape (Opens d) e = no_wrong e refl
+no_shape (Closed d) e = no_wrong e refl
+
+pub no_line : (P : Line → Type 0) (r : Option Line) → line_form r ≡ wrong → IfSome r P
+no_line P None e = tt
+no_line P (Some x) e = absurd (no_shape x.shape e)
 
 -- no kind is an LF
 pub lf_kind : (k : ℕ) (t : List ℕ) → k ≡ LF → form_of k t ≡ wrong
@@ -151,39 +161,32 @@ one_byte_parts s i e =
     let q = and_parts (eqb (get_or s (i + 1) 0) SPACE) _ p.1 in
     record { within = ltb-true _ _ p.0; space = eqb-true _ _ q.0; lf = eqb-true _ _ q.1 }
 
--- a text behind a space that is not of one byte
-pub not_one_byte : (s : List ℕ) (i e : ℕ) → one_byte_lem s i ≡ false → get_or s (i + 1) 0 ≡ SPACE → e < length s →
-    get_or s e 0 ≡ LF → i + 2 + 1 ≡ e → ⊥
-not_one_byte s i e o space h q n =
-    let last : e ≡ i + 3 = omega (arith, n) in
-    false≢true
-    (sym o
-    ∙ and_both _ _ (lt-ltb (i + 3) (length s) (omega (arith, h, n)))
-    (and_both _ _ (eq-eqb _ _ space) (eq-eqb _ _ (ap (λ (k : ℕ). get_or s k 0) (sym last) ∙ q))))
-
 -- an LF stands in no text
 lf_no_text : (names : Bool) (b : ℕ) → in_text names b ≡ true → b ≡ LF → ⊥
 lf_no_text true b f e = false≢true (sym (ap name_part e) ∙ f)
 lf_no_text false b f e = false≢true (sym (ap printable e) ∙ f)
 
-module _ (k : ℕ) (s : List ℕ) (at : ℕ) (r : Line) where
+module _ (k : ℕ) (s : List ℕ) (at : ℕ) (r : Option Line) where
   -- the text from `at` to e
   pub quick_row : (e : ℕ) → at ≤ e → e < length s → lines (drop at s) ≡ line (slice at e s) (lines (drop (e + 1) s))
-      → e - at ≤ 255 → r.next ≡ e + 1 → shape r.shape ≡ form_of k (slice at e s) → TextShaped k s at r
+      → e - at ≤ 255 → IfSome r (λ x. x.next ≡ e + 1) → line_form r ≡ form_of k (slice at e s) → TextShaped k s at r
   quick_row e h w l few n f =
       let short : length (slice at e s) ≤ 255 = omega (arith, length-slice at e s (omega arith)) in
       record {
         right = f ∙ sym (ap (formed (text_form k)) l ∙ text-right k (slice at e s) short);
-        past = λ x. (omega (arith, n), omega (arith, n));
-        rest = λ x. (slice at e s, l ∙ ap (λ (m : ℕ). line (slice at e s) (lines (drop m s))) (sym n));
+        past = IfSome_then r n (λ x q. (omega (arith, q), omega (arith, q)));
+        rest = IfSome_then r n (λ x q. (
+          slice at e s,
+          l ∙ ap (λ (m : ℕ). line (slice at e s) (lines (drop m s))) (sym q),
+        ));
       }
 
-  pub no_row : shape r.shape ≡ wrong → formed (text_form k) (lines (drop at s)) ≡ wrong → TextShaped k s at r
-  no_row e g = record { right = e ∙ sym g; past = λ x. absurd (x e); rest = λ x. absurd (x e) }
+  pub no_row : line_form r ≡ wrong → formed (text_form k) (lines (drop at s)) ≡ wrong → TextShaped k s at r
+  no_row e g = record { right = e ∙ sym g; past = no_line _ r e; rest = no_line _ r e }
 
   -- a text of one byte
-  pub quick_byte : at + 1 < length s → get_or s (at + 1) 0 ≡ LF → r.next ≡ at + 2 →
-      shape r.shape ≡ form_of k (get_or s at 0 ∷ []) → TextShaped k s at r
+  pub quick_byte : at + 1 < length s → get_or s (at + 1) 0 ≡ LF → IfSome r (λ x. x.next ≡ at + 2) →
+      line_form r ≡ form_of k (get_or s at 0 ∷ []) → TextShaped k s at r
   quick_byte h q n f = mark (eqb (get_or s at 0) LF) refl
     where
       text : slice at (at + 1) s ≡ get_or s at 0 ∷ []
@@ -200,38 +203,30 @@ module _ (k : ℕ) (s : List ℕ) (at : ℕ) (r : Line) where
           let l : lines (drop at s) ≡ line (get_or s at 0 ∷ []) (lines (drop (at + 1 + 1) s)) =
           lines-byte s at (omega arith) (eqb-false _ _ e) ∙ ap (front (get_or s at 0)) (lines_end s (at + 1) h q) in
           quick_row (at + 1) (omega arith) h (l ∙ ap (λ (x : List ℕ). line x (lines (drop (at + 1 + 1) s)))
-          (sym text)) (omega arith) (omega (arith, n))
+          (sym text)) (omega arith) (IfSome_then r n (λ x q. omega (arith, q)))
           (f ∙ ap (form_of k) (sym text))
 
+module _ (k : ℕ) (s : List ℕ) (at : ℕ) where
   -- a token that is found by its text's end
   pub quick_token : (names : Bool) → in_text names (get_or s at 0) ≡ true
       → ((t : List ℕ) → all (in_text names) (get_or s at 0 ∷ t) ≡ true → form_of k (get_or s at 0 ∷ t) ≡ plain)
-      → TokenLine s names at r → (shape r.shape ≡ wrong → ⊥) → TextShaped k s at r
-  quick_token names fit form tl w =
-      let x = tl.ends w in
-      let e = x.0 in
-      let te = x.1 in
+      → (n : ℕ) → TokenEnd s names at n → TextShaped k s at (token (Some n))
+  quick_token names fit form n x =
+      let e = x.end in
+      let te = x.text in
       let b = get_or s at 0 in
       let text : slice at e s ≡ b ∷ slice (at + 1) e s =
-      slice_next s at e (omega (arith, te.start)) (omega (arith, x.2)) in
+      slice_next s at e (omega (arith, te.start)) (omega (arith, x.within)) in
       let l : lines (drop at s) ≡ line (slice at e s) (lines (drop (e + 1) s)) =
-      lines-byte s at (omega (arith, te.start, x.2)) (lf_no_text names b fit)
-      ∙ ap (front b) (te.line x.2 x.3) ∙ ap (λ (y : List ℕ). line y (lines (drop (e + 1) s))) (sym text) in
-      quick_row e (omega (arith, te.start)) x.2 l x.4 x.5
-      (tl.told w ∙ sym (ap (form_of k) text ∙ form _ (and_both _ _ fit te.fits)))
+      lines-byte s at (omega (arith, te.start, x.within)) (lf_no_text names b fit)
+      ∙ ap (front b) (te.line x.within x.lf) ∙ ap (λ (y : List ℕ). line y (lines (drop (e + 1) s))) (sym text) in
+      quick_row k s at (token (Some n)) e (omega (arith, te.start)) x.within l x.short x.next
+      (sym (ap (form_of k) text ∙ form _ (and_both _ _ fit te.fits)))
 
 -- ## Rows by what stands behind a column
 
-module _ (k : ℕ) (s : List ℕ) (i : ℕ) (r : Line) where
+module _ (k : ℕ) (s : List ℕ) (i : ℕ) (r : Option Line) where
   pub behind_space : i + 1 < length s → get_or s (i + 1) 0 ≡ SPACE → TextShaped k s (i + 2) r → ColumnShaped k s i r
   behind_space h e t =
       let yes = and_both _ _ (lt-ltb (i + 1) (length s) h) (eq-eqb _ _ e) in
       record { text = λ x. t; none = λ no. absurd (false≢true (sym no ∙ yes)) }
-
-  pub no_space : (i + 1 < length s → get_or s (i + 1) 0 ≡ SPACE → ⊥) → shape r.shape ≡ wrong → ColumnShaped k s i r
-  no_space n w =
-      record {
-        text = λ yes. let p = and_parts (ltb (i + 1) (length s)) _ yes in
-            absurd (n (ltb-true _ _ p.0) (eqb-true _ _ p.1));
-        none = λ x. w;
-      }

@@ -1,50 +1,84 @@
 -- Two texts compared from the last byte to the first.
-use mathlib.Core.Path.{◌≡◌, refl, sym, ◌∙◌, ap, subst}
-use mathlib.Core.Bool.{Bool, true, false, cond}
-use mathlib.Core.List.{List, [], ◌∷◌, ◌++◌, reverse, reverse-cons, reverse-append}
-use Prim.Native.Nat.{ℕ, suc, ◌+◌, ◌-◌, ◌≤◌, ◌<◌}
-use native.Mathlib.Numerals.{add-one}
+use Rattle.std.specs.Prelude.{Option, Some, None, is_some}
+use Rattle.std.specs.Option.{unwrap_or}
+use Rattle.std.proofs.lemmas.List.{reverse-reverse}
+use Rattle.std.specs.List.{position, position_or_len, zip}
+use mathlib.Core.Path.{◌≡◌, refl, sym, ◌∙◌, ap, subst⁻¹}
+use mathlib.Core.Bool.{Bool, true, false, cond, true≢false}
+use mathlib.Core.List.{List, [], ◌∷◌, reverse}
+use Prim.Native.Nat.{ℕ, suc, ◌+◌, ◌≤◌, ◌<◌}
 use native.Mathlib.Omega.{arith}
-use borrow.Author.Tests.{eq-eqb, ne_eqb}
-use lib.Dec.{eqb}
-use lib.ListN.{length, get_or, take, drop, length-drop, length-reverse}
-use lib.Seq.{split_at, append_snoc}
+use borrow.Author.Tests.{eq-eqb, ne_eqb, eqb-true, eqb-false, ltb-true, ltb-false}
+use lib.Dec.{eqb, ltb}
+use lib.ListN.{length, get_or, drop, length-reverse}
 use Rattle.token_list.specs.Text.{same}
-use Rattle.token_list.specs.Pairs.{until_unequal_lem, pairs}
+use Rattle.token_list.specs.Pairs.{until_unequal, unequal, pairs}
 use Rattle.token_list.specs.Contract.{ComparedAs}
-use Rattle.token_list.proofs.Texts.{chosen, passed_over, drop_next, same_self, same_path, same_length}
+use Rattle.token_list.proofs.Texts.{chosen, passed_over, same_self, same_path, same_length}
 
 -- ## Up to the first unequal pair
 
-until_all : (xs : List ℕ) → until_unequal_lem xs xs ≡ length xs
-until_all [] = refl
-until_all (x ∷ xs) = let rest = until_all xs in chosen _ _ _ (eq-eqb x x refl) ∙ omega (arith, rest)
+-- how many pairs before the first unequal one, or all
+abbrev equal : List ℕ → List ℕ → ℕ
+equal xs ys = position_or_len unequal (zip xs ys)
 
-until_unequal : (p xs ys : List ℕ) (x y : ℕ) → (x ≡ y → ⊥)
-    → until_unequal_lem (p ++ x ∷ xs) (p ++ y ∷ ys) ≡ length p + 1
-until_unequal [] xs ys x y n = passed_over _ _ _ (ne_eqb x y n)
-until_unequal (z ∷ p) xs ys x y n =
-    let rest = until_unequal p xs ys x y n in chosen _ _ _ (eq-eqb z z refl) ∙ omega (arith, rest)
+zip_length : (xs ys : List ℕ) → length xs ≡ length ys → length (zip xs ys) ≡ length xs
+zip_length [] ys l = refl
+zip_length (x ∷ xs) [] l = absurd (omega (arith, l))
+zip_length (x ∷ xs) (y ∷ ys) l = ap suc (zip_length xs ys (omega (arith, l)))
 
-until_most : (xs ys : List ℕ) → until_unequal_lem xs ys ≤ length xs
+-- an unequal pair there, or none
+record Parted (xs ys : List ℕ) (n : ℕ) : Type 0 where
+  unequal : n < length xs → (until_unequal xs ys ≡ n + 1) × (xs ≡ ys → ⊥)
+  same : length xs ≤ n → (until_unequal xs ys ≡ length xs) × (xs ≡ ys)
+
+parted : (xs ys : List ℕ) → length xs ≡ length ys → Parted xs ys (equal xs ys)
+parted [] [] l = record { unequal = λ h. absurd (omega (arith, h)); same = λ h. (refl, refl) }
+parted [] (y ∷ ys) l = absurd (omega (arith, l))
+parted (x ∷ xs) [] l = absurd (omega (arith, l))
+parted (x ∷ xs) (y ∷ ys) l = go (eqb x y) refl (parted xs ys (omega (arith, l)))
+  where
+    go : (t : Bool) → eqb x y ≡ t → Parted xs ys (equal xs ys) → Parted (x ∷ xs) (y ∷ ys) (equal (x ∷ xs) (y ∷ ys))
+    go true e p = subst⁻¹ (Parted (x ∷ xs) (y ∷ ys)) next (record {
+      unequal = λ h. let q = p.unequal (omega (arith, h)) in
+          (chosen _ _ _ e ∙ omega (arith, q.0), λ s. q.1 (ap (drop 1) s));
+      same = λ h. let q = p.same (omega (arith, h)) in
+          (chosen _ _ _ e ∙ omega (arith, q.0), λ i. eqb-true x y e i ∷ q.1 i);
+    })
+      where
+        next : equal (x ∷ xs) (y ∷ ys) ≡ 1 + equal xs ys
+        next = rw e refl
+    go false e p = subst⁻¹ (Parted (x ∷ xs) (y ∷ ys)) none (record {
+      unequal = λ h. (passed_over _ _ _ e, λ s. eqb-false x y e (ap (λ (l : List ℕ). get_or l 0 0) s));
+      same = λ h. absurd (omega (arith, h));
+    })
+      where
+        none : equal (x ∷ xs) (y ∷ ys) ≡ 0
+        none = rw e refl
+
+until_most : (xs ys : List ℕ) → until_unequal xs ys ≤ length xs
 until_most [] ys = omega arith
 until_most (x ∷ xs) [] = omega arith
 until_most (x ∷ xs) (y ∷ ys) = go (eqb x y) (until_most xs ys)
   where
-    go : (t : Bool) → until_unequal_lem xs ys ≤ length xs → cond t (1 + until_unequal_lem xs ys) 1 ≤ suc (length xs)
+    go : (t : Bool) → until_unequal xs ys ≤ length xs → cond t (1 + until_unequal xs ys) 1 ≤ suc (length xs)
     go true rest = omega (arith, rest)
     go false rest = omega arith
 
--- a text from its last byte, cut around the one at i
-reverse_at : (s : List ℕ) (i : ℕ) → i < length s
-    → reverse s ≡ reverse (drop (i + 1) s) ++ get_or s i 0 ∷ reverse (take i s)
-reverse_at s i h =
-    let x = get_or s i 0 in
-    let rest = drop (suc i) s in
-    let cut : reverse s ≡ reverse rest ++ x ∷ reverse (take i s) =
-    ap reverse (split_at s i 0 h) ∙ reverse-append (take i s) (x ∷ rest)
-    ∙ ap (λ (r : List ℕ). r ++ reverse (take i s)) (reverse-cons x rest) ∙ append_snoc (reverse rest) x _ in
-    rw add-one cut
+-- what a position tells
+found : (k m n : ℕ) → Some n ≡ cond (ltb k m) (Some k) None → (n ≡ k) × (k < m)
+found k m n e = go (ltb k m) refl e
+  where
+    go : (t : Bool) → ltb k m ≡ t → Some n ≡ cond t (Some k) None → (n ≡ k) × (k < m)
+    go true q e = (ap (λ (o : Option ℕ). unwrap_or o 0) e, ltb-true k m q)
+    go false q e = absurd (true≢false (ap is_some e))
+
+none_found : (k m : ℕ) → None ≡ cond (ltb k m) (Some k) None → m ≤ k
+none_found k m e = go (ltb k m) refl e
+  where
+    go : (t : Bool) → ltb k m ≡ t → None ≡ cond t (Some k) None → m ≤ k
+    go true q e = absurd (true≢false (sym (ap is_some e)))
+    go false q e = ltb-false k m q
 
 -- ## The comparison
 
@@ -53,52 +87,48 @@ module _ (a b : List ℕ) where
   compared_lengths n =
       record { same = sym (same_length a b n); pairs = sym (passed_over _ _ _ (ne_eqb (length a) (length b) n)) }
 
-  -- all pairs are equal
-  pub compared_equal : (n : ℕ) → n ≡ length a → drop (length a - n) a ≡ drop (length a - n) b →
-      ComparedAs a b (record { same = true; pairs = n })
-  compared_equal n all rest =
-      let none : length a - n ≡ 0 = omega arith in
-      let e : a ≡ b = subst (λ (k : ℕ). drop k a ≡ drop k b) none rest in
-      let counted = ap (λ (s : List ℕ). until_unequal_lem (reverse a) (reverse s)) (sym e) ∙ until_all (reverse a) in
-      record {
-        same = sym (ap (same a) (sym e) ∙ same_self a);
-        pairs = all ∙ sym (chosen _ _ _ (eq-eqb (length a) (length b) (ap length e)) ∙ counted ∙ length-reverse a);
-      }
+  module _ (l : length a ≡ length b) where
+    abbrev first : Option ℕ
+    first = position unequal (zip (reverse a) (reverse b))
 
-  -- where the lengths are equal, and the last n pairs, the one before them is the next
-  module _ (l : length a ≡ length b) (n : ℕ) (h : n < length a)
-      (rest : drop (length a - n) a ≡ drop (length a - n) b) where
-    abbrev i : ℕ
-    i = length a - (n + 1)
+    lengths : length (reverse a) ≡ length (reverse b)
+    lengths = length-reverse a ∙ l ∙ sym (length-reverse b)
 
-    after : drop (i + 1) a ≡ drop (i + 1) b
-    after = let e : length a - n ≡ i + 1 = omega arith in subst (λ (k : ℕ). drop k a ≡ drop k b) e rest
+    parts : Parted (reverse a) (reverse b) (equal (reverse a) (reverse b))
+    parts = parted (reverse a) (reverse b) lengths
 
-    pub equal_from : get_or a i 0 ≡ get_or b i 0 → drop i a ≡ drop i b
-    equal_from q = drop_next a i (omega arith) ∙ (λ j. q j ∷ after j) ∙ sym (drop_next b i (omega arith))
+    zipped : length (zip (reverse a) (reverse b)) ≡ length a
+    zipped = zip_length (reverse a) (reverse b) lengths ∙ length-reverse a
 
-    pub compared_unequal : (get_or a i 0 ≡ get_or b i 0 → ⊥) →
-        ComparedAs a b (record { same = false; pairs = n + 1 })
-    compared_unequal u = record { same = sym (differ (same a b) refl); pairs = sym counted }
+    counted : until_unequal (reverse a) (reverse b) ≡ pairs a b
+    counted = sym (chosen _ _ _ (eq-eqb (length a) (length b) l))
+
+    pub equal_few : (n : ℕ) → Some n ≡ first → n < length a
+    equal_few n e = let f = found (equal (reverse a) (reverse b)) _ n e in omega (arith, f, zipped)
+
+    pub compared_unequal : (n : ℕ) → Some n ≡ first → ComparedAs a b (record { same = false; pairs = n + 1 })
+    compared_unequal n e =
+        let f = found (equal (reverse a) (reverse b)) _ n e in
+        let p = parts.unequal (omega (arith, f, zipped, length-reverse a)) in
+        record { same = sym (differ p.1 (same a b) refl); pairs = omega (arith, f, p.0, counted) }
       where
-        differ : (t : Bool) → same a b ≡ t → t ≡ false
-        differ true q = absurd (u (ap (λ (s : List ℕ). get_or s i 0) (same_path a b q)))
-        differ false q = refl
+        differ : (reverse a ≡ reverse b → ⊥) → (t : Bool) → same a b ≡ t → t ≡ false
+        differ u true q = absurd (u (ap reverse (same_path a b q)))
+        differ u false q = refl
 
-        counted : pairs a b ≡ n + 1
-        counted =
-            let back : (s : List ℕ) → List ℕ = λ s. get_or s i 0 ∷ reverse (take i s) in
-            let tail = drop (i + 1) a in
-            let first = reverse_at a i (omega arith) in
-            let second = reverse_at b i (omega arith) ∙ ap (λ (d : List ℕ). reverse d ++ back b) (sym after) in
-            let long = length-reverse tail ∙ length-drop (i + 1) a in
-            chosen _ _ _ (eq-eqb (length a) (length b) l) ∙ (λ j. until_unequal_lem (first j) (second j))
-            ∙ until_unequal (reverse tail) _ _ _ _ u ∙ omega (arith, long)
+    pub compared_equal : None ≡ first → ComparedAs a b (record { same = true; pairs = length a })
+    compared_equal e =
+        let p = parts.same (omega (arith, none_found (equal (reverse a) (reverse b)) _ e, zipped, length-reverse a)) in
+        let s : a ≡ b = sym (reverse-reverse a) ∙ ap reverse p.1 ∙ reverse-reverse b in
+        record {
+          same = sym (ap (same a) (sym s) ∙ same_self a);
+          pairs = omega (arith, p.0, counted, length-reverse a);
+        }
 
 -- no more pairs than bytes
 pub pairs_most : (a b : List ℕ) → pairs a b ≤ length a
 pairs_most a b = go (eqb (length a) (length b))
   where
-    go : (t : Bool) → cond t (until_unequal_lem (reverse a) (reverse b)) 0 ≤ length a
+    go : (t : Bool) → cond t (until_unequal (reverse a) (reverse b)) 0 ≤ length a
     go true = omega (arith, until_most (reverse a) (reverse b), length-reverse a)
     go false = omega arith

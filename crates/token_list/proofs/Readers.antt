@@ -1,7 +1,12 @@
 -- Laws on the rows as they stand in a list, from an offset on, and on the reader's steps.
+use Rattle.std.specs.Prelude.{Option, Some, None}
 use mathlib.Core.Path.{◌≡◌, refl, ap, ◌∙◌, sym}
 use mathlib.Core.List.{List, [], ◌∷◌}
-use Prim.Native.Nat.{ℕ, ◌+◌, ◌≤◌, ◌<◌}
+use Rattle.std.proofs.Math.Nat.{min-eq_left, min-eq_right}
+use Rattle.std.proofs.lemmas.Bool.{cases_lt}
+use mathlib.Core.Logic.{◌⊎◌, inl, inr}
+use native.Mathlib.Omega.{arith}
+use Prim.Native.Nat.{ℕ, min, ◌+◌, ◌≤◌, ◌<◌}
 use native.Mathlib.Omega.{arith}
 use lib.ListN.{length, get_or, take, drop, length-drop, drop_of_length-le}
 use lib.Seq.{slice, length-slice, take-length, drop-drop, drop-length}
@@ -10,8 +15,6 @@ use Rattle.token_list.specs.Row.{Lines, tail, lines}
 use Rattle.token_list.specs.Contract.{LineEnd, start_of}
 use Rattle.token_list.specs.Reader.{row_bytes, bytes_from, AtRow, shown_of, onward, shown_bytes, Shows, GoesOn}
 use Rattle.token_list.specs.declared.check.Cursor.{Cursor}
-use Rattle.token_list.specs.declared.reader.Shown.{Shown}
-use Rattle.token_list.specs.declared.reader.Shown.TheVariants.{Row, End}
 use Rattle.token_list.proofs.Texts.{drop_next}
 
 module _ (s : List ℕ) (i : ℕ) where
@@ -27,31 +30,40 @@ module _ (s : List ℕ) (i : ℕ) where
   -- ## What is shown
 
   -- what is shown there is row n, where row n starts there
-  shows : (r : Shown) → r ≡ shown_of i (lines (drop i s)) → shown_bytes s r ≡ take 1 (bytes_from s i) → Shows s i r
+  shows : (r : Option (ℕ × ℕ)) → r ≡ shown_of i (lines (drop i s))
+      → shown_bytes s r ≡ take 1 (bytes_from s i) → Shows s i r
   shows r e b =
       record { answer = e; bytes = b; row = λ n h. b ∙ ap (take 1) h.rows }
 
-  pub shows_none : length s ≤ i → Shows s i End
+  pub shows_none : length s ≤ i → Shows s i None
   shows_none h =
       let e = lines_none h in
-      shows End (sym (ap (shown_of i) e)) (sym (ap (λ (ls : Lines). take 1 (row_bytes ls)) e))
+      shows None (sym (ap (shown_of i) e)) (sym (ap (λ (ls : Lines). take 1 (row_bytes ls)) e))
 
-  pub shows_last : (e : ℕ) → i < length s → length s ≤ e → LineEnd s i e → Shows s i (Row i (length s))
+  pub shows_last : (e : ℕ) → i < length s → length s ≤ e → LineEnd s i e → Shows s i (Some (i, length s))
   shows_last e h k l =
       let here = lines_last e h k l in
       let bytes = drop_next s i h in
       let size : length s ≡ i + length (get_or s i 0 ∷ drop (i + 1) s) =
       omega (arith, sym (ap length bytes) ∙ length-drop i s) in
-      shows (Row i (length s)) (ap (Row i) size ∙ sym (ap (shown_of i) here))
+      shows (Some (i, length s)) (ap (λ (e : ℕ). Some (i, e)) size ∙ sym (ap (shown_of i) here))
       (ap (λ (t : List ℕ). drop i t ∷ []) (take-length s) ∙ ap (λ (t : List ℕ). t ∷ []) bytes
       ∙ sym (ap (λ (ls : Lines). take 1 (row_bytes ls)) here))
 
-  pub shows_line : (e : ℕ) → e < length s → LineEnd s i e → Shows s i (Row i e)
+  pub shows_line : (e : ℕ) → e < length s → LineEnd s i e → Shows s i (Some (i, e))
   shows_line e h l =
       let here = l.found h in
       let size : e ≡ i + length (slice i e s) = omega (arith, length-slice i e s (omega arith), l.start) in
-      shows (Row i e) (ap (Row i) size ∙ sym (ap (shown_of i) here))
+      shows (Some (i, e)) (ap (λ (e : ℕ). Some (i, e)) size ∙ sym (ap (shown_of i) here))
       (sym (ap (λ (ls : Lines). take 1 (row_bytes ls)) here))
+
+  -- up to the next LF or the end
+  pub shows_to : (e : ℕ) → i < length s → LineEnd s i e → Shows s i (Some (i, min e (length s)))
+  shows_to e h l = to (cases_lt e (length s))
+    where
+      to : (e < length s) ⊎ (length s ≤ e) → Shows s i (Some (i, min e (length s)))
+      to (inl k) = rw (min-eq_left {n = e} {m = length s} (omega arith)) (shows_line e k l)
+      to (inr k) = rw (min-eq_right k) (shows_last e h k l)
 
 -- ## Where the reader goes on
 

@@ -1,4 +1,7 @@
 -- Laws on tests of a part of a list, one byte at a time.
+use Rattle.std.specs.Prelude.{nat_eq}
+use Rattle.std.specs.List.{list_any, list_all}
+use lib.Pointwise.{pointwise}
 use mathlib.Core.Path.{◌≡◌, refl, ap, ◌∙◌, sym, subst}
 use mathlib.Core.Bool.{Bool, true, false, ◌&&◌, ◌||◌, not, cond, true≢false, false≢true}
 use mathlib.Core.List.{List, [], ◌∷◌, ◌++◌}
@@ -6,11 +9,10 @@ use Prim.Native.Nat.{ℕ, zero, suc, ◌+◌, ◌-◌, ◌≤◌, ◌<◌, min}
 use native.Mathlib.Numerals.{add-one}
 use native.Mathlib.Omega.{arith}
 use lib.Dec.{T, eqb, leb}
-use borrow.Author.Tests.{eq-eqb, ne_eqb, eqb-true, leb-true, leb-false}
+use borrow.Author.Tests.{eq-eqb, eqb-true, leb-true, leb-false}
 use lib.ListN.{length, get_or, take, drop, length-take, drop_of_length-le}
 use lib.Seq.{slice, slice-cons, drop-cons, take-suc, take_all, drop-append-le, length-take-le}
-use Rattle.token_list.specs.Text.{all, member, same, raw_name, plain_name, never_raw, single, literal, literal_start}
-use Rattle.token_list.specs.Text.{printable}
+use Rattle.token_list.specs.Text.{all, member, same, single}
 use Rattle.token_list.specs.Row.{first}
 
 -- a part that ends where it starts, or before, is empty
@@ -102,29 +104,28 @@ same_length (a ∷ x) (b ∷ y) h = go (eqb a b) (same_length x y (λ e. h (ap s
     go true e = e
     go false e = refl
 
--- the test for a raw name, where two bytes at least are there
-pub raw_parts : (s : List ℕ) (i e : ℕ) → i + 1 < e → e ≤ length s
-    → raw_name (slice i e s)
-    ≡ ((eqb (get_or s i 0) 114 && eqb (get_or s (i + 1) 0) 35) && (plain_name (slice (i + 1 + 1) e s) && not
-    (never_raw (slice (i + 1 + 1) e s))))
-raw_parts s i e h k = rw (slice_next s i e (omega arith) k, slice_next s (i + 1) e h k)
+pub eqb_swap : (x y : ℕ) → eqb x y ≡ eqb y x
+eqb_swap x y = grind arith
 
-pub raw_short : (s : List ℕ) (i e : ℕ) → e ≤ i + 1 → e ≤ length s → raw_name (slice i e s) ≡ false
-raw_short s i e h k = go (leb e i) refl
-  where
-    go : (b : Bool) → leb e i ≡ b → raw_name (slice i e s) ≡ false
-    go true q = rw (slice-none s i e (leb-true e i q))
-    go false q = rw (slice_next s i e (leb-false e i q) k, slice-none s (i + 1) e h)
+pub member_any : (b : ℕ) (s : List ℕ) → list_any (λ x. nat_eq x b) s ≡ member b s
+member_any b [] = refl
+member_any b (x ∷ s) = λ i. eqb_swap x b i || member_any b s i
 
-module _ (b : ℕ) (s : List ℕ) where
-  pub member_found : (i : ℕ) → i < length s → b ≡ get_or s i 0 → member b (drop i s) ≡ true
-  member_found i h q = ap (member b) (drop_next s i h) ∙ or_holds _ _ (eq-eqb _ _ q)
+pub all_list : (p : ℕ → Bool) (s : List ℕ) → list_all p s ≡ all p s
+all_list p [] = refl
+all_list p (x ∷ s) = ap (λ (t : Bool). p x && t) (all_list p s)
 
-  pub member_next : (i : ℕ) → i < length s → (b ≡ get_or s i 0 → ⊥) → member b (drop i s) ≡ member b (drop (i + 1) s)
-  member_next i h q = ap (member b) (drop_next s i h) ∙ or_last _ _ (ne_eqb _ _ q)
+pub same_pointwise : (s t : List ℕ) → pointwise eqb s t ≡ same s t
+same_pointwise [] [] = refl
+same_pointwise [] (y ∷ t) = refl
+same_pointwise (x ∷ s) [] = refl
+same_pointwise (x ∷ s) (y ∷ t) = ap (λ (u : Bool). eqb x y && u) (same_pointwise s t)
 
-  pub member-none : (i : ℕ) → length s ≤ i → member b (drop i s) ≡ false
-  member-none i h = ap (member b) (drop_of_length-le s {i = i} h)
+pub same_swap : (s t : List ℕ) → same s t ≡ same t s
+same_swap [] [] = refl
+same_swap [] (y ∷ t) = refl
+same_swap (x ∷ s) [] = refl
+same_swap (x ∷ s) (y ∷ t) = λ i. eqb_swap x y i && same_swap s t i
 
 -- ## A text of one byte
 
@@ -144,30 +145,6 @@ first_only p [] e q = refl
 first_only p (b ∷ []) e q = refl
 first_only p (b ∷ c ∷ t) e q =
     let z : ◌≡◌ {A = Bool} false true = sym e ∙ q in absurd (subst (λ (x : Bool). T (not x)) z tt)
-
-module _ (s : List ℕ) (i e : ℕ) (fits : e ≤ length s) where
-  pub only_one : i < e → i + 1 ≡ e → get_or s i 0 ≡ only (slice i e s)
-  only_one h q = rw (slice_next s i e h fits, slice-none s (i + 1) e (omega arith))
-
-  pub only_more : i < e → (i + 1 ≡ e → ⊥) → 0 ≡ only (slice i e s)
-  only_more h q = rw (slice_next s i e h fits, slice_next s (i + 1) e (omega arith) fits)
-
-  pub only_none : e ≤ i → 0 ≡ only (slice i e s)
-  only_none h = rw (slice-none s i e h)
-
-  pub not_one : (i + 1 ≡ e → ⊥) → 0 ≡ only (slice i e s)
-  not_one q = go (leb e i) refl
-    where
-      go : (b : Bool) → leb e i ≡ b → 0 ≡ only (slice i e s)
-      go true h = only_none (leb-true e i h)
-      go false h = only_more (leb-false e i h) q
-
--- the test for a literal, where a byte is there
-pub literal_parts : (s : List ℕ) (i e : ℕ) → i < e → e ≤ length s →
-    literal (slice i e s) ≡ (literal_start (get_or s i 0) && all printable (slice i e s))
-literal_parts s i e h k =
-    let n = slice_next s i e h k in
-    ap literal n ∙ ap (λ (t : List ℕ). literal_start (get_or s i 0) && all printable t) (sym n)
 
 -- a list shorter than the name is not the name
 pub same_longer : (s n : List ℕ) (k : ℕ) → length s < length n → same (take k s) n ≡ false

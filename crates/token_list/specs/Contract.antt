@@ -1,6 +1,6 @@
 -- What ties the code's answers to the meaning.
 use Rattle.std.specs.Prelude.{◌≡◌, Bool, true, false, cond, ◌&&◌, List, [], ◌∷◌, ℕ, ◌+◌, ◌-◌, ◌≤◌, ◌<◌, ltb, eqb}
-use Rattle.std.specs.Prelude.{length, get_or, take, drop}
+use Rattle.std.specs.Prelude.{length, get_or, take, drop, Option, Some, None, IfSome, Result, Ok, Err}
 use Rattle.std.proofs.Math.Seq.{slice}
 use Rattle.token_list.specs.Byte.{LF, SPACE}
 use Rattle.token_list.specs.Layout.{PUNCT, OPEN, CLOSE, names, marked, first_row, text_offset, MAX_TEXT, MAX_DEPTH}
@@ -10,10 +10,9 @@ use Rattle.token_list.specs.Check.{Answer, passed, refused, Open, ended, close, 
 use Rattle.token_list.specs.Check.{nested}
 use Rattle.token_list.specs.Place.{OneRefusal, check_number}
 use Rattle.token_list.specs.declared.check.Cursor.{Cursor}
-use Rattle.token_list.specs.declared.check.Checked.{Checked}
-use Rattle.token_list.specs.declared.check.Checked.TheVariants.{Passed, Refused}
+use Rattle.token_list.specs.declared.check.Refusal.{Refusal}
 use Rattle.token_list.specs.declared.check.LevelEnd.{LevelEnd}
-use Rattle.token_list.specs.declared.check.LevelEnd.TheVariants.{End, Close, Refused as Stopped}
+use Rattle.token_list.specs.declared.check.LevelEnd.TheVariants.{End, Close}
 use Rattle.token_list.specs.Stream.{Trees, end, leaf, group, size, first_kind_lem, first_byte_lem, all_closed}
 use Rattle.token_list.specs.Stream.{rows_at, at, row_start}
 use Rattle.token_list.specs.declared.stream.Token.{Token}
@@ -21,10 +20,10 @@ use Rattle.token_list.specs.declared.stream.Glance.{Glance}
 use Rattle.token_list.specs.declared.stream.Peeked.{Peeked}
 use Rattle.token_list.specs.declared.stream.Peeked.TheVariants.{Nothing, Leaf, Group}
 use Rattle.token_list.specs.declared.row.Shape.{Shape}
-use Rattle.token_list.specs.declared.row.Shape.TheVariants.{Plain, Opens, Closed, Wrong}
+use Rattle.token_list.specs.declared.row.Shape.TheVariants.{Plain, Opens, Closed}
 use Rattle.token_list.specs.declared.row.Line.{Line}
 use Rattle.token_list.specs.declared.text.Compared.{Compared}
-use Rattle.token_list.specs.Text.{all, name_part, printable, punctuation, opening, closing, same}
+use Rattle.token_list.specs.Text.{all, name_part, printable, same}
 use Rattle.token_list.specs.Pairs.{pairs}
 
 -- what may stand in a name, or else in a literal
@@ -56,7 +55,20 @@ abbrev pub shape : Shape → Form
 shape Plain = plain
 shape (Opens d) = opens d
 shape (Closed d) = closed d
-shape Wrong = wrong
+
+-- none is no row
+abbrev pub shape_form : Option Shape → Form
+shape_form None = wrong
+shape_form (Some x) = shape x
+
+abbrev pub line_form : Option Line → Form
+line_form None = wrong
+line_form (Some l) = shape l.shape
+
+-- a token, by where the line after it starts
+abbrev pub token : Option ℕ → Option Line
+token None = None
+token (Some n) = Some (record { shape = Plain; next = n })
 
 -- a space behind the byte at i
 abbrev pub spaced : List ℕ → ℕ → Bool
@@ -71,46 +83,37 @@ abbrev pub mark_stands_lem : List ℕ → ℕ → Bool
 mark_stands_lem s i =
     ltb (i + 3) (length s) && (eqb (get_or s (i + 1) 0) SPACE && mark_fits (get_or s i 0) (get_or s (i + 2) 0))
 
--- the form of a row of kind p, o or c whose text is the one byte b
-abbrev pub single_form : ℕ → ℕ → Form
-single_form k b =
-    cond (eqb k PUNCT) (cond (punctuation b) plain wrong)
-    (cond (eqb k OPEN) (cond (opening b) (opens b) wrong)
-    (cond (eqb k CLOSE) (cond (closing b) (closed b) wrong) wrong))
-
 -- the first line as a row, where it has an end
 abbrev pub formed : (List ℕ → Form) → Lines → Form
 formed f (tail t) = wrong
 formed f (line l ls) = f l
 
--- the form of the line of s at `at`, by f, and, where it is a row, the next line
-pub record Shaped (f : List ℕ → Form) (s : List ℕ) (at : ℕ) (r : Line) : Type 0 where
-  pub right : shape r.shape ≡ formed f (lines (drop at s))
-  pub past : (shape r.shape ≡ wrong → ⊥) → (at < r.next) × (r.next ≤ length s)
-  pub rest : (shape r.shape ≡ wrong → ⊥) → (l : List ℕ) × (lines (drop at s) ≡ line l (lines (drop r.next s)))
+-- the row of s at `at`, of the form that f says, and the next line; none where f says that there is no row
+pub record Shaped (f : List ℕ → Form) (s : List ℕ) (at : ℕ) (r : Option Line) : Type 0 where
+  pub right : line_form r ≡ formed f (lines (drop at s))
+  pub past : IfSome r (λ x. (at < x.next) × (x.next ≤ length s))
+  pub rest : IfSome r (λ x. (l : List ℕ) × (lines (drop at s) ≡ line l (lines (drop x.next s))))
 
--- r is a token whose text starts at `start` and fits but for its first byte, or it is wrong, which tells nothing
-pub record TokenLine (s : List ℕ) (names : Bool) (start : ℕ) (r : Line) : Type 0 where
-  pub told : (shape r.shape ≡ wrong → ⊥) → shape r.shape ≡ plain
-  pub ends : (shape r.shape ≡ wrong → ⊥)
-      → (e : ℕ) × TextEnd s names (start + 1) e × (e < length s) × (get_or s e 0 ≡ LF) × (e - start ≤ MAX_TEXT)
-      × (r.next ≡ e + 1)
+-- the text from `start` on ends with the line before n, and fits but for its first byte
+pub record TokenEnd (s : List ℕ) (names : Bool) (start n : ℕ) : Type 0 where
+  pub end : ℕ
+  pub text : TextEnd s names (start + 1) end
+  pub within : end < length s
+  pub lf : get_or s end 0 ≡ LF
+  pub short : end - start ≤ MAX_TEXT
+  pub next : n ≡ end + 1
 
 -- a row with marks or without, and the text alone of a row of kind k
-abbrev pub RowShaped : Bool → List ℕ → ℕ → Line → Type 0
+abbrev pub RowShaped : Bool → List ℕ → ℕ → Option Line → Type 0
 RowShaped m = Shaped (form m)
 
-abbrev pub TextShaped : ℕ → List ℕ → ℕ → Line → Type 0
+abbrev pub TextShaped : ℕ → List ℕ → ℕ → Option Line → Type 0
 TextShaped k = Shaped (text_form k)
 
 -- a row of kind k whose last column before its text is at i: by its text, which a space parts from it
-pub record ColumnShaped (k : ℕ) (s : List ℕ) (i : ℕ) (r : Line) : Type 0 where
+pub record ColumnShaped (k : ℕ) (s : List ℕ) (i : ℕ) (r : Option Line) : Type 0 where
   pub text : spaced s i ≡ true → TextShaped k s (i + 2) r
-  pub none : spaced s i ≡ false → shape r.shape ≡ wrong
-
--- the same, where the form is told
-abbrev pub ColumnShapedUnlessWrong : ℕ → List ℕ → ℕ → Line → Type 0
-ColumnShapedUnlessWrong k s i r = (shape r.shape ≡ wrong → ⊥) → ColumnShaped k s i r
+  pub none : spaced s i ≡ false → line_form r ≡ wrong
 
 -- the bytes from i on are rows, each of a right form, and each group that opens in them is closed
 pub record RightRows (s : List ℕ) (i : ℕ) : Type 0 where
@@ -200,12 +203,12 @@ abbrev pub skipped : List Trees → List ℕ → Cursor → Cursor → Type 0
 skipped [] s c d = RanOut s c d
 skipped (t ∷ ts) s c d = Skipped s c d
 
-abbrev pub checked : Checked → Answer
-checked (Passed n) = passed n
-checked (Refused r) = refused r.number r.place
+abbrev pub checked : Result ℕ Refusal → Answer
+checked (Ok n) = passed n
+checked (Err r) = refused r.number r.place
 
 -- the list check's whole answer, and what holds of a refusal
-pub record CheckedAs (s : List ℕ) (r : Checked) : Type 0 where
+pub record CheckedAs (s : List ℕ) (r : Result ℕ Refusal) : Type 0 where
   pub answer : checked r ≡ check s
   pub refusal : (n p : ℕ) → checked r ≡ refused n p → OneRefusal check_number s n p
 
@@ -220,19 +223,19 @@ pub record Within (s : List ℕ) (c : Cursor) : Type 0 where
 
 -- what the check answers from a cursor on, with marks or without, under the open groups gs, where the rows of the
 -- level end as r says
-abbrev pub resumed : Bool → List ℕ → List Open → LevelEnd → Answer
-resumed m s gs (End n) = ended n gs
-resumed m s gs (Close d row next) = close row d gs (λ hs. walk m (row + 1) hs (lines (drop next s)))
-resumed m s gs (Stopped r) = refused r.number r.place
+abbrev pub resumed : Bool → List ℕ → List Open → Result LevelEnd Refusal → Answer
+resumed m s gs (Ok (End n)) = ended n gs
+resumed m s gs (Ok (Close d row next)) = close row d gs (λ hs. walk m (row + 1) hs (lines (drop next s)))
+resumed m s gs (Err r) = refused r.number r.place
 
 -- the rows after the closing one
-abbrev pub closed_in : List ℕ → ℕ → LevelEnd → Type 0
-closed_in s at (End n) = Unit
-closed_in s at (Close d row next) = (row < next) × (at < next) × (next ≤ length s)
-closed_in s at (Stopped r) = Unit
+abbrev pub closed_in : List ℕ → ℕ → Result LevelEnd Refusal → Type 0
+closed_in s at (Ok (End n)) = Unit
+closed_in s at (Ok (Close d row next)) = (row < next) × (at < next) × (next ≤ length s)
+closed_in s at (Err r) = Unit
 
 -- how the rows of a level from c on end, `levels` of MAX_DEPTH being free
-pub record Walked (m : Bool) (s : List ℕ) (c : Cursor) (levels : ℕ) (r : LevelEnd) : Type 0 where
+pub record Walked (m : Bool) (s : List ℕ) (c : Cursor) (levels : ℕ) (r : Result LevelEnd Refusal) : Type 0 where
   pub right : (gs : List Open) → length gs + levels ≡ MAX_DEPTH
       → walk m c.row gs (lines (drop c.at s)) ≡ resumed m s gs r
   pub past : closed_in s c.at r

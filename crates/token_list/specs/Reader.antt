@@ -1,13 +1,11 @@
 -- Rows as they stand in a list, right or not, and the reader that goes through them (document 01, "What must change
 -- shape").
-use Rattle.std.specs.Prelude.{◌≡◌, List, [], ◌∷◌, ℕ, ◌+◌, ◌≤◌, length, take, drop}
+use Rattle.std.specs.Prelude.{◌≡◌, List, [], ◌∷◌, ℕ, ◌+◌, ◌≤◌, length, take, drop, Option, Some, None}
 use Rattle.std.proofs.Math.Seq.{slice}
 use Rattle.token_list.specs.Layout.{first_row}
 use Rattle.token_list.specs.Row.{Lines, tail, line, lines}
 use Rattle.token_list.specs.declared.check.Cursor.{Cursor}
 use Rattle.token_list.specs.declared.reader.Reader.{Reader}
-use Rattle.token_list.specs.declared.reader.Shown.{Shown}
-use Rattle.token_list.specs.declared.reader.Shown.TheVariants.{Row, End}
 
 -- the bytes of each row that begins: one a line, without its LF, and one more where bytes stand after the last LF
 abbrev pub row_bytes : Lines → List (List ℕ)
@@ -26,10 +24,10 @@ pub record AtRow (s : List ℕ) (c : Cursor) : Type 0 where
   pub rows : bytes_from s c.at ≡ drop c.row (bytes_from s (first_row s))
 
 -- what is shown of lines that start at i: the first, from i to its LF or the list's end, or that none is left
-abbrev pub shown_of : ℕ → Lines → Shown
-shown_of i (tail []) = End
-shown_of i (tail (b ∷ bs)) = Row i (i + length (b ∷ bs))
-shown_of i (line l ls) = Row i (i + length l)
+abbrev pub shown_of : ℕ → Lines → Option (ℕ × ℕ)
+shown_of i (tail []) = None
+shown_of i (tail (b ∷ bs)) = Some (i, i + length (b ∷ bs))
+shown_of i (line l ls) = Some (i, i + length l)
 
 -- the next line with its row; where none is left, the same
 abbrev pub onward : Cursor → Lines → Cursor
@@ -38,12 +36,12 @@ onward c (tail (b ∷ bs)) = record { at = c.at + length (b ∷ bs); row = c.row
 onward c (line l ls) = record { at = c.at + length l + 1; row = c.row + 1 }
 
 -- the bytes of the row that is shown
-abbrev pub shown_bytes : List ℕ → Shown → List (List ℕ)
-shown_bytes s End = []
-shown_bytes s (Row a e) = slice a e s ∷ []
+abbrev pub shown_bytes : List ℕ → Option (ℕ × ℕ) → List (List ℕ)
+shown_bytes s None = []
+shown_bytes s (Some (a, e)) = slice a e s ∷ []
 
 -- what stands at i, and that it is the row that i belongs to
-pub record Shows (s : List ℕ) (i : ℕ) (r : Shown) : Type 0 where
+pub record Shows (s : List ℕ) (i : ℕ) (r : Option (ℕ × ℕ)) : Type 0 where
   pub answer : r ≡ shown_of i (lines (drop i s))
   pub bytes : shown_bytes s r ≡ take 1 (bytes_from s i)
   pub row : (n : ℕ) → AtRow s (record { at = i; row = n })

@@ -3,103 +3,87 @@ ghost use Rattle.std.specs.Prelude.{◌≡◌};
 ghost use Rattle.token_list.specs.Contract.{start_of, Within, Walked, CheckedAs};
 
 use crate::layout::{MAX_BYTES, MAX_DEPTH, MAX_ROWS, first_row, has_names, is_marked};
-use crate::row::{Shape, closer, line_shape};
+use crate::refusal;
+use crate::row::{Line, Shape, closer, line_shape};
 
 // The end mark: the place of a refusal that has no row.
 pub const END: usize = 65535;
 
 // Where a row of a list starts, and its number.
-#[derive(Clone, Copy)]
+// Without the list, and `InList` is no invariant of it: each answer would have to say of each of its cursors that it is
+// still of this list, which the one slice that is lent to all readers says of itself.
+#[derive(Clone, Copy, Debug, PartialEq, Eq)]
 pub struct Cursor {
     pub at: usize,
     pub row: usize,
 }
 
 // A refusal's number and place.
-#[derive(Clone, Copy)]
+#[derive(Clone, Copy, Debug, PartialEq, Eq)]
 pub struct Refusal {
     pub number: u8,
     pub place: usize,
 }
 
-// The answer: the number of rows, or a refusal.
-#[derive(Clone, Copy)]
-pub enum Checked {
-    Passed(usize),
-    Refused(Refusal),
-}
-
-// What the rows at one level end with: the list's end after so many rows, a closing row with its
-// delimiter and what comes after it, or a refusal.
+// What the rows at one level end with: the list's end after so many rows, or a closing row with its delimiter and what
+// comes after it. Neither is an error of its own: what is above says whether it fits.
 #[derive(Clone, Copy)]
 pub enum LevelEnd {
     End(usize),
     Close(u8, usize, usize),
-    Refused(Refusal),
 }
 
 // Follows the rows from `from` to the end of their level; `levels` more may open.
-fn walk(s: &[u8], marked: bool, from: Cursor, levels: usize) -> LevelEnd
+fn walk(s: &[u8], marked: bool, from: Cursor, levels: usize) -> Result<LevelEnd, Refusal>
     requires { Within s.now from }
     ensures { Walked marked s.now from levels result }
 {
-    let mut at = from.at;
-    let mut row = from.row;
+    let Cursor { mut at, mut row } = from;
+    // By as many bytes as each row has, and by a group at once: no iterator goes so.
     while at < s.len() {
         if MAX_ROWS <= row {
-            return LevelEnd::Refused(Refusal {
-                number: 4,
+            return Err(Refusal {
+                number: refusal::TOO_MANY_ROWS,
                 place: MAX_ROWS,
             });
         }
-        let line = line_shape(s, marked, at);
-        let next = line.next;
+        let Some(Line { shape, next }) = line_shape(s, marked, at) else {
+            return Err(Refusal {
+                number: refusal::ROW_FORM,
+                place: row,
+            });
+        };
         let below = row + 1;
-        let shape = line.shape;
         match shape {
-            Shape::Wrong => {
-                return LevelEnd::Refused(Refusal {
-                    number: 3,
-                    place: row,
-                });
-            }
             Shape::Plain => {
                 at = next;
                 row = below;
             }
             Shape::Closed(d) => {
-                return LevelEnd::Close(d, row, next);
+                return Ok(LevelEnd::Close(d, row, next));
             }
             Shape::Opens(d) => {
                 if levels == 0 {
-                    return LevelEnd::Refused(Refusal {
-                        number: 6,
+                    return Err(Refusal {
+                        number: refusal::TOO_DEEP,
                         place: row,
                     });
                 }
-                let inside = walk(
-                    s,
-                    marked,
-                    Cursor {
-                        at: next,
-                        row: below,
-                    },
-                    levels - 1,
-                );
-                match inside {
+                let inside = Cursor {
+                    at: next,
+                    row: below,
+                };
+                match walk(s, marked, inside, levels - 1)? {
                     LevelEnd::End(_) => {
-                        return LevelEnd::Refused(Refusal {
-                            number: 7,
+                        return Err(Refusal {
+                            number: refusal::UNCLOSED_GROUP,
                             place: row,
                         });
                     }
-                    LevelEnd::Refused(r) => {
-                        return LevelEnd::Refused(r);
-                    }
                     LevelEnd::Close(e, close, past) => {
                         if closer(d) != e {
-                            return LevelEnd::Refused(Refusal {
-                                number: 5,
+                            return Err(Refusal {
+                                number: refusal::UNMATCHED_CLOSE,
                                 place: close,
                             });
                         }
@@ -110,40 +94,40 @@ fn walk(s: &[u8], marked: bool, from: Cursor, levels: usize) -> LevelEnd
             }
         }
     }
-    LevelEnd::End(row)
+    Ok(LevelEnd::End(row))
 }
 
 // Where the first row starts.
 pub fn start(s: &[u8]) -> Cursor
     ensures { result ≡ start_of s.now }
 {
-    let at = first_row(s);
-    Cursor { at, row: 0 }
+    Cursor {
+        at: first_row(s),
+        row: 0,
+    }
 }
 
 // Checks a list: the number of its rows, or the first refusal.
-pub fn check(s: &[u8]) -> Checked
+pub fn check(s: &[u8]) -> Result<usize, Refusal>
     ensures { CheckedAs s.now result }
 {
     if MAX_BYTES < s.len() {
-        return Checked::Refused(Refusal {
-            number: 1,
+        return Err(Refusal {
+            number: refusal::TOO_LONG,
             place: END,
         });
     }
     if !has_names(s) {
-        return Checked::Refused(Refusal {
-            number: 2,
+        return Err(Refusal {
+            number: refusal::LINE_OF_NAMES,
             place: END,
         });
     }
-    let marked = is_marked(s);
-    match walk(s, marked, start(s), MAX_DEPTH) {
-        LevelEnd::End(rows) => Checked::Passed(rows),
-        LevelEnd::Close(_, row, _) => Checked::Refused(Refusal {
-            number: 5,
+    match walk(s, is_marked(s), start(s), MAX_DEPTH)? {
+        LevelEnd::End(rows) => Ok(rows),
+        LevelEnd::Close(_, row, _) => Err(Refusal {
+            number: refusal::UNMATCHED_CLOSE,
             place: row,
         }),
-        LevelEnd::Refused(r) => Checked::Refused(r),
     }
 }

@@ -3,8 +3,6 @@ ghost use Rattle.std.specs.Prelude.{◌≡◌, ◌<◌, length};
 ghost use Rattle.token_list.specs.Layout.{NAMES_DIFFER, marked, first_row, text_offset};
 ghost use Rattle.token_list.specs.Check.{named};
 
-use crate::text::text_is;
-
 // The first byte in which the two lines of names differ.
 const NAMES_DIFFER: usize = 5;
 
@@ -12,13 +10,12 @@ const NAMES_DIFFER: usize = 5;
 pub fn is_marked(s: &[u8]) -> bool
     ensures { result ≡ marked s.now }
 {
-    if s.len() <= NAMES_DIFFER {
-        return false;
-    }
-    has_marks(s)
+    NAMES_DIFFER < s.len() && has_marks(s)
 }
 
-// The same of a list that is long enough, as every one with a line of names is.
+// The same of a list that is long enough, as every one with a line of names is: a bound and no type, since it is asked
+// of slices that callers lend.
+#[tactic(auto, unfolding(crate::specs::Layout::marked))]
 pub fn has_marks(s: &[u8]) -> bool
     requires { NAMES_DIFFER < length s.now }
     ensures { result ≡ marked s.now }
@@ -30,10 +27,7 @@ pub fn has_marks(s: &[u8]) -> bool
 pub fn first_row(s: &[u8]) -> usize
     ensures { result ≡ first_row s.now }
 {
-    if is_marked(s) {
-        return 16;
-    }
-    10
+    if is_marked(s) { 16 } else { 10 }
 }
 
 // Where a row's mark stands, past its kind and a space.
@@ -47,10 +41,7 @@ pub const MARKED_TEXT: usize = 4;
 pub fn text_offset(marked: bool) -> usize
     ensures { result ≡ text_offset marked }
 {
-    if marked {
-        return MARKED_TEXT;
-    }
-    TEXT
+    if marked { MARKED_TEXT } else { TEXT }
 }
 
 // The bytes of a row whose text is one byte, without marks and with; no row has fewer.
@@ -62,11 +53,11 @@ pub const SHORT_MARKED_ROW: usize = 6;
 pub fn has_names(s: &[u8]) -> bool
     ensures { result ≡ named s.now }
 {
-    let end = first_row(s);
     if is_marked(s) {
-        return text_is(s, 0, end, b"kind joint text\n");
+        s.starts_with(b"kind joint text\n")
+    } else {
+        s.starts_with(b"kind text\n")
     }
-    text_is(s, 0, end, b"kind text\n")
 }
 
 // The most that a list may have: bytes, rows, and groups open at once; and bytes in a row's text.

@@ -14,25 +14,14 @@ pub struct Reader<'a> {
     pub at: usize,
 }
 
-// A row, from its start to its LF or the list's end; or no row is left.
-#[derive(Clone, Copy)]
-pub enum Shown {
-    Row(usize, usize),
-    End,
-}
-
-// The row that starts at `at`.
-pub fn row_from(list: &[u8], at: usize) -> Shown
+// The row that starts at `at`: its start, and its LF or the list's end; none where no row is left.
+pub fn row_from(list: &[u8], at: usize) -> Option<(usize, usize)>
     ensures { Shows list.now at result }
 {
     if list.len() <= at {
-        return Shown::End;
+        return None;
     }
-    let end = line_end(list, at);
-    if list.len() <= end {
-        return Shown::Row(at, list.len());
-    }
-    Shown::Row(at, end)
+    Some((at, line_end(list, at).min(list.len())))
 }
 
 // The row after row `row`, which starts at `at`; where no row is left, it stays.
@@ -43,23 +32,20 @@ pub fn row_after(list: &[u8], row: usize, at: usize) -> Cursor
     if list.len() <= at {
         return Cursor { at, row };
     }
-    let below = row + 1;
     let end = line_end(list, at);
-    if list.len() <= end {
-        return Cursor {
-            at: list.len(),
-            row: below,
-        };
-    }
-    let next = end + 1;
+    let next = if end < list.len() {
+        end + 1
+    } else {
+        list.len()
+    };
     Cursor {
         at: next,
-        row: below,
+        row: row + 1,
     }
 }
 
 // The reader's row.
-pub fn peek<'a>(r: Reader<'a>) -> Shown
+pub fn peek<'a>(r: Reader<'a>) -> Option<(usize, usize)>
     ensures { Shows r.entry.list.now r.entry.at result }
 {
     row_from(r.list, r.at)
@@ -79,9 +65,8 @@ pub fn next<'a>(r: Reader<'a>) -> Reader<'a>
     }
 }
 
-// What a reader of the list shows at a row that starts at `at`. Those who go through rows call this and `next_at`,
-// which take a plain slice and numbers.
-pub fn peek_at(list: &[u8], row: usize, at: usize) -> Shown
+// What a reader of the list shows at a row that starts at `at`, for those who hold a plain slice and numbers.
+pub fn peek_at(list: &[u8], row: usize, at: usize) -> Option<(usize, usize)>
     ensures { Shows list.now at result }
 {
     peek(Reader { list, row, at })

@@ -1,24 +1,23 @@
 // What a line of a list is as a row.
-ghost use Rattle.std.specs.Prelude.{◌≡◌, false, [], ◌∷◌, ◌+◌, ◌≤◌, ◌<◌, length};
+ghost use Rattle.std.specs.Prelude.{◌≡◌, false, cond, Some, IfSome, [], ◌∷◌, ◌+◌, ◌≤◌, ◌<◌, length};
 ghost use Rattle.std.proofs.Math.Seq.{slice};
 ghost use Rattle.token_list.specs.Text.{name, plain_name, raw_name, never_raw, literal, literal_start, closer};
-ghost use Rattle.token_list.specs.Row.{form_of, mark_fits};
-ghost use Rattle.token_list.specs.Contract.{LineEnd, RowShaped, ColumnShaped, ColumnShapedUnlessWrong, shape};
-ghost use Rattle.token_list.specs.Contract.{single_form, one_byte_lem, mark_stands_lem, TokenLine};
+ghost use Rattle.token_list.specs.Row.{plain, wrong, form_of, mark_fits};
+ghost use Rattle.token_list.specs.Contract.{LineEnd, RowShaped, ColumnShaped, shape_form, token};
+ghost use Rattle.token_list.specs.Contract.{one_byte_lem, mark_stands_lem, TokenEnd};
 
 use crate::layout::{MARK, MARKED_TEXT, MAX_TEXT, SHORT_ROW, TEXT};
-use crate::text::{all_fit, is_digit, is_name_start, is_one_of, is_punctuation, text_end, text_is};
+use crate::text::{fits, is_digit, is_name_start, is_one_of, is_punctuation, text_end, text_is};
 
-// The form of a line: a token, an opening or closing row with its delimiter, or no row.
+// What a row is: a token, or a group's opening or closing row with its delimiter.
 #[derive(Clone, Copy)]
 pub enum Shape {
     Plain,
     Opens(u8),
     Closed(u8),
-    Wrong,
 }
 
-// The same with where the next line starts.
+// A row, and where the next line starts.
 #[derive(Clone, Copy)]
 pub struct Line {
     pub shape: Shape,
@@ -29,215 +28,117 @@ pub struct Line {
 pub fn line_end(s: &[u8], from: usize) -> usize
     ensures { LineEnd s.now from result }
 {
-    let mut i = from;
-    while i < s.len() {
+    for i in from..s.len() {
         if s[i] == b'\n' {
             return i;
         }
-        i += 1;
     }
-    i
+    from.max(s.len())
 }
 
 // What closes a group that d opens.
 pub fn closer(d: u8) -> u8
     ensures { result ≡ closer d }
 {
-    if d == b'(' {
-        return b')';
+    match d {
+        b'(' => b')',
+        b'[' => b']',
+        b'{' => b'}',
+        _ => d,
     }
-    if d == b'[' {
-        return b']';
+}
+
+fn plain_name(text: &[u8]) -> bool
+    ensures { result ≡ plain_name text.now }
+{
+    match text {
+        [first, rest @ ..] => is_name_start(*first) && fits(rest, true),
+        [] => false,
     }
-    if d == b'{' {
-        return b'}';
-    }
-    d
 }
 
 pub fn is_plain_name(s: &[u8], start: usize, end: usize) -> bool
     requires { end ≤ length s.now }
     ensures { result ≡ plain_name (slice start end s.now) }
 {
-    if end <= start {
-        return false;
-    }
-    if !is_name_start(s[start]) {
-        return false;
-    }
-    let second = start + 1;
-    all_fit(s, second, end, true)
+    start < end && plain_name(&s[start..end])
 }
 
+// One test a name: of a match on the texts three ways were tried, and the proof of its default did not close.
 pub fn is_never_raw(s: &[u8], start: usize, end: usize) -> bool
     requires { end ≤ length s.now }
     ensures { result ≡ never_raw (slice start end s.now) }
 {
-    if text_is(s, start, end, b"crate") {
-        return true;
-    }
-    if text_is(s, start, end, b"self") {
-        return true;
-    }
-    if text_is(s, start, end, b"super") {
-        return true;
-    }
-    if text_is(s, start, end, b"Self") {
-        return true;
-    }
-    text_is(s, start, end, b"_")
+    text_is(s, start, end, b"crate")
+        || text_is(s, start, end, b"self")
+        || text_is(s, start, end, b"super")
+        || text_is(s, start, end, b"Self")
+        || text_is(s, start, end, b"_")
 }
 
-fn is_raw_name(s: &[u8], start: usize, end: usize) -> bool
-    requires { end ≤ length s.now }
-    ensures { result ≡ raw_name (slice start end s.now) }
+fn is_name(text: &[u8]) -> bool
+    ensures { result ≡ name text.now }
 {
-    if end <= start {
-        return false;
+    match text {
+        [b'r', b'#', rest @ ..] => plain_name(rest) && !is_never_raw(rest, 0, rest.len()),
+        _ => plain_name(text),
     }
-    let second = start + 1;
-    if end <= second {
-        return false;
-    }
-    if s[start] != b'r' {
-        return false;
-    }
-    if s[second] != b'#' {
-        return false;
-    }
-    let third = second + 1;
-    if !is_plain_name(s, third, end) {
-        return false;
-    }
-    !is_never_raw(s, third, end)
-}
-
-fn is_name(s: &[u8], start: usize, end: usize) -> bool
-    requires { end ≤ length s.now }
-    ensures { result ≡ name (slice start end s.now) }
-{
-    if is_plain_name(s, start, end) {
-        return true;
-    }
-    is_raw_name(s, start, end)
 }
 
 fn starts_literal(b: u8) -> bool
     ensures { result ≡ literal_start b }
 {
-    if is_digit(b) {
-        return true;
-    }
-    is_one_of(b, b"\"'bcr")
+    is_digit(b) || is_one_of(b, b"\"'bcr")
 }
 
-fn is_literal(s: &[u8], start: usize, end: usize) -> bool
-    requires { end ≤ length s.now }
-    ensures { result ≡ literal (slice start end s.now) }
+fn is_literal(text: &[u8]) -> bool
+    ensures { result ≡ literal text.now }
 {
-    if end <= start {
-        return false;
+    match text {
+        [first, ..] => starts_literal(*first) && fits(text, false),
+        [] => false,
     }
-    if !starts_literal(s[start]) {
-        return false;
-    }
-    all_fit(s, start, end, false)
 }
 
-// The form of a row of this kind with the text from start to end, which is not of one byte.
-fn text_shape(s: &[u8], kind: u8, start: usize, end: usize) -> Shape
-    requires end_in_bounds { end ≤ length s.now }
-    requires fact { start + 1 ≡ end → ⊥ }
-    ensures { shape result ≡ form_of kind (slice start end s.now) }
+// Whether a text that is not of one byte makes a row of this kind: a token.
+#[tactic(auto, unfolding(crate::specs::Row::form_of))]
+fn is_token(kind: u8, text: &[u8]) -> bool
+    requires { length text.now ≡ 1 → ⊥ }
+    ensures { cond result plain wrong ≡ form_of kind text.now }
 {
-    if kind == b'i' {
-        return if is_name(s, start, end) {
-            Shape::Plain
-        } else {
-            Shape::Wrong
-        };
+    match kind {
+        b'i' => is_name(text),
+        b'l' => is_literal(text),
+        _ => false,
     }
-    if kind == b'l' {
-        return if is_literal(s, start, end) {
-            Shape::Plain
-        } else {
-            Shape::Wrong
-        };
-    }
-    Shape::Wrong
 }
 
-// The form of a row of this kind, neither `i` nor `l`, whose text is the one byte b.
-fn single_shape(kind: u8, b: u8) -> Shape
-    ensures { shape result ≡ single_form kind b }
+// What a row of this kind is whose text is the one byte b; None where it is no row.
+#[tactic(auto, using(crate::proofs::Forms::literal_byte), unfolding(crate::specs::Row::form_of))]
+fn byte_shape(kind: u8, b: u8) -> Option<Shape>
+    ensures { shape_form result ≡ form_of kind (b ∷ []) }
 {
-    if kind == b'p' {
-        return if is_punctuation(b) {
-            Shape::Plain
-        } else {
-            Shape::Wrong
-        };
+    match kind {
+        b'i' if is_name_start(b) => Some(Shape::Plain),
+        b'l' if starts_literal(b) => Some(Shape::Plain),
+        b'p' if is_punctuation(b) => Some(Shape::Plain),
+        b'o' if is_one_of(b, b"([{0") => Some(Shape::Opens(b)),
+        b'c' if is_one_of(b, b")]}0") => Some(Shape::Closed(b)),
+        _ => None,
     }
-    if kind == b'o' {
-        return if is_one_of(b, b"([{0") {
-            Shape::Opens(b)
-        } else {
-            Shape::Wrong
-        };
-    }
-    if kind == b'c' {
-        return if is_one_of(b, b")]}0") {
-            Shape::Closed(b)
-        } else {
-            Shape::Wrong
-        };
-    }
-    Shape::Wrong
 }
 
-// The form of a row of this kind whose text is the one byte b.
-fn byte_shape(kind: u8, b: u8) -> Shape
-    ensures { shape result ≡ form_of kind (b ∷ []) }
-{
-    if kind == b'i' {
-        return if is_name_start(b) {
-            Shape::Plain
-        } else {
-            Shape::Wrong
-        };
-    }
-    if kind == b'l' {
-        return if starts_literal(b) {
-            Shape::Plain
-        } else {
-            Shape::Wrong
-        };
-    }
-    single_shape(kind, b)
-}
-
-// The token whose text is at `start`, where each byte of it after the first may stand in a name, or else in
-// a literal; else Wrong.
-fn token_line(s: &[u8], start: usize, names: bool) -> Line
+// Where the line after the token starts whose text is at `start`, where each byte of it after the first may stand in a
+// name, or else in a literal.
+fn token_end(s: &[u8], start: usize, names: bool) -> Option<usize>
     requires { start < length s.now }
-    ensures { TokenLine s.now names start result }
+    ensures { IfSome result (λ n. TokenEnd s.now names start n) }
 {
-    let second = start + 1;
-    let end = text_end(s, second, names);
-    if end < s.len() {
-        if s[end] == b'\n' {
-            if end - start <= MAX_TEXT {
-                let next = end + 1;
-                return Line {
-                    shape: Shape::Plain,
-                    next,
-                };
-            }
-        }
-    }
-    Line {
-        shape: Shape::Wrong,
-        next: end,
+    let end = text_end(s, start + 1, names);
+    if end < s.len() && s[end] == b'\n' && end <= start + MAX_TEXT {
+        Some(end + 1)
+    } else {
+        None
     }
 }
 
@@ -249,112 +150,69 @@ fn one_byte(s: &[u8], column: usize) -> bool
     requires { column ≤ length s.now }
     ensures { result ≡ one_byte_lem s.now column }
 {
-    let past = column + SHORT_ROW;
-    if s.len() < past {
-        return false;
-    }
-    let space = column + 1;
-    let last = column + 3;
-    if s[space] != b' ' {
-        return false;
-    }
-    s[last] == b'\n'
+    column + SHORT_ROW <= s.len() && s[column + 1] == b' ' && s[column + 3] == b'\n'
 }
 
-// The name or literal behind `column`, where one look at each byte tells it, as of most; else Wrong.
-fn quick_token(s: &[u8], kind: u8, column: usize) -> Line
+// Where the line after the name or literal behind `column` starts, where one look at each byte tells it, as of most.
+fn quick_token(s: &[u8], kind: u8, column: usize) -> Option<usize>
     requires { column ≤ length s.now }
-    ensures { ColumnShapedUnlessWrong kind s.now column result }
+    ensures { IfSome result (λ n. ColumnShaped kind s.now column (token (Some n))) }
 {
-    let unknown = Line {
-        shape: Shape::Wrong,
-        next: column,
-    };
-    let past = column + SHORT_ROW;
-    if s.len() < past {
-        return unknown;
-    }
-    let space = column + 1;
     let start = column + TEXT;
-    if s[space] != b' ' {
-        return unknown;
+    if s.len() < column + SHORT_ROW || s[column + 1] != b' ' {
+        return None;
     }
-    let b = s[start];
-    if kind == b'i' {
-        if is_name_start(b) {
-            return token_line(s, start, true);
-        }
+    match kind {
+        b'i' if is_name_start(s[start]) => token_end(s, start, true),
+        b'l' if starts_literal(s[start]) => token_end(s, start, false),
+        _ => None,
     }
-    if kind == b'l' {
-        if starts_literal(b) {
-            return token_line(s, start, false);
-        }
-    }
-    unknown
 }
 
-// The form of a row of this kind whose last column is at `column`, and where the next line starts.
-fn column_line(s: &[u8], kind: u8, column: usize) -> Line
+// The same of any token but one whose text is one byte.
+fn long_token(s: &[u8], kind: u8, column: usize) -> Option<usize>
+    requires column_in_bounds { column ≤ length s.now }
+    requires column_value { one_byte_lem s.now column ≡ false }
+    ensures { ColumnShaped kind s.now column (token result) }
+{
+    let start = column + TEXT;
+    if s.len() < start || s[column + 1] != b' ' {
+        return None;
+    }
+    let end = line_end(s, start);
+    if end < s.len() && end - start <= MAX_TEXT && is_token(kind, &s[start..end]) {
+        Some(end + 1)
+    } else {
+        None
+    }
+}
+
+// The row of this kind whose last column is at `column`.
+fn column_line(s: &[u8], kind: u8, column: usize) -> Option<Line>
     requires { column ≤ length s.now }
     ensures { ColumnShaped kind s.now column result }
 {
     if one_byte(s, column) {
-        let start = column + TEXT;
-        let next = column + SHORT_ROW;
-        let shape = byte_shape(kind, s[start]);
-        return Line { shape, next };
+        return Some(Line {
+            shape: byte_shape(kind, s[column + TEXT])?,
+            next: column + SHORT_ROW,
+        });
     }
-    let quick = quick_token(s, kind, column);
-    let shape = quick.shape;
-    match shape {
-        Shape::Plain => quick,
-        Shape::Opens(_) => quick,
-        Shape::Closed(_) => quick,
-        Shape::Wrong => long_line(s, kind, column),
-    }
-}
-
-// The same of any text but one of one byte.
-fn long_line(s: &[u8], kind: u8, column: usize) -> Line
-    requires column_in_bounds { column ≤ length s.now }
-    requires column_value { one_byte_lem s.now column ≡ false }
-    ensures { ColumnShaped kind s.now column result }
-{
-    let wrong = Line {
-        shape: Shape::Wrong,
-        next: column,
+    let next = match quick_token(s, kind, column) {
+        Some(next) => next,
+        None => long_token(s, kind, column)?,
     };
-    let start = column + TEXT;
-    if s.len() < start {
-        return wrong;
-    }
-    let space = column + 1;
-    if s[space] != b' ' {
-        return wrong;
-    }
-    let end = line_end(s, start);
-    if s.len() <= end {
-        return wrong;
-    }
-    if MAX_TEXT < end - start {
-        return wrong;
-    }
-    let next = end + 1;
-    let shape = text_shape(s, kind, start, end);
-    Line { shape, next }
+    Some(Line {
+        shape: Shape::Plain,
+        next,
+    })
 }
 
 // Whether j is a mark that a row of this kind may have: 0, or of punctuation 1.
 fn mark_fits(kind: u8, j: u8) -> bool
     ensures { result ≡ mark_fits kind j }
 {
-    if j == b'0' {
-        return true;
-    }
-    if kind != b'p' {
-        return false;
-    }
-    j == b'1'
+    j == b'0' || kind == b'p' && j == b'1'
 }
 
 // Whether a kind, a space and a mark that fits stand at `at`, before another byte.
@@ -362,31 +220,21 @@ fn mark_stands(s: &[u8], at: usize) -> bool
     requires { at < length s.now }
     ensures { result ≡ mark_stands_lem s.now at }
 {
-    if s.len() - at < MARKED_TEXT {
-        return false;
-    }
-    let space = at + 1;
-    if s[space] != b' ' {
-        return false;
-    }
-    let mark = at + MARK;
-    mark_fits(s[at], s[mark])
+    MARKED_TEXT <= s.len() - at && s[at + 1] == b' ' && mark_fits(s[at], s[at + MARK])
 }
 
-// The form of the line at `at`, and where the next one starts.
-pub fn line_shape(s: &[u8], marked: bool, at: usize) -> Line
+// The row at `at`; None where the line there is none.
+pub fn line_shape(s: &[u8], marked: bool, at: usize) -> Option<Line>
     requires { at < length s.now }
     ensures { RowShaped marked s.now at result }
 {
-    let mut column = at;
-    if marked {
-        if !mark_stands(s, at) {
-            return Line {
-                shape: Shape::Wrong,
-                next: at,
-            };
-        }
-        column = at + MARK;
-    }
+    let column = if !marked {
+        at
+    } else if mark_stands(s, at) {
+        at + MARK
+    } else {
+        return None;
+    };
+    // One call, so that it is short enough to be copied into the walk.
     column_line(s, s[at], column)
 }

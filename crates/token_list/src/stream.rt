@@ -11,7 +11,7 @@ use crate::layout::{MARK, MARKED_TEXT, SHORT_MARKED_ROW, SHORT_ROW, TEXT, has_ma
 
 // A row: its kind, its mark, the last byte of its text (a punctuation's byte, a group's delimiter: theirs is
 // found with the row's end, whichever names the list has), where its text starts and ends, and where the next
-// row starts.
+// row starts. The kind is the list's own byte, as `TokenAt` says, and not an enum: it would be made anew at each row.
 #[derive(Clone, Copy)]
 pub struct Token {
     pub kind: u8,
@@ -28,7 +28,8 @@ pub struct Glance {
     pub first: u8,
 }
 
-// What stands at a cursor: nothing more in this stream, a token, or a group's opening row.
+// What stands at a cursor: nothing more in this stream, a token, or a group's opening row. Three cases of one match,
+// and no Option of two, since most readers treat each apart.
 #[derive(Clone, Copy)]
 pub enum Peeked {
     Nothing,
@@ -36,23 +37,19 @@ pub enum Peeked {
     Group(Token),
 }
 
-// The kind of the row at c and the first byte of its text; 0 and 0 where the stream ends. The text
-// is not looked through.
+// The kind of the row at c and the first byte of its text; 0 and 0 where the stream ends, so that one comparison tells
+// a kind from another and from the end. The text is not looked through.
 pub fn look(s: &[u8], c: Cursor) -> Glance
     requires { InList s.now c }
     ensures { Looked s.now c.at result }
 {
-    let at = c.at;
-    if s.len() <= at {
+    if s.len() <= c.at || s[c.at] == b'c' {
         return Glance { kind: 0, first: 0 };
     }
-    let kind = s[at];
-    if kind == b'c' {
-        return Glance { kind: 0, first: 0 };
+    Glance {
+        kind: s[c.at],
+        first: s[c.at + text_offset(has_marks(s))],
     }
-    let start = at + text_offset(has_marks(s));
-    let first = s[start];
-    Glance { kind, first }
 }
 
 // Where the row at `at` ends, at its LF. A kind, a space and a byte of text stand before it.
@@ -62,6 +59,7 @@ fn row_end(s: &[u8], at: usize) -> usize
     requires in_bounds { NAMES_DIFFER < length s.now }
     ensures { RowEnd s.now at result }
 {
+    // A row stands here, so an LF is ahead: a `while` needs no look for the list's end at each byte, as a `for` has.
     let mut i = at + TEXT + 1;
     while s[i] != b'\n' {
         i += 1;
@@ -75,14 +73,10 @@ fn mark(s: &[u8], marked: bool, at: usize) -> bool
     ensures { result ≡ mark_of marked (drop at s.now) }
 {
     if marked {
-        let column = at + MARK;
-        return s[column] == b'1';
+        s[at + MARK] == b'1'
+    } else {
+        s[at] == b'p' && s[at + TEXT] == b'\''
     }
-    if s[at] != b'p' {
-        return false;
-    }
-    let start = at + TEXT;
-    s[start] == b'\''
 }
 
 // The row at `at`, of any kind.
@@ -92,21 +86,15 @@ pub fn token_at(s: &[u8], at: usize) -> Token
     requires in_bounds { NAMES_DIFFER < length s.now }
     ensures { TokenAt s.now at result }
 {
-    let kind = s[at];
     let end = row_end(s, at);
     let marked = has_marks(s);
-    let start = at + text_offset(marked);
-    let next = end + 1;
-    let last = end - 1;
-    let byte = s[last];
-    let joint = mark(s, marked, at);
     Token {
-        kind,
-        joint,
-        byte,
-        start,
+        kind: s[at],
+        joint: mark(s, marked, at),
+        byte: s[end - 1],
+        start: at + text_offset(marked),
         end,
-        next,
+        next: end + 1,
     }
 }
 
@@ -114,19 +102,13 @@ pub fn peek(s: &[u8], c: Cursor) -> Peeked
     requires { InList s.now c }
     ensures { stands s.now c.at result }
 {
-    let at = c.at;
-    if s.len() <= at {
+    if s.len() <= c.at {
         return Peeked::Nothing;
     }
-    let kind = s[at];
-    if kind == b'c' {
-        return Peeked::Nothing;
-    }
-    let t = token_at(s, at);
-    if kind == b'o' {
-        Peeked::Group(t)
-    } else {
-        Peeked::Leaf(t)
+    match s[c.at] {
+        b'c' => Peeked::Nothing,
+        b'o' => Peeked::Group(token_at(s, c.at)),
+        _ => Peeked::Leaf(token_at(s, c.at)),
     }
 }
 
@@ -137,22 +119,10 @@ pub fn has_punct(s: &[u8], c: Cursor, b: u8) -> bool
     requires b_value { mark_fits PUNCT b ≡ false }
     ensures { result ≡ starts_punct b (at s.now c.at).here }
 {
-    let at = c.at;
-    if s.len() <= at {
+    if s.len() <= c.at || s[c.at] != b'p' {
         return false;
     }
-    if s[at] != b'p' {
-        return false;
-    }
-    let plain = at + TEXT;
-    if s[plain] == b {
-        return true;
-    }
-    if !has_marks(s) {
-        return false;
-    }
-    let past_mark = at + MARKED_TEXT;
-    s[past_mark] == b
+    s[c.at + TEXT] == b || has_marks(s) && s[c.at + MARKED_TEXT] == b
 }
 
 // The punctuation b at c, where it was found: its text is one byte, so its end is not looked for.
@@ -162,21 +132,18 @@ pub fn punct_at(s: &[u8], c: Cursor, b: u8) -> Token
     requires at_value { starts_punct b (at s.now c.at).here ≡ true }
     ensures { LeafAt s.now c.at result }
 {
-    let at = c.at;
-    let plain = at + TEXT;
-    let mut next = at + SHORT_ROW;
-    if s[plain] != b {
-        next = at + SHORT_MARKED_ROW;
-    }
-    let end = next - 1;
-    let start = end - 1;
-    let joint = mark(s, has_marks(s), at);
+    let size = if s[c.at + TEXT] == b {
+        SHORT_ROW
+    } else {
+        SHORT_MARKED_ROW
+    };
+    let next = c.at + size;
     Token {
         kind: b'p',
-        joint,
+        joint: mark(s, has_marks(s), c.at),
         byte: b,
-        start,
-        end,
+        start: next - 2,
+        end: next - 1,
         next,
     }
 }
@@ -186,13 +153,11 @@ fn deeper(kind: u8, depth: usize) -> usize
     requires { (0 < depth) × (depth + 1 < 2 ^ 64) }
     ensures { result ≡ deeper kind depth }
 {
-    if kind == b'o' {
-        return depth + 1;
+    match kind {
+        b'o' => depth + 1,
+        b'c' => depth - 1,
+        _ => depth,
     }
-    if kind == b'c' {
-        return depth - 1;
-    }
-    depth
 }
 
 // Past the closing row of the group that c stands in, or to the end of the rows where it is in none.
@@ -200,18 +165,13 @@ pub fn skip(s: &[u8], c: Cursor) -> Cursor
     requires { InList s.now c }
     ensures { skipped (at s.now c.at).outer s.now c result }
 {
-    let mut i = c.at;
-    let mut row = c.row;
+    let Cursor { mut at, mut row } = c;
     let mut depth = 1;
-    while 0 < depth {
-        if s.len() <= i {
-            return Cursor { at: i, row };
-        }
-        let kind = s[i];
-        let end = row_end(s, i);
-        depth = deeper(kind, depth);
-        i = end + 1;
+    // By as many bytes as each row has: no iterator goes so.
+    while 0 < depth && at < s.len() {
+        depth = deeper(s[at], depth);
+        at = row_end(s, at) + 1;
         row += 1;
     }
-    Cursor { at: i, row }
+    Cursor { at, row }
 }

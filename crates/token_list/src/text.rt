@@ -1,62 +1,36 @@
 // Bytes and texts: the classes of bytes, the worth of a digit, and the one comparison of a text with given bytes.
-ghost use Rattle.std.specs.Prelude.{◌≡◌, ◌≤◌, min, length};
+ghost use Rattle.std.specs.Prelude.{◌≡◌, ◌≤◌, reverse, length};
+ghost use Rattle.std.specs.List.{list_all, position, zip};
 ghost use Rattle.std.proofs.Math.Seq.{slice};
-ghost use Rattle.token_list.specs.Text.{all, member, same, between, digit, name_start, punctuation, digit_worth};
+ghost use Rattle.token_list.specs.Text.{all, member, same, digit, name_start, punctuation, digit_worth};
+ghost use Rattle.token_list.specs.Pairs.{unequal};
 ghost use Rattle.token_list.specs.Contract.{in_text, TextEnd, ComparedAs};
-
-// Whether lo <= b <= hi.
-fn between(lo: u8, hi: u8, b: u8) -> bool
-    ensures { result ≡ between lo hi b }
-{
-    if b < lo {
-        return false;
-    }
-    b <= hi
-}
 
 pub fn is_digit(b: u8) -> bool
     ensures { result ≡ digit b }
 {
-    between(b'0', b'9', b)
+    b.is_ascii_digit()
 }
 
 // What a byte is worth as a digit; 16 where it is none.
+#[tactic(auto, unfolding(crate::specs::Text::digit_worth))]
 pub fn digit_worth(b: u8) -> usize
     ensures value { result ≡ digit_worth b }
     ensures upper_bound { result ≤ 16 }
 {
-    if b < b'0' {
-        return 16;
+    match b {
+        b'0'..=b'9' => usize::from(b - b'0'),
+        b'A'..=b'F' => usize::from(b - b'A') + 10,
+        b'a'..=b'f' => usize::from(b - b'a') + 10,
+        _ => 16,
     }
-    if b <= b'9' {
-        return (b - b'0') as usize;
-    }
-    if b < b'A' {
-        return 16;
-    }
-    if b <= b'F' {
-        return (b - b'A') as usize + 10;
-    }
-    if b < b'a' {
-        return 16;
-    }
-    if b <= b'f' {
-        return (b - b'a') as usize + 10;
-    }
-    16
 }
 
-// A letter or `_`.
+// A letter or `_`. By ranges, small letters first: `is_ascii_alphabetic` takes twice as many instructions in the loops.
 pub fn is_name_start(b: u8) -> bool
     ensures { result ≡ name_start b }
 {
-    if between(b'a', b'z', b) {
-        return true;
-    }
-    if between(b'A', b'Z', b) {
-        return true;
-    }
-    b == b'_'
+    (b'a'..=b'z').contains(&b) || (b'A'..=b'Z').contains(&b) || b == b'_'
 }
 
 // The punctuation from `!` to `@`, a bit for each, `!` the lowest.
@@ -66,21 +40,11 @@ const PUNCTUATION: u32 = 0xFE00_7E7D;
 pub fn is_punctuation(b: u8) -> bool
     ensures { result ≡ punctuation b }
 {
-    if b < b'!' {
-        return false;
+    match b {
+        b'!'..=b'@' => (PUNCTUATION >> (b - b'!')) % 2 == 1,
+        b'^' | b'|' | b'~' => true,
+        _ => false,
     }
-    if b <= b'@' {
-        let bit = b - b'!';
-        let shifted = PUNCTUATION >> bit;
-        return shifted % 2 == 1;
-    }
-    if b == b'^' {
-        return true;
-    }
-    if b == b'|' {
-        return true;
-    }
-    b == b'~'
 }
 
 // Whether b may stand in a name, or else in a literal.
@@ -88,12 +52,10 @@ fn in_text(names: bool, b: u8) -> bool
     ensures { result ≡ in_text names b }
 {
     if names {
-        if is_name_start(b) {
-            return true;
-        }
-        return is_digit(b);
+        is_name_start(b) || is_digit(b)
+    } else {
+        (b' '..=b'~').contains(&b)
     }
-    between(b' ', b'~', b)
 }
 
 // The first place from `from` on whose byte may not stand in a name, or else in a literal; past the
@@ -101,14 +63,19 @@ fn in_text(names: bool, b: u8) -> bool
 pub fn text_end(s: &[u8], from: usize, names: bool) -> usize
     ensures { TextEnd s.now names from result }
 {
-    let mut i = from;
-    while i < s.len() {
+    for i in from..s.len() {
         if !in_text(names, s[i]) {
             return i;
         }
-        i += 1;
     }
-    i
+    from.max(s.len())
+}
+
+// Whether each byte of a text may stand in a name, or else in a literal.
+pub(crate) fn fits(text: &[u8], names: bool) -> bool
+    ensures { result ≡ list_all (in_text names) text.now }
+{
+    text.iter().all(|&b| in_text(names, b))
 }
 
 // Whether each byte from start to end may stand in a name, or else in a literal.
@@ -116,28 +83,14 @@ pub fn all_fit(s: &[u8], start: usize, end: usize, names: bool) -> bool
     requires { end ≤ length s.now }
     ensures { result ≡ all (in_text names) (slice start end s.now) }
 {
-    let mut i = start;
-    while i < end {
-        if !in_text(names, s[i]) {
-            return false;
-        }
-        i += 1;
-    }
-    true
+    end <= start || fits(&s[start..end], names)
 }
 
 // Whether b is one of the bytes of `set`.
 pub fn is_one_of(b: u8, set: &[u8]) -> bool
     ensures { result ≡ member b set.now }
 {
-    let mut i = 0;
-    while i < set.len() {
-        if b == set[i] {
-            return true;
-        }
-        i += 1;
-    }
-    false
+    set.contains(&b)
 }
 
 // Two texts compared: whether they are the same, and how many pairs of bytes were looked at for it.
@@ -147,48 +100,40 @@ pub struct Compared {
     pub pairs: usize,
 }
 
+// How many pairs from the last on are equal, where an unequal one is before them.
+fn equal_pairs(a: &[u8], b: &[u8]) -> Option<usize>
+    ensures { result ≡ position unequal (zip (reverse a.now) (reverse b.now)) }
+{
+    a.iter().rev().zip(b.iter().rev()).position(|(x, y)| x != y)
+}
+
 // From the last byte to the first, since names in one firmware begin alike.
 pub fn compare(a: &[u8], b: &[u8]) -> Compared
     ensures { ComparedAs a.now b.now result }
 {
-    let len = a.len();
-    if len != b.len() {
+    if a.len() != b.len() {
         return Compared {
             same: false,
             pairs: 0,
         };
     }
-    let mut pairs = 0;
-    while pairs < len {
-        let looked = pairs + 1;
-        let i = len - looked;
-        if a[i] != b[i] {
-            return Compared {
-                same: false,
-                pairs: looked,
-            };
-        }
-        pairs = looked;
+    match equal_pairs(a, b) {
+        Some(equal) => Compared {
+            same: false,
+            pairs: equal + 1,
+        },
+        None => Compared {
+            same: true,
+            pairs: a.len(),
+        },
     }
-    Compared { same: true, pairs }
-}
-
-// The smaller of two numbers.
-fn least(m: usize, n: usize) -> usize
-    ensures { result ≡ min m n }
-{
-    if n < m {
-        return n;
-    }
-    m
 }
 
 // Whether the text from start to end, or to the list's end, is `name`.
 pub fn text_is(s: &[u8], start: usize, end: usize, name: &[u8]) -> bool
     ensures { result ≡ same (slice start end s.now) name.now }
 {
-    let to = least(end, s.len());
-    let from = least(start, to);
-    let r = compare(&s[from..to], name);
-    r.same
+    let to = end.min(s.len());
+    let from = start.min(to);
+    &s[from..to] == name
 }

@@ -1,16 +1,12 @@
-use mathlib.Core.Path.{sym, ◌∙◌, ap}
-use Rattle.token_list.specs.Contract.{checked}
-use Rattle.exports.specs.Code.{code, check_case}
-use Rattle.exports.proofs.Codes.{coded_as, checked_told, check_small}
+use mathlib.Core.Path.{◌∙◌, ap}
+use Rattle.exports.specs.Code.{check_case}
+use Rattle.exports.proofs.Codes.{checked_told, checked_case, low_case, case_coded}
 use Rattle.exports.proofs.kusthrila_check.Goals as goal
 
 pub coded-requires : goal.coded-requires
-coded-requires c = (check_small (c.check.ensures.refusal _ _ (ap checked c.in-Refused.is))).1
+coded-requires c = low_case (checked_told c.args.list.now) c.check.result
+    (checked_case c.check.result ∙ ap check_case c.check.ensures.answer)
 
-pub returns-in-Passed : goal.returns-in-Passed
-returns-in-Passed c = let answer = sym (ap checked c.in-Passed.is) ∙ c.check.ensures.answer in
-    coded_as (checked_told c.args.list.now) (ap (λ a. code (check_case a)) answer)
-
-pub returns-in-Refused : goal.returns-in-Refused
-returns-in-Refused c = let answer = sym (ap checked c.in-Refused.is) ∙ c.check.ensures.answer in
-    coded_as (checked_told c.args.list.now) (c.coded.ensures ∙ ap (λ a. code (check_case a)) answer)
+pub returns : goal.returns
+returns c = case_coded (checked_told c.args.list.now) c.check.result
+    (checked_case c.check.result ∙ ap check_case c.check.ensures.answer) c.coded.ensures

@@ -1,19 +1,15 @@
-use mathlib.Core.Path.{refl}
+use Rattle.std.proofs.Common.{rules}
+use Rattle.parse.specs.Contract.{kind_of}
+use Rattle.exports.specs.Code.{kind_code}
+use Rattle.exports.proofs.Codes.{mapped}
 use Rattle.exports.proofs.ReadSources.{read_low, read_into}
 use Rattle.exports.proofs.kusthrila_read_source.Goals as goal
 
-pub coded-requires : goal.coded-requires
-coded-requires c = read_low c.args.text.now c.read.ensures _ c.in-Refused.is
+pub source_coded-requires : goal.source_coded-requires
+source_coded-requires c = read_low c.args.text.now c.read.ensures c.map.result
+    (mapped (λ k. kind_code (kind_of k)) c.read.result c.map.result c.map.ensures.cases (λ x n k. search rules))
 
-pub returns-in-Struct : goal.returns-in-Struct
-returns-in-Struct c = read_into c.args.text.now c.read.ensures _ c.in-Struct.is refl refl
-
-pub returns-in-Enum : goal.returns-in-Enum
-returns-in-Enum c = read_into c.args.text.now c.read.ensures _ c.in-Enum.is refl refl
-
-pub returns-in-FaultAt : goal.returns-in-FaultAt
-returns-in-FaultAt c =
-    read_into c.args.text.now c.read.ensures _ c.in-FaultAt.is c.fault_at.ensures.number c.fault_at.ensures.offset
-
-pub returns-in-Refused : goal.returns-in-Refused
-returns-in-Refused c = read_into c.args.text.now c.read.ensures _ c.in-Refused.is c.coded.ensures refl
+pub returns : goal.returns
+returns c = read_into c.args.text.now c.read.ensures c.map.result
+    (mapped (λ k. kind_code (kind_of k)) c.read.result c.map.result c.map.ensures.cases (λ x n k. search rules))
+    c.source_coded.ensures.number c.source_coded.ensures.place

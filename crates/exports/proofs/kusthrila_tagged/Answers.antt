@@ -1,43 +1,24 @@
-use mathlib.Core.Path.{sym, ◌∙◌, ap, subst}
+use mathlib.Core.Path.{ap, ◌∙◌}
+use mir.Val.{bool_byte}
 use lib.ListN.{length}
-use Rattle.tagged_reading.specs.Answer.{answer}
-use Rattle.tagged_attribute.specs.Contract.{TaggedAs}
-use Rattle.exports.specs.Code.{code, tagged_case}
-use Rattle.exports.proofs.Codes.{coded_as}
-use Rattle.exports.proofs.TaggedCodes.{tagged_small, tagged_told, absent_code, read_code}
-use Rattle.tagged_attribute.proofs.Reports.{refused_as}
+use Rattle.std.proofs.Common.{rules}
+use Rattle.std.specs.Prelude.{is_some}
+use Rattle.exports.specs.Code.{answer_case}
+use Rattle.exports.proofs.Codes.{mapped, low_case, case_coded}
+use Rattle.exports.proofs.TaggedCodes.{tagged_told, tagged_same}
 use Rattle.exports.proofs.kusthrila_tagged.Goals as goal
 
 pub coded-requires : goal.coded-requires
-coded-requires c = let a = answer c.args.prefix.now c.args.list.now (length c.args.roles.now) in
-    let told = subst (λ r. TaggedAs c.args.list.now r a) c.in-Refused.is
-    c.parse_tagged_attribute.ensures.answered.answer in
-    (tagged_small (c.parse_tagged_attribute.ensures.answered.refusal _ _ (refused_as c.args.list.now _ a told))).1
+coded-requires c = let found = c.parse_tagged_attribute-found in
+    low_case (tagged_told c.args.prefix.now c.args.list.now (length c.args.roles.now)) c.map.result
+    (ap answer_case (mapped (λ o. bool_byte (is_some o)) found.result c.map.result c.map.ensures.cases
+    (λ x n k. search rules)) ∙ tagged_same c.args.list.now found.result _ found.ensures.answered.answer)
 
-pub returns-in-Absent : goal.returns-in-Absent
-returns-in-Absent c = let a = answer c.args.prefix.now c.args.list.now (length c.args.roles.now) in
-    let told = subst (λ r. TaggedAs c.args.list.now r a) c.in-Absent.is
-    c.parse_tagged_attribute.ensures.answered.answer in
-    record {
-      coded = coded_as (tagged_told _ c.args.list.now _) (absent_code c.args.list.now a told);
-      buffer = c.parse_tagged_attribute.ensures.answered.buffer;
-    }
-
-pub returns-in-Read : goal.returns-in-Read
-returns-in-Read c = let a = answer c.args.prefix.now c.args.list.now (length c.args.roles.now) in
-    let told = subst (λ r. TaggedAs c.args.list.now r a) c.in-Read.is
-    c.parse_tagged_attribute.ensures.answered.answer in
-    record {
-      coded = coded_as (tagged_told _ c.args.list.now _) (read_code c.args.list.now _ a told);
-      buffer = c.parse_tagged_attribute.ensures.answered.buffer;
-    }
-
-pub returns-in-Refused : goal.returns-in-Refused
-returns-in-Refused c = let a = answer c.args.prefix.now c.args.list.now (length c.args.roles.now) in
-    let told = subst (λ r. TaggedAs c.args.list.now r a) c.in-Refused.is
-    c.parse_tagged_attribute.ensures.answered.answer in
-    let number = c.coded.ensures ∙ ap (λ x. code (tagged_case x)) (sym (refused_as c.args.list.now _ a told)) in
-    record {
-      coded = coded_as (tagged_told _ c.args.list.now _) number;
-      buffer = c.parse_tagged_attribute.ensures.answered.buffer;
-    }
+pub returns : goal.returns
+returns c = let found = c.parse_tagged_attribute-found in record {
+  coded = case_coded (tagged_told c.args.prefix.now c.args.list.now (length c.args.roles.now)) c.map.result
+      (ap answer_case (mapped (λ o. bool_byte (is_some o)) found.result c.map.result c.map.ensures.cases
+      (λ x n k. search rules)) ∙ tagged_same c.args.list.now found.result _ found.ensures.answered.answer)
+      c.coded.ensures;
+  buffer = found.ensures.answered.buffer;
+}

@@ -2,6 +2,7 @@ use native.Mathlib.Omega.{arith}
 use mathlib.Core.Path.{◌∙◌, ap, sym}
 use mathlib.Core.List.{map}
 use lib.ListN.{length-map}
+use Rattle.std.specs.Option.{option_or}
 use Rattle.doubles.specs.Key.{name_key}
 use Rattle.doubles.proofs.Keys.{same_names}
 use Rattle.describe.proofs.Sightings.{seen_more}
@@ -24,10 +25,10 @@ seen-again-requires c = record {
 }
 
 pub returns : goal.returns
-returns c = record {
-  by_index_2 = λ row ts a s n k p.
-      seen_more same_names a.name c.args.v.place s (c.name_key-key.ensures.key ∙ ap name_key (sym k.name.bytes))
-      (c.seen-again.ensures (map name_key ts) s.holds (length-map ts name_key ∙ n)) (p ∙ ap row (sym n))
-      c.first_found.ensures;
-  value = (_, c.first_found.ensures);
-}
+returns c =
+    let found = c.or.ensures ∙ ap (option_or c.args.found) c.then_some.ensures in record {
+      by_index_2 = λ row ts a s n k p.
+          seen_more same_names a.name c.args.v.place s (c.name_key-key.ensures.key ∙ ap name_key (sym k.name.bytes))
+          (c.seen-again.ensures (map name_key ts) s.holds (length-map ts name_key ∙ n)) (p ∙ ap row (sym n)) found;
+      value = (_, found);
+    }

@@ -6,32 +6,24 @@ use Rattle.parse.specs.Contract as contract
 use Rattle.reading.specs.Reading as reading
 use Rattle.describe.specs.Numbers.{body_numbers}
 use Rattle.describe.specs.Listing.{body_lines}
-use Rattle.describe.proofs.Parts.{struct_group, enum_group, body_leaf, body_end}
+use Rattle.describe.proofs.Parts.{struct_group, enum_group, body_none}
 use Rattle.describe.proofs.listing.body_lines.Goals as goal
-
-pub past-inside-requires : goal.past-inside-requires
-past-inside-requires c =
-    record { in_list = c.requires; token_at = (meeting.peeked _ _ c.peek.ensures c.in-Group.is).token }
 
 pub struct_lines-requires : goal.struct_lines-requires
 struct_lines-requires c =
-    meeting.past_in_of _ _ _ _ c.past-inside.ensures c.requires (meeting.peeked _ _ c.peek.ensures c.in-Group.is).token
+    meeting.past_in_of _ _ _ _ c.past-inside.ensures c.requires c.in-Group.ensures.token
 
 pub variant_lines-requires : goal.variant_lines-requires
 variant_lines-requires c =
-    meeting.past_in_of _ _ _ _ c.past-inside.ensures c.requires (meeting.peeked _ _ c.peek.ensures c.in-Group.is).token
+    meeting.past_in_of _ _ _ _ c.past-inside.ensures c.requires c.in-Group.ensures.token
 
-pub returns-in-Nothing : goal.returns-in-Nothing
-returns-in-Nothing c = λ b zs k q. body_end (contract.kind_of c.args.d.kind) k
-    (meeting.peeked _ _ c.peek.ensures c.in-Nothing.is)
-
-pub returns-in-Leaf : goal.returns-in-Leaf
-returns-in-Leaf c = let kind = contract.kind_of c.args.d.kind in
-    let leaf = meeting.peeked _ _ c.peek.ensures c.in-Leaf.is in
-    λ b zs k q. put_as (body_leaf kind zs k leaf) (nothing _ _ (omega (arith, c.type_inv)))
+pub returns-in_default : goal.returns-in_default
+returns-in_default c = λ b zs k q.
+    put_as (body_none (contract.kind_of c.args.d.kind) zs c.peek.result
+    (record { stands = c.peek.ensures; none = c.in_default.not-Group }) k) (nothing _ _ (omega (arith, c.type_inv)))
 
 pub returns-in-Struct : goal.returns-in-Struct
-returns-in-Struct c = let group = meeting.peeked _ _ c.peek.ensures c.in-Group.is in
+returns-in-Struct c = let group = c.in-Group.ensures in
     λ b zs k q.
     let known = subst (λ kd. contract.InsideAt (reading.body_of (contract.kind_of kd)) c.args.s.now c.args.d.body b)
     c.in-Struct.is k in
@@ -39,7 +31,7 @@ returns-in-Struct c = let group = meeting.peeked _ _ c.peek.ensures c.in-Group.i
     put_as (ap (body_lines zs) g.1) (c.struct_lines.ensures g.0 g.2)
 
 pub returns-in-Enum : goal.returns-in-Enum
-returns-in-Enum c = let group = meeting.peeked _ _ c.peek.ensures c.in-Group.is in
+returns-in-Enum c = let group = c.in-Group.ensures in
     λ b zs k q.
     let known = subst (λ kd. contract.InsideAt (reading.body_of (contract.kind_of kd)) c.args.s.now c.args.d.body b)
     c.in-Enum.is k in

@@ -5,14 +5,6 @@ use Rattle.output.proofs.Texts.{nothing, put_as}
 use Rattle.describe.specs.Listing.{field_lines}
 use Rattle.describe.proofs.listing.field_lines.Goals as goal
 
-pub named_lines-requires : goal.named_lines-requires
-named_lines-requires c =
-    (subst (λ v. contract.FieldsOf c.args.s.now v c.requires.0) c.in-Named.is c.requires.1).2.in_list
-
-pub tuple_lines-requires : goal.tuple_lines-requires
-tuple_lines-requires c =
-    (subst (λ v. contract.FieldsOf c.args.s.now v c.requires.0) c.in-Tuple.is c.requires.1).2.in_list
-
 pub returns-in-Unit : goal.returns-in-Unit
 returns-in-Unit c = λ f k.
     let same = subst (λ v. contract.FieldsOf c.args.s.now v f) c.in-Unit.is k in

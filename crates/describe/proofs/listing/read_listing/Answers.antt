@@ -1,12 +1,11 @@
-use Rattle.parse.specs.Contract.{item_shown, item_said}
-use Rattle.token_list.specs.Contract.{InList, start_of}
+use Rattle.std.specs.Prelude.{Ok, Err}
+use Rattle.std.proofs.lemmas.Result.{err_from_is_err_and}
 use Rattle.token_list.specs.Layout.{first_row}
 use Rattle.token_list.specs.Stream.{at}
 use Rattle.parse.proofs.Items.{from_start}
 use lib.ListN.{length}
 use mathlib.Core.Path.{ap, subst⁻¹}
 use Rattle.reading.specs.Place as place
-use Rattle.parse.proofs.Meeting as meeting
 use Rattle.parse.proofs.Inside.{meets_tells, meets_refusal}
 use Rattle.output.specs.Answer.{fitted}
 use Rattle.output.proofs.Answers.{written_as, written_refused}
@@ -15,30 +14,27 @@ use Rattle.describe.specs.Contract.{ItemFaultsIn}
 use Rattle.describe.proofs.Sightings.{few_names}
 use Rattle.describe.proofs.listing.read_listing.Goals as goal
 
-pub item-requires : goal.item-requires
-item-requires c = subst⁻¹ (InList c.args.s.now) c.start-c.ensures c.requires.in_list
-
 pub fit_listing-requires : goal.fit_listing-requires
-fit_listing-requires c = let m = meets_tells (meeting.say (item_shown c.args.s.now (start_of c.args.s.now)) item_said
-    c.in-At.is (from_start c.item.result c.start-c.ensures c.item.ensures)) in
+fit_listing-requires c = let m = meets_tells (from_start (Ok c.in_ok-d.d) c.start.ensures c.in_ok-d.ensures) in
     record {
       item_of = (m.0, m.4.0, few_names (at c.args.s.now (first_row c.args.s.now)).here m.3 c.requires.s_bound);
       s_len_bound = c.requires.s_len_bound;
     }
 
-pub returns-in-Refused : goal.returns-in-Refused
-returns-in-Refused c = let e = (meets_refusal (meeting.say (item_shown c.args.s.now (start_of c.args.s.now)) item_said
-    c.in-Refused.is
-    (from_start c.item.result c.start-c.ensures c.item.ensures))).1 in record {
+pub returns-in_err-d : goal.returns-in_err-d
+returns-in_err-d c =
+    let e = (meets_refusal (from_start (Err c.in_err-d.field-0.0) c.start.ensures c.in_err-d.ensures)).1 in
+    let p = err_from_is_err_and c.from_residual.result c.from_residual.ensures.1 in
+    rw (p.1, p.2)
+    (record {
       written_as =
           written_refused (ap (λ t. fitted (length c.args.out.now) (item_answer (place.start c.args.s.now) t)) e);
       item_faults_in = subst⁻¹ (ItemFaultsIn c.args.s.now) e tt;
-    }
+    })
 
-pub returns-in-At : goal.returns-in-At
-returns-in-At c =
-    let m = meets_tells (meeting.say (item_shown c.args.s.now (start_of c.args.s.now)) item_said c.in-At.is
-    (from_start c.item.result c.start-c.ensures c.item.ensures)) in
+pub returns : goal.returns
+returns c =
+    let m = meets_tells (from_start (Ok c.in_ok-d.d) c.start.ensures c.in_ok-d.ensures) in
     let p = place.start c.args.s.now in
     let body = m.4.1.body in record {
       written_as = written_as (ap (λ t. fitted (length c.args.out.now) (item_answer p t)) m.3)

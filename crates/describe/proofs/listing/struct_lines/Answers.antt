@@ -12,7 +12,7 @@ returns-then-delimiter-eq123 c = λ f k.
     let a = subst (λ z. fields_in z c.args.s.now c.args.c f) (eq-eqb c.args.delimiter BRACE (omega arith)) k in
     put_as (ap field_lines a.1) (c.named_lines.ensures a.0 a.2)
 
-pub returns : goal.returns
-returns c = λ f k.
+pub returns-else-delimiter-eq123 : goal.returns-else-delimiter-eq123
+returns-else-delimiter-eq123 c = λ f k.
     let a = subst (λ z. fields_in z c.args.s.now c.args.c f) (ne_eqb c.args.delimiter BRACE (λ e. omega arith)) k in
     put_as (ap field_lines a.1) (c.tuple_lines.ensures a.0 a.2)

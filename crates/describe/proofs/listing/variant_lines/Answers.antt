@@ -2,51 +2,53 @@ use native.Mathlib.Omega.{arith}
 use mathlib.Core.Path.{◌∙◌}
 use Rattle.output.proofs.Texts.{joined}
 use Rattle.parse.proofs.Inside.{meets_tells}
-use Rattle.describe.specs.Contract.{number_of}
-use Rattle.describe.proofs.Numbering.{variant_turn, variant_less, numbering_start, numbering-more}
-use Rattle.describe.proofs.Numbering.{numbering-lacks, numbering_done, numbering_refused, number_at}
+use Rattle.describe.proofs.Numbering.{variant_less, numbering_start, numbering-more}
+use Rattle.describe.proofs.Numbering.{numbering-lacks, numbering_end, number_at}
+use mir.Syntax.{w64}
+use Rattle.std.proofs.Common.{FitsSigned, rules, to_z, of_z, sym, ap}
+use Rattle.describe.specs.Numbers.{number}
+use Rattle.std.proofs.lemmas.Int.{to_z-of_z}
 use Rattle.describe.proofs.listing.variant_lines.Goals as goal
 
 pub loop-v-init : goal.loop-v-init
 loop-v-init c = numbering_start c.requires (omega (arith, c.type_inv))
 
-pub variant-requires : goal.variant-requires
-variant-requires c = c.loop-v.invariant.in_list
-
 pub number_after-requires : goal.number_after-requires
-number_after-requires c = let m = meets_tells (variant_turn c.in-One.is c.variant.ensures) in
+number_after-requires c = let m = meets_tells (rw c.in-Ok-One.field-0-is at c.in-Ok-One.ensures) in
     (m.4.0, m.4.2)
 
-pub returns-in-Refused-number_after : goal.returns-in-Refused-number_after
-returns-in-Refused-number_after c = let read = variant_turn c.in-One.is c.variant.ensures in
+pub returns-in_default-number_after : goal.returns-in_default-number_after
+returns-in_default-number_after c = let read = rw c.in-Ok-One.field-0-is at c.in-Ok-One.ensures in
     λ vs zs k q.
-    numbering-lacks c.loop-v.invariant c.in-One.v read (c.number_after.ensures.number_as c.loop-v.c)
-    c.in-Refused-number_after.is
-    vs k zs q
+    numbering-lacks c.loop-v.invariant c.in-Ok-One.v read (c.number_after.ensures.number_as c.loop-v.c)
+    c.in_default-number_after.is vs k zs q
 
 pub put_variant-line-requires : goal.put_variant-line-requires
-put_variant-line-requires c = let m = meets_tells (variant_turn c.in-One.is c.variant.ensures) in
+put_variant-line-requires c = let m = meets_tells (rw c.in-Ok-One.field-0-is at c.in-Ok-One.ensures) in
     (m.4.0, m.4.2)
 
 pub field_lines-at-requires : goal.field_lines-at-requires
-field_lines-at-requires c = let m = meets_tells (variant_turn c.in-One.is c.variant.ensures) in
+field_lines-at-requires c = let m = meets_tells (rw c.in-Ok-One.field-0-is at c.in-Ok-One.ensures) in
     (m.4.0.fields, m.4.2.fields)
 
 pub loop-v-smaller : goal.loop-v-smaller
-loop-v-smaller c = variant_less c.in-One.v (variant_turn c.in-One.is c.variant.ensures)
+loop-v-smaller c = variant_less c.in-Ok-One.v (rw c.in-Ok-One.field-0-is at c.in-Ok-One.ensures)
 
 pub loop-v-preserved : goal.loop-v-preserved
-loop-v-preserved c = let read = variant_turn c.in-One.is c.variant.ensures in
-    numbering-more c.loop-v.invariant c.in-One.v read (number_of c.in-At.n)
-    (λ a t p. number_at (c.number_after.ensures.number_as c.loop-v.c a t p) c.in-At.is)
+loop-v-preserved c =
+    let fits : FitsSigned w64 c.in-Ok.n = search rules in
+    let same = to_z-of_z w64 c.in-Ok.n fits in
+    let read = rw c.in-Ok-One.field-0-is at c.in-Ok-One.ensures in
+    numbering-more c.loop-v.invariant c.in-Ok-One.v read (to_z w64 (of_z w64 c.in-Ok.n))
+    (λ a t p. number_at (c.number_after.ensures.number_as c.loop-v.c a t p) c.in-Ok.is ∙ ap number (sym same))
     (λ a t. joined (c.put_variant-line.ensures a t) (c.field_lines-at.ensures a.fields t.fields))
     (c.field_lines-at.auto.roles ∙ c.variant.auto.roles)
     (c.field_lines-at.auto.out ∙ c.put_variant-line.auto.out)
 
-pub returns-in-Done : goal.returns-in-Done
-returns-in-Done c = λ vs zs k q.
-    numbering_done c.loop-v.invariant (variant_turn c.in-Done.is c.variant.ensures) (λ v h. h) vs k zs q
+pub returns-in_default : goal.returns-in_default
+returns-in_default c = λ vs zs k q.
+    numbering_end c.loop-v.invariant c.variant.result c.variant.ensures (λ r e. cc) vs k zs q
 
-pub returns-in-Refused : goal.returns-in-Refused
-returns-in-Refused c =
-    λ vs zs k q. numbering_refused c.loop-v.invariant (variant_turn c.in-Refused.is c.variant.ensures) vs k
+pub returns-in_default-2 : goal.returns-in_default-2
+returns-in_default-2 c = λ vs zs k q.
+    numbering_end c.loop-v.invariant c.variant.result c.variant.ensures (λ r e. cc) vs k zs q

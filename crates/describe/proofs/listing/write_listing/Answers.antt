@@ -5,12 +5,13 @@ use Rattle.token_list.proofs.Bounds.{bounds}
 use Rattle.token_list.proofs.Passed.{never, passed_list}
 use lib.ListN.{length}
 use mathlib.Core.Path.{sym, ◌∙◌, ap}
+use Rattle.std.proofs.lemmas.Result.{err_from_is_err_and}
 use Rattle.output.proofs.Answers.{written_as, written_refused}
 use Rattle.describe.proofs.Answers.{listing-checked, listing_read, listing-refusal}
 use Rattle.describe.proofs.listing.write_listing.Goals as goal
 
 pub read_listing-requires : goal.read_listing-requires
-read_listing-requires c = let passed = sym c.check.ensures.answer ∙ ap checked c.in-Passed.is in
+read_listing-requires c = let passed = sym c.check.ensures.answer ∙ ap checked c.in_ok-check.was in
     let b = bounds _ passed in
     record {
       in_list = first_in _ _ passed;
@@ -18,19 +19,22 @@ read_listing-requires c = let passed = sym c.check.ensures.answer ∙ ap checked
       s_bound = omega (arith, (passed_list _ _ passed).size, b.rows);
     }
 
-pub returns-in-Refused : goal.returns-in-Refused
-returns-in-Refused c =
-    let refused = sym c.check.ensures.answer ∙ ap checked c.in-Refused.is in record {
+pub returns-in_err-check : goal.returns-in_err-check
+returns-in_err-check c =
+    let refused = sym c.check.ensures.answer ∙ ap checked c.in_err-check.was in
+    let p = err_from_is_err_and c.from_residual.result c.from_residual.ensures.1 in
+    rw (p.1, p.2)
+    (record {
       written_as = written_refused (listing-checked c.args.list.now (length c.args.out.now) refused);
       by_index =
           listing-refusal c.args.list.now (length c.args.out.now) (λ rows p. absurd (never _ _ rows (sym refused ∙ p)));
-    }
+    })
 
-pub returns-in-Passed : goal.returns-in-Passed
-returns-in-Passed c = record {
+pub returns : goal.returns
+returns c = record {
   written_as = written_as
       (listing_read c.args.list.now (length c.args.out.now)
-      (sym c.check.ensures.answer ∙ ap checked c.in-Passed.is))
+      (sym c.check.ensures.answer ∙ ap checked c.in_ok-check.was))
       c.read_listing.ensures.written_as;
   by_index = listing-refusal c.args.list.now (length c.args.out.now)
       (λ rows p. c.read_listing.ensures.item_faults_in);

@@ -1,39 +1,21 @@
-use mathlib.Core.Path.{sym, ◌∙◌, ap}
 use native.Mathlib.Omega.{arith}
-use Rattle.describe.specs.Integer.{in_range}
-use Rattle.describe.proofs.Integers.{radix_long, radix-bounds, integer-prefixed, integer_empty, integer-decimal}
-use Rattle.describe.proofs.Integers.{integer-other}
+use mathlib.Core.Path.{◌∙◌}
+use Rattle.describe.proofs.Integers.{integer-prefixed, integer-decimal, no_integer}
 use Rattle.describe.proofs.numbers.integer.Goals as goal
 
-pub overflow_add-third : goal.overflow_add-third
-overflow_add-third c = let long = radix_long c.args.s.now c.args.start c.args.end c.radix-radix.ensures
-    c.if-radix-ne0.true c.requires in
-    omega (arith, long, c.requires)
+pub returns-in-Some : goal.returns-in-Some
+returns-in-Some c =
+    c.digits.ensures ∙ integer-prefixed c.args.t.now c.in-Some.ensures.value c.in-Some.ensures.bounds.0
 
-pub digits-requires : goal.digits-requires
-digits-requires c =
-    let b = radix-bounds c.args.s.now c.args.start c.args.end c.radix-radix.ensures c.if-radix-ne0.true in
-    record { end_in_bounds = c.requires; le_radix = b.0; radix_bound = b.1 }
+pub returns-in-48-to-57 : goal.returns-in-48-to-57
+returns-in-48-to-57 c = c.digits-in-48-to-57.ensures ∙
+    integer-decimal c.args.t.now c.in_default.ensures.value c.in-48-to-57.len_at_least (omega arith) (omega arith)
 
-pub returns-then-radix-ne0 : goal.returns-then-radix-ne0
-returns-then-radix-ne0 c = c.digits.ensures ∙ sym (ap in_range
-    (integer-prefixed c.args.s.now c.args.start c.args.end c.radix-radix.ensures c.if-radix-ne0.true))
+pub returns-in_default-t : goal.returns-in_default-t
+returns-in_default-t c = no_integer c.args.t.now c.in_default.ensures.value (λ h k l. omega arith)
 
-pub returns-then-end-start : goal.returns-then-end-start
-returns-then-end-start c = let zero = sym c.radix-radix.ensures ∙ c.if-radix-ne0.false in
-    sym (ap in_range (integer_empty c.args.s.now c.args.start c.args.end zero (omega arith)))
+pub returns-in_default-t-2 : goal.returns-in_default-t-2
+returns-in_default-t-2 c = no_integer c.args.t.now c.in_default.ensures.value (λ h k l. omega arith)
 
-pub returns-then-digit_worth-lt10 : goal.returns-then-digit_worth-lt10
-returns-then-digit_worth-lt10 c = let zero = sym c.radix-radix.ensures ∙ c.if-radix-ne0.false in
-    c.digits-then-digit_worth-lt10.ensures ∙
-    sym
-    (ap in_range
-    (integer-decimal c.args.s.now c.args.start c.args.end zero (omega arith) c.requires
-    (omega (arith, c.digit_worth.ensures.value))))
-
-pub returns : goal.returns
-returns c = let zero = sym c.radix-radix.ensures ∙ c.if-radix-ne0.false in
-    sym
-    (ap in_range
-    (integer-other c.args.s.now c.args.start c.args.end zero (omega arith) c.requires
-    (omega (arith, c.digit_worth.ensures.value))))
+pub returns-in_default-t-3 : goal.returns-in_default-t-3
+returns-in_default-t-3 c = no_integer c.args.t.now c.in_default.ensures.value (λ h k l. omega arith)

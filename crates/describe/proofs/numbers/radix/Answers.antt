@@ -1,21 +1,19 @@
 use native.Mathlib.Omega.{arith}
-use mathlib.Core.Path.{sym, ◌∙◌}
-use borrow.Author.Tests.{eq-eqb, ne_eqb}
-use Rattle.token_list.proofs.Texts.{chosen, passed_over}
-use Rattle.describe.proofs.Integers.{radix-none, radix_some}
+use Rattle.describe.proofs.Integers.{radix_is, binary, octal, hexadecimal, no_radix}
 use Rattle.describe.proofs.numbers.radix.Goals as goal
 
-pub returns-then-end-start : goal.returns-then-end-start
-returns-then-end-start c = sym (radix-none c.args.s.now c.args.start c.args.end c.requires (omega arith))
+pub returns-in-48-clause-value : goal.returns-in-48-clause-value
+returns-in-48-clause-value c = radix_is c.args.t.now c.in-48.len_at_least (omega arith) (binary (omega arith))
 
-pub returns-then-end-second : goal.returns-then-end-second
-returns-then-end-second c = sym (radix-none c.args.s.now c.args.start c.args.end c.requires (omega arith))
+pub returns-in-48-2-clause-value : goal.returns-in-48-2-clause-value
+returns-in-48-2-clause-value c =
+    radix_is c.args.t.now c.in-48-2.len_at_least (omega arith) (octal (omega arith))
 
-pub returns-then-s-start-ne48 : goal.returns-then-s-start-ne48
-returns-then-s-start-ne48 c = sym (radix_some c.args.s.now c.args.start c.args.end c.requires (omega arith) ∙
-    passed_over _ _ _ (ne_eqb _ _ c.if-s-start-ne48.true))
+pub returns-in-48-3-clause-value : goal.returns-in-48-3-clause-value
+returns-in-48-3-clause-value c =
+    radix_is c.args.t.now c.in-48-3.len_at_least (omega arith) (hexadecimal (omega arith))
 
-pub returns : goal.returns
-returns c = c.radix_of.ensures ∙
-    sym (radix_some c.args.s.now c.args.start c.args.end c.requires (omega arith) ∙
-    chosen _ _ _ (eq-eqb _ _ c.if-s-start-ne48.false))
+pub returns-in_default-2-clause-value : goal.returns-in_default-2-clause-value
+returns-in_default-2-clause-value c =
+    radix_is c.args.t.now c.in_default.len_at_least (omega arith)
+    (no_radix (λ e. omega arith) (λ e. omega arith) (λ e. omega arith))

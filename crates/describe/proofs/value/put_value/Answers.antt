@@ -19,4 +19,4 @@ returns-in-Literal c = λ x w k room. placed_literal x w k _ _ _ c.in-Literal.is
 pub returns-in-Negative : goal.returns-in-Negative
 returns-in-Negative c = λ x w k room.
     placed_negative x w k _ c.in-Negative.is c.worth-n.ensures.value c.worth-n.ensures.upper_bound
-    c.put_negative-len.ensures room
+    c.put_negative.ensures room

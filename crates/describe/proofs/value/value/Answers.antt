@@ -2,41 +2,31 @@ use mathlib.Core.Path.{ap, subst, subst⁻¹}
 use Rattle.parse.proofs.Meeting as meeting
 use Rattle.parse.specs.Contract as contract
 use Rattle.reading.specs.Reading as reading
-use Rattle.describe.proofs.Parts.{struct_value, enum_group, enum_leaf, enum_end, inside-point}
+use Rattle.describe.proofs.Parts.{struct_value, enum_group, enum_none, inside-point}
 use Rattle.describe.specs.Contract.{ValueAs}
 use Rattle.reading.specs.Place.{variant_at}
 use Rattle.describe.specs.Value.{body_value}
 use Rattle.describe.proofs.value.value.Goals as goal
 
-pub past-inside-requires : goal.past-inside-requires
-past-inside-requires c =
-    record { in_list = c.requires; token_at = (meeting.peeked _ _ c.peek.ensures c.in-Group.is).token }
-
 pub find-requires : goal.find-requires
 find-requires c = meeting.past_in_of _ _ _ _ c.past-inside.ensures c.requires
-    (meeting.peeked _ _ c.peek.ensures c.in-Group.is).token
+    c.in-Group.ensures.token
 
-pub returns-in-Struct : goal.returns-in-Struct
-returns-in-Struct c = λ b i.
+pub returns-in_default : goal.returns-in_default
+returns-in_default c = λ b i.
     let body = subst (λ kd. contract.InsideAt (reading.body_of (contract.kind_of kd)) c.args.s.now c.args.d.body b)
-    c.in-Struct.is i in
+    c.in_default.is i in
     record { value = struct_value _ body; place = tt }
 
-pub returns-in-Nothing : goal.returns-in-Nothing
-returns-in-Nothing c = λ b i.
+pub returns-in_default-peek : goal.returns-in_default-peek
+returns-in_default-peek c = λ b i.
     let body = subst (λ kd. contract.InsideAt (reading.body_of (contract.kind_of kd)) c.args.s.now c.args.d.body b)
     c.in-Enum.is i in
-    enum_end body (meeting.peeked _ _ c.peek.ensures c.in-Nothing.is)
-
-pub returns-in-Leaf : goal.returns-in-Leaf
-returns-in-Leaf c = λ b i.
-    let body = subst (λ kd. contract.InsideAt (reading.body_of (contract.kind_of kd)) c.args.s.now c.args.d.body b)
-    c.in-Enum.is i in
-    let none = enum_leaf body _ (meeting.peeked _ _ c.peek.ensures c.in-Leaf.is) in
+    let none = enum_none c.peek.result (record { stands = c.peek.ensures; none = c.in_default-peek.not-Group }) body in
     record { value = ap (body_value c.args.position) none; place = tt }
 
-pub returns-in-Group : goal.returns-in-Group
-returns-in-Group c = let group = meeting.peeked _ _ c.peek.ensures c.in-Group.is in
+pub returns : goal.returns
+returns c = let group = c.in-Group.ensures in
     λ b i.
     let body = subst (λ kd. contract.InsideAt (reading.body_of (contract.kind_of kd)) c.args.s.now c.args.d.body b)
     c.in-Enum.is i in

@@ -1,32 +1,33 @@
 use native.Mathlib.Omega.{arith}
+use mathlib.Core.Path.{◌∙◌, ap}
+use Rattle.reading.specs.Token.{negatable, worth}
+use Rattle.describe.proofs.Lined.{between}
 use Rattle.describe.proofs.Worths.{counting, counting_next, counting_end}
 use Rattle.describe.proofs.value.worth.Goals as goal
 
-pub loop-i-init : goal.loop-i-init
-loop-i-init c = counting _ c.requires.s_value
+pub loop-digit-init : goal.loop-digit-init
+loop-digit-init c =
+    counting _ (ap negatable (between c.args.s.now c.args.start c.args.end c.min.ensures) ∙ c.requires.s_value)
 
-pub bounds-s-i : goal.bounds-s-i
-bounds-s-i c = omega (arith, c.requires.end_in_bounds)
+pub overflow_sub-n : goal.overflow_sub-n
+overflow_sub-n c =
+    omega (arith, (counting_next _ c.loop-digit.digit-index c.loop-digit-test.true c.loop-digit.invariant).0)
 
-pub overflow_sub-digit : goal.overflow_sub-digit
-overflow_sub-digit c =
-    omega (arith, (counting_next _ _ c.requires.end_in_bounds c.loop-i.i (omega arith) c.loop-i.invariant).0)
-
-pub overflow_mul-tens : goal.overflow_mul-tens
-overflow_mul-tens c =
-    omega (arith, (counting_next _ _ c.requires.end_in_bounds c.loop-i.i (omega arith) c.loop-i.invariant).2)
-
-pub overflow_cast-n : goal.overflow_cast-n
-overflow_cast-n c =
-    omega (arith, (counting_next _ _ c.requires.end_in_bounds c.loop-i.i (omega arith) c.loop-i.invariant).1)
+pub overflow_mul-n : goal.overflow_mul-n
+overflow_mul-n c =
+    omega (arith, (counting_next _ c.loop-digit.digit-index c.loop-digit-test.true c.loop-digit.invariant).2)
 
 pub overflow_add-n : goal.overflow_add-n
 overflow_add-n c =
-    omega (arith, (counting_next _ _ c.requires.end_in_bounds c.loop-i.i (omega arith) c.loop-i.invariant).2)
+    omega (arith, (counting_next _ c.loop-digit.digit-index c.loop-digit-test.true c.loop-digit.invariant).2)
 
-pub loop-i-preserved : goal.loop-i-preserved
-loop-i-preserved c = (counting_next _ _ c.requires.end_in_bounds c.loop-i.i (omega arith) c.loop-i.invariant).3
+pub loop-digit-preserved : goal.loop-digit-preserved
+loop-digit-preserved c =
+    (counting_next _ c.loop-digit.digit-index c.loop-digit-test.true c.loop-digit.invariant).3
 
 pub returns : goal.returns
-returns c = let e = counting_end c.args.s.now c.loop-i.i c.args.end (omega arith) c.loop-i.invariant in
-    record { value = e; upper_bound = omega (arith, e, c.loop-i.invariant.few) }
+returns c =
+    let e = counting_end _ c.loop-digit.digit-index c.loop-digit-test.false c.loop-digit.invariant in record {
+      value = e ∙ ap worth (between c.args.s.now c.args.start c.args.end c.min.ensures);
+      upper_bound = omega (arith, e, c.loop-digit.invariant.few);
+    }

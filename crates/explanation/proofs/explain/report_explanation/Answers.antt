@@ -10,27 +10,27 @@ use Rattle.explanation.proofs.Lengths.{explained_few}
 use Rattle.explanation.proofs.explain.report_explanation.Goals as goal
 
 pub slice_bounds-put_roles-end : goal.slice_bounds-put_roles-end
-slice_bounds-put_roles-end c = let f = found c.in-Rows.n (answer c.args.list.now (length c.args.roles.now)) c.in-Rows.is
+slice_bounds-put_roles-end c = let f = found c.in-Ok.n (answer c.args.list.now (length c.args.roles.now)) c.in-Ok.is
     c.read_roles.ensures.read_as in
     f.within
 
-pub slice_bounds-put_roles-end-in-Rows : goal.slice_bounds-put_roles-end-in-Rows
-slice_bounds-put_roles-end-in-Rows c =
-    let f = found c.in-Rows.n (answer c.args.list.now (length c.args.roles.now)) c.in-Rows.is
+pub slice_bounds-put_roles-end-in-Ok : goal.slice_bounds-put_roles-end-in-Ok
+slice_bounds-put_roles-end-in-Ok c =
+    let f = found c.in-Ok.n (answer c.args.list.now (length c.args.roles.now)) c.in-Ok.is
     c.read_roles.ensures.read_as in
-    sym (length-take-le c.in-Rows.n c.read_roles.new.roles f.within)
+    sym (length-take-le c.in-Ok.n c.read_roles.new.roles f.within)
 
-pub returns-in-Refused : goal.returns-in-Refused
-returns-in-Refused c = let none = not_found c.read_roles.new.roles c.in-Refused.r
-    (answer c.args.list.now (length c.args.roles.now)) c.in-Refused.is c.read_roles.ensures.read_as in record {
+pub returns-in-Err : goal.returns-in-Err
+returns-in-Err c = let none = not_found c.read_roles.new.roles c.in-Err.r
+    (answer c.args.list.now (length c.args.roles.now)) c.in-Err.is c.read_roles.ensures.read_as in record {
       printed = rw none c.put_refused.ensures.printed;
       roles_after = c.read_roles.ensures.roles_after;
       upper_bound = omega (arith, c.put_refused.ensures.upper_bound);
       by_index = c.read_roles.ensures.by_index;
     }
 
-pub returns-in-Rows : goal.returns-in-Rows
-returns-in-Rows c = let f = found c.in-Rows.n (answer c.args.list.now (length c.args.roles.now)) c.in-Rows.is
+pub returns-in-Ok : goal.returns-in-Ok
+returns-in-Ok c = let f = found c.in-Ok.n (answer c.args.list.now (length c.args.roles.now)) c.in-Ok.is
     c.read_roles.ensures.read_as in
     let few = explained_few c.args.list.now (length c.args.roles.now) f.declaration _ f.same in
     let p = printed (joined (retold (ap names_line c.is_marked.ensures) c.put_names_line-names.ensures)

@@ -8,6 +8,6 @@ pub returns-then-n-bound : goal.returns-then-n-bound
 unfolding blank
 returns-then-n-bound c = rw (lt-ltb _ _ c.if-n-bound.true) c.put_byte.ensures
 
-pub returns : goal.returns
+pub returns-else-n-bound : goal.returns-else-n-bound
 unfolding blank
-returns c = rw (le-ltb _ _ c.if-n-bound.false) (nothing _ _ (omega (arith, c.type_inv)))
+returns-else-n-bound c = rw (le-ltb _ _ c.if-n-bound.false) (nothing _ _ (omega arith))

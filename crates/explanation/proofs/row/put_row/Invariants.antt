@@ -1,11 +1,13 @@
-use Prim.Native.Nat.{◌-◌, ◌≤◌}
-use lib.ListN.{length, take}
+use mathlib.Core.List.{List}
+use Prim.Native.Nat.{ℕ}
+use lib.ListN.{take}
+use Rattle.std.specs.Slice.Iter.{iter_rest}
 use Rattle.output.specs.Contract.{Put}
 use Rattle.explanation.specs.Row.{shown}
 use Rattle.explanation.proofs.row.put_row.Given as goal
 
-abbrev pub invariant-loop-i : goal.invariant-loop-i
-invariant-loop-i l = (l.i ≤ length l.row) × (l.i ≤ l.most) × Put l.initial.out l.out l.at l.end (shown (take l.i l.row))
-
-abbrev pub decreases-loop-i : goal.decreases-loop-i
-decreases-loop-i l = length l.row - l.i
+-- where the bytes that are left go on to, all of them do
+abbrev pub invariant-loop-b : goal.invariant-loop-b
+invariant-loop-b l = (x : List ℕ) (r : ℕ)
+    → Put l.out x l.end r (shown (take l.b-iterator.n (iter_rest l.b-iterator.iter)))
+    → Put l.initial.out x l.at r (shown (take l.most l.row))

@@ -1,4 +1,4 @@
-use Rattle.explanation.proofs.Shows.{shown_plain, shown_hex}
+use Rattle.explanation.proofs.Texts.{shown_plain, shown_hex}
 use Rattle.explanation.proofs.row.put_shown.Goals as goal
 
 pub returns-then-is_printable : goal.returns-then-is_printable

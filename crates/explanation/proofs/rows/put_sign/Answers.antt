@@ -1,11 +1,18 @@
+use mathlib.Core.Path.{ap}
+use mathlib.Core.List.{List}
+use Prim.Native.Nat.{ℕ}
+use denote.Bor.{Bor}
 use borrow.Author.Tests.{eq-eqb, ne_eqb}
+use Rattle.output.proofs.Texts.{retold}
 use Rattle.explanation.specs.Explanation.{sign}
 use Rattle.explanation.proofs.rows.put_sign.Goals as goal
-
-pub returns-then-n-place : goal.returns-then-n-place
-unfolding sign
-returns-then-n-place c = rw (eq-eqb _ _ c.if-n-place.true) c.put_bytes.ensures
+use Rattle.explanation.proofs.rows.put_sign.Goals.{then-n-place, else-n-place}
 
 pub returns : goal.returns
 unfolding sign
-returns c = rw (ne_eqb _ _ c.if-n-place.false) c.put_bytes-2.ensures
+returns c = elim c.if-n-place.branch [
+  | then-n-place w ↦ rw (eq-eqb _ _ w.if-n-place.true) (retold (ap (λ (b : Bor (List ℕ)). b.now) w.put_bytes-is)
+      c.put_bytes.ensures)
+  | else-n-place w ↦ rw (ne_eqb _ _ w.if-n-place.false) (retold (ap (λ (b : Bor (List ℕ)). b.now) w.put_bytes-is)
+      c.put_bytes.ensures)
+]

@@ -3,4 +3,4 @@ use Rattle.explanation.proofs.words.put_meaning.Goals as goal
 
 pub returns : goal.returns
 unfolding meaning
-returns c = c.put_line.ensures
+returns c = c.put_word.ensures

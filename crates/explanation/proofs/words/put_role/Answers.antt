@@ -3,4 +3,4 @@ use Rattle.explanation.proofs.words.put_role.Goals as goal
 
 pub returns : goal.returns
 unfolding role_words
-returns c = c.put_line.ensures
+returns c = c.put_word.ensures

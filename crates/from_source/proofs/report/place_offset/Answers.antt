@@ -12,4 +12,4 @@ returns-then-place-eq-END c = rw (eq-eqb c.args.place END c.if-place-eq-END.true
 
 pub returns : goal.returns
 unfolding place_offset
-returns c = rw (ne_eqb c.args.place END c.if-place-eq-END.false) (ap (λ (p : Span). p.offset) c.row_place-p.ensures)
+returns c = rw (ne_eqb c.args.place END c.if-place-eq-END.false) (ap (λ (p : Span). p.offset) c.row_place.ensures)

@@ -9,9 +9,8 @@ use Rattle.generate.proofs.generics.add_parameters.Given as goal
 
 abbrev pub invariant-loop-p : goal.invariant-loop-p
 invariant-loop-p l =
-    Turned (goes_out l.names) (map added_type (names_of l.types)) l.angle l.s l.initial.c l.c l.first l.initial.roles
-    l.roles l.initial.out l.out l.initial.builder l.builder
-    l.leading
+    Turned (goes_out l.form.names) (map added_type (names_of l.form.types.now)) l.angle l.s l.initial.c l.c l.first
+    l.initial.b l.b l.leading
 
 abbrev pub decreases-loop-p : goal.decreases-loop-p
 decreases-loop-p l = length l.s - l.c.at

@@ -1,42 +1,36 @@
-use mathlib.Core.Path.{ap}
-use mathlib.Core.Bool.{not}
-use mathlib.Core.Path.{refl, sym, ◌∙◌}
-use borrow.Author.Tests.{not-true, not-false}
-use Rattle.token_list.specs.Byte.{LESS}
+use native.Mathlib.Omega.{arith}
+use mathlib.Core.Path.{◌≡◌, refl, sym, ◌∙◌}
+use Rattle.token_list.specs.Layout.{marked}
+use Rattle.token_list.specs.Rows.{list_of}
+use Rattle.output.specs.Contract.{Put}
 use Rattle.reading.specs.Declaration.{parameters_of}
-use Rattle.parse.specs.Contract.{stream}
 use Rattle.parse.proofs.Meeting.{past_in_of}
-use Rattle.parse.proofs.Looks.{starts-punct}
 use Rattle.parse.proofs.Inside.{generics-angle, generics-none}
-use Rattle.generate.specs.Contract.{parameters_by}
-use Rattle.generate.proofs.Answers.{none_built, some_built}
+use Rattle.writing.specs.Generics.{generics_rows}
+use Rattle.generate.specs.Contract.{parameters_in}
+use Rattle.generate.proofs.Answers.{none_put, some_put}
+use Rattle.generate.proofs.generics.put_generics.Goals.{then-stands_punct, else-stands_punct}
 use Rattle.generate.proofs.generics.put_generics.Goals as goal
 
-pub returns-then-not-stands_punct : goal.returns-then-not-stands_punct
-returns-then-not-stands_punct c =
-    let other = sym c.stands_punct.ensures ∙ not-true _ (ap not c.if-not-stands_punct.true) in
-    let f = parameters_by c.args.names c.args.lifetimes.now c.args.types.now in
-    λ g k. none_built f c.is_marked.ensures (generics-none k other) c.new-b.ensures
-
-pub punct_at-t-requires : goal.punct_at-t-requires
-punct_at-t-requires c = let angle = sym c.stands_punct.ensures ∙ not-false _ (ap not c.if-not-stands_punct.false) in
-    record {
-      in_list = c.requires.in_list;
-      b_value = refl;
-      at_value = starts-punct LESS (stream c.args.s.now c.args.c) ∙ angle;
-    }
-
-pub put_angled-requires : goal.put_angled-requires
-put_angled-requires c = record {
-  by_index = c.requires.by_index;
-  in_list = past_in_of _ _ _ _ c.past-inside.ensures c.requires.in_list
-      c.punct_at-t.ensures.token;
-}
+pub put_angled-requires-clause-in_list : goal.put_angled-requires-clause-in_list
+put_angled-requires-clause-in_list c =
+    past_in_of _ _ _ _ c.past-inside.ensures c.requires.in_list c.punct_at.ensures.token
 
 pub returns : goal.returns
-returns c = let angle = sym c.stands_punct.ensures ∙ not-false _ (ap not c.if-not-stands_punct.false) in
-    let f = parameters_by c.args.names c.args.lifetimes.now c.args.types.now in
-    λ g k.
-    let inside = generics-angle k _ _ c.punct_at-t.ensures c.past-inside.ensures angle in
-    some_built f (parameters_of g) c.is_marked.ensures inside.0 c.new-b.ensures
-    (c.put_angled.ensures (parameters_of g) inside.1)
+returns c = λ g k.
+    let f = parameters_in c.args.form in
+    let b = c.if-stands_punct.b in
+    let done : (b.out.ghost_name ≡ c.new-b.result.out.ghost_name)
+    × Put c.args.out.now b.out.now 0 b.bytes (list_of (marked c.args.s.now) (generics_rows f g)) =
+    elim c.if-stands_punct.branch [
+      | then-stands_punct w ↦
+          let angle = sym c.stands_punct.ensures ∙ w.if-stands_punct.true in
+          let inside = generics-angle k _ _ w.punct_at.ensures w.past-inside.ensures angle in
+          let all = w.put_angled.ensures (parameters_of g) inside.1 in
+          rw w.b-is
+          (all.same_output, some_put f (parameters_of g) c.is_marked.ensures inside.0 c.new-b.ensures.built all)
+      | else-stands_punct w ↦
+          let other = sym c.stands_punct.ensures ∙ w.if-stands_punct.false in
+          rw w.b-is (refl, none_put f c.is_marked.ensures (generics-none k other) c.new-b.ensures.built)
+    ] in
+    record { next = done.1.next; bytes = grind arith; short = done.1.short }

@@ -1,11 +1,12 @@
-use Rattle.generate.proofs.Added.{as_first, as_next}
-use Rattle.generate.proofs.Builds.{then}
+use mathlib.Core.Bool.{true, false}
 use Rattle.generate.specs.Contract.{added}
+use Rattle.generate.proofs.Added.{parted_off}
 use Rattle.generate.proofs.names.add_name.Goals as goal
 
-pub returns-then-first : goal.returns-then-first
-returns-then-first c = as_first (added c.args.lifetime c.args.name.now) c.if-first.true c.put_name.ensures
+pub returns-then-lifetime : goal.returns-then-lifetime
+returns-then-lifetime c =
+    rw c.if-lifetime.true (parted_off _ (added true c.args.name.now) c.part.ensures c.lifetime_str.ensures)
 
-pub returns : goal.returns
-returns c = as_next (added c.args.lifetime c.args.name.now) c.if-first.false
-    (then c.punct-parting.ensures c.put_name-2.ensures)
+pub returns-else-lifetime : goal.returns-else-lifetime
+returns-else-lifetime c =
+    rw c.if-lifetime.false (parted_off _ (added false c.args.name.now) c.part.ensures c.ident_str.ensures)

@@ -9,8 +9,7 @@ use Rattle.generate.proofs.names.add_names.Given as goal
 abbrev pub invariant-loop-i : goal.invariant-loop-i
 invariant-loop-i l =
     (l.i ≤ length l.text + 1)
-    × Adding (map (added l.lifetimes) (names_of l.text)) l.first l.initial.out l.out l.initial.builder l.builder
-    l.leading
+    × Adding (map (added l.lifetimes) (names_of l.text)) l.first l.initial.b l.b l.leading
     (map (added l.lifetimes) (names_of (drop l.i l.text)))
 
 abbrev pub decreases-loop-i : goal.decreases-loop-i

@@ -1,9 +1,24 @@
-use mathlib.Core.Path.{sym, ◌∙◌}
+use mathlib.Core.List.{List, [], ◌∷◌}
+use mathlib.Core.Path.{◌≡◌, refl, sym, ◌∙◌}
+use Prim.Native.Nat.{ℕ}
+use lib.Dec.{eqb}
+use native.Mathlib.Omega.{arith}
+use Rattle.std.proofs.lemmas.Bool.Decides.{nat_tests}
+use Rattle.std.specs.List.{list_any}
+use Rattle.token_list.specs.Byte.{LF}
+use Rattle.token_list.specs.Text.{member}
 use Rattle.output.proofs.Texts.{joined}
 use Rattle.generate.proofs.names.put_line.Goals as goal
 
-pub returns-then-is_one_of : goal.returns-then-is_one_of
-returns-then-is_one_of c = rw (sym c.is_one_of.ensures ∙ c.if-is_one_of.true) c.put_byte.ensures
+has_lf : (t : List ℕ) → list_any (λ y. eqb y LF) t ≡ member LF t
+has_lf [] = refl
+has_lf (b ∷ bs) = let h = has_lf bs in let e : eqb b LF ≡ eqb LF b = grind (arith, nat_tests) in cc
+
+pub returns-then-contains : goal.returns-then-contains
+returns-then-contains c =
+    rw (sym (has_lf c.args.name.now) ∙ sym c.contains.ensures.value ∙ c.if-contains.true) c.put_byte.ensures
 
 pub returns : goal.returns
-returns c = rw (sym c.is_one_of.ensures ∙ c.if-is_one_of.false) (joined c.put_bytes-end.ensures c.put_byte-2.ensures)
+returns c =
+    rw (sym (has_lf c.args.name.now) ∙ sym c.contains.ensures.value ∙ c.if-contains.false)
+    (joined c.put_bytes-end.ensures c.put_byte-2.ensures)

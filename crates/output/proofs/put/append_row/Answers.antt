@@ -1,9 +1,11 @@
 use mathlib.Core.Path.{◌≡◌, ap, ◌∙◌, sym}
 use mathlib.Core.List.{List, [], ◌∷◌, ◌++◌}
 use Prim.Native.Nat.{ℕ, suc, ◌+◌}
+use borrow.Author.Tests.{leb-true}
+use Prim.Native.Nat.{◌≤◌}
 use native.Mathlib.Omega.{arith}
-use lib.ListN.{length, set, length-set, length-append}
-use lib.Seq.{sets, length-sets}
+use lib.ListN.{length, set, length-append}
+use lib.Seq.{sets}
 use Rattle.token_list.specs.Byte.{SPACE, LF}
 use Rattle.token_list.proofs.Stores.{sets_append}
 use Rattle.output.specs.Contract.{Stored}
@@ -34,20 +36,10 @@ module _ (k : List ℕ) (i kind : ℕ) (t : List ℕ) where
         bytes = ended ∙ moved ∙ sym (sets_append started (suc (suc i)) t (LF ∷ [])) ∙ first;
       }
 
-pub bounds-out-space : goal.bounds-out-space
-bounds-out-space c = simp length-set (omega arith)
-
-pub copy_bytes-requires : goal.copy_bytes-requires
-copy_bytes-requires c = simp length-set (omega arith)
-
-pub bounds-out-end : goal.bounds-out-end
-bounds-out-end c = omega (arith, simp (length-sets, length-set) at (ap length c.copy_bytes.ensures))
-
-pub shape_of-out-then-n-room : goal.shape_of-out-then-n-room
-shape_of-out-then-n-room c = simp length-set (simp (length-sets, length-set) at (ap length c.copy_bytes.ensures))
-
-pub returns-then-n-room : goal.returns-then-n-room
-returns-then-n-room c =
+pub returns : goal.returns
+returns c =
+    let room : c.args.at + (length c.args.text.now + 3) ≤ length c.args.out.now =
+    leb-true _ _ (sym c.has_room.ensures ∙ c.if-not-has_room.false) in
     let stored = row-stored c.args.out.now c.args.at c.args.kind c.args.text.now c.copy_bytes.ensures in
     let long = row-long c.args.kind c.args.text.now in
-    appended_stored (omega (arith, long)) stored
+    appended_stored (omega (arith, long, room)) stored

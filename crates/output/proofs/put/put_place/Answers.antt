@@ -7,6 +7,6 @@ pub returns-then-place-eq-END : goal.returns-then-place-eq-END
 unfolding place_text
 returns-then-place-eq-END c = rw (eq-eqb c.args.place END c.if-place-eq-END.true) c.put_byte.ensures
 
-pub returns : goal.returns
+pub returns-else-place-eq-END : goal.returns-else-place-eq-END
 unfolding place_text
-returns c = rw (ne_eqb c.args.place END c.if-place-eq-END.false) c.put_number.ensures
+returns-else-place-eq-END c = rw (ne_eqb c.args.place END c.if-place-eq-END.false) c.put_number.ensures

@@ -1,4 +1,3 @@
-use mathlib.Core.Bool.{not}
 use Rattle.parse.proofs.Bodies as bodies
 use Rattle.reading.specs.Declaration.{variants}
 use Rattle.token_list.specs.Stream.{at}
@@ -6,42 +5,26 @@ use Prim.Native.Nat.{◌+◌}
 use Rattle.parse.proofs.Meeting as meeting
 use Rattle.reading.specs.Reading as reading
 use Rattle.token_list.proofs.Texts.{chosen, passed_over}
-use borrow.Author.Tests.{not-true, not-false}
 use mathlib.Core.Path.{refl, sym, ◌∙◌, ap}
 use Rattle.parse.proofs.body.take_enum.Goals as goal
 
 pub returns-then-not-is_punct : goal.returns-then-not-is_punct
-returns-then-not-is_punct c = meeting.meets_refused reading.enum_body _ _ c.requires _ _ _ _ _
-    (meeting.peeked _ _ c.peek.ensures c.in-Leaf.is).here
-    (passed_over _ _ _
-    (meeting.punct_of _ _ _ _ (meeting.peeked _ _ c.peek.ensures c.in-Leaf.is).token ∙ sym
-    c.is_punct.ensures ∙ not-true _ (ap not c.if-not-is_punct.true)))
-
-pub take_token-next-requires : goal.take_token-next-requires
-take_token-next-requires c =
-    record { in_list = c.requires; token_at = (meeting.peeked _ _ c.peek.ensures c.in-Leaf.is).token }
-
-pub variants_group-requires : goal.variants_group-requires
-variants_group-requires c =
-    record { in_list = c.requires; group_at = (meeting.peeked _ _ c.peek.ensures c.in-Group.is) }
+returns-then-not-is_punct c =
+    meeting.meets_refused reading.enum_body _ _ c.requires _ _ _ _ _ c.in-Leaf.ensures.here
+    (passed_over _ _ _ (meeting.punct_of _ _ _ _ c.in-Leaf.ensures.token ∙ sym c.if-not-is_punct.ensures))
 
 pub returns-in-Nothing : goal.returns-in-Nothing
-returns-in-Nothing c = meeting.meets_refused reading.enum_body _ _ c.requires _ _ _ _ _
-    (meeting.peeked _ _ c.peek.ensures c.in-Nothing.is) refl
+returns-in-Nothing c = meeting.meets_refused reading.enum_body _ _ c.requires _ _ _ _ _ c.in-Nothing.ensures refl
 
 pub returns-else-not-is_punct : goal.returns-else-not-is_punct
 returns-else-not-is_punct c =
-    meeting.meets_leaf reading.enum_body _ _ c.requires _ _ (meeting.peeked _ _ c.peek.ensures c.in-Leaf.is) _ _ _ _
+    meeting.meets_leaf reading.enum_body _ _ c.requires _ _ c.in-Leaf.ensures _ _ _ _
     c.take_token-next.ensures.value c.take_token-next.ensures.roles_after _
-    (chosen _ _ _
-    (meeting.punct_of _ _ _ _ (meeting.peeked _ _ c.peek.ensures c.in-Leaf.is).token ∙ sym
-    c.is_punct.ensures ∙ not-false _ (ap not c.if-not-is_punct.false)))
-    refl
+    (chosen _ _ _ (meeting.punct_of _ _ _ _ c.in-Leaf.ensures.token ∙ sym c.if-not-is_punct.ensures)) refl
 
 pub returns-in-Group : goal.returns-in-Group
 returns-in-Group c = meeting.meets_as
-    (ap (reading.enum_body c.args.c.row)
-    (meeting.group_stream _ _ _ c.requires (meeting.peeked _ _ c.peek.ensures c.in-Group.is)))
+    (ap (reading.enum_body c.args.c.row) (meeting.group_stream _ _ _ c.requires c.in-Group.ensures))
     (bodies.closing_map _ _
     (reading.every reading.variant (c.args.c.row + 1) (at c.args.s.now c.in-Group.t.next).here) variants
     (λ vs rs rest e h. bodies.count_variants c.variants_group.result vs h) c.variants_group.ensures)

@@ -1,4 +1,3 @@
-use mathlib.Core.Bool.{not}
 use Rattle.parse.proofs.Bodies as bodies
 use Rattle.reading.specs.Declaration.{fields, named, tuple}
 use Rattle.token_list.specs.Stream.{at}
@@ -6,29 +5,19 @@ use Prim.Native.Nat.{◌+◌}
 use Rattle.parse.proofs.Meeting as meeting
 use Rattle.reading.specs.Reading as reading
 use Rattle.token_list.proofs.Texts.{chosen, passed_over}
-use borrow.Author.Tests.{eq-eqb, ne_eqb, not-true, not-false}
+use borrow.Author.Tests.{eq-eqb, ne_eqb}
 use mathlib.Core.Path.{refl, sym, ◌∙◌, ap}
 use Rattle.parse.proofs.body.take_struct.Goals as goal
 
 pub returns-then-not-is_punct : goal.returns-then-not-is_punct
-returns-then-not-is_punct c = meeting.meets_refused reading.struct_body_lem _ _ c.requires _ _ _ _ _
-    (meeting.peeked _ _ c.peek.ensures c.in-Leaf.is).here
-    (passed_over _ _ _
-    (meeting.punct_of _ _ _ _ (meeting.peeked _ _ c.peek.ensures c.in-Leaf.is).token ∙ sym
-    c.is_punct.ensures ∙ not-true _ (ap not c.if-not-is_punct.true)))
+returns-then-not-is_punct c =
+    meeting.meets_refused reading.struct_body_lem _ _ c.requires _ _ _ _ _ c.in-Leaf.ensures.here
+    (passed_over _ _ _ (meeting.punct_of _ _ _ _ c.in-Leaf.ensures.token ∙ sym c.if-not-is_punct.ensures))
 
-pub take_token-next-requires : goal.take_token-next-requires
-take_token-next-requires c =
-    record { in_list = c.requires; token_at = (meeting.peeked _ _ c.peek.ensures c.in-Leaf.is).token }
-
-pub named_group-requires : goal.named_group-requires
-named_group-requires c = record { in_list = c.requires; group_at = (meeting.peeked _ _ c.peek.ensures c.in-Group.is) }
-
-pub returns-then-d-eq123 : goal.returns-then-d-eq123
-returns-then-d-eq123 c = meeting.meets_as
-    (ap (reading.struct_body_lem c.args.c.row)
-    (meeting.group_stream _ _ _ c.requires (meeting.peeked _ _ c.peek.ensures c.in-Group.is)) ∙ chosen _ _ _
-    (eq-eqb _ _ c.if-d-eq123.true))
+pub returns-then-t-eq123 : goal.returns-then-t-eq123
+returns-then-t-eq123 c = meeting.meets_as
+    (ap (reading.struct_body_lem c.args.c.row) (meeting.group_stream _ _ _ c.requires c.in-Group.ensures) ∙
+    chosen _ _ _ (eq-eqb _ _ c.if-t-eq123.true))
     (bodies.closing_map _ _
     (reading.named_fields (c.args.c.row + 1) (at c.args.s.now c.in-Group.t.next).here) fields
     (λ f rs rest e h. h)
@@ -36,14 +25,10 @@ returns-then-d-eq123 c = meeting.meets_as
     (reading.every reading.named_field (c.args.c.row + 1) (at c.args.s.now c.in-Group.t.next).here)
     named (λ fs rs rest e h. bodies.count-named c.named_group.result fs h) c.named_group.ensures))
 
-pub tuple_group-requires : goal.tuple_group-requires
-tuple_group-requires c = record { in_list = c.requires; group_at = (meeting.peeked _ _ c.peek.ensures c.in-Group.is) }
-
-pub returns-then-d-eq40 : goal.returns-then-d-eq40
-returns-then-d-eq40 c = meeting.meets_as
-    (ap (reading.struct_body_lem c.args.c.row)
-    (meeting.group_stream _ _ _ c.requires (meeting.peeked _ _ c.peek.ensures c.in-Group.is)) ∙ passed_over _ _ _
-    (ne_eqb _ _ c.if-d-eq123.false) ∙ chosen _ _ _ (eq-eqb _ _ c.if-d-eq40.true))
+pub returns-then-t-eq40 : goal.returns-then-t-eq40
+returns-then-t-eq40 c = meeting.meets_as
+    (ap (reading.struct_body_lem c.args.c.row) (meeting.group_stream _ _ _ c.requires c.in-Group.ensures) ∙
+    passed_over _ _ _ (ne_eqb _ _ c.if-t-eq123.false) ∙ chosen _ _ _ (eq-eqb _ _ c.if-t-eq40.true))
     (bodies.closing_map _ _
     (reading.tuple_fields (c.args.c.row + 1) (at c.args.s.now c.in-Group.t.next).here) fields
     (λ f rs rest e h. h)
@@ -52,20 +37,15 @@ returns-then-d-eq40 c = meeting.meets_as
     tuple (λ fs rs rest e h. bodies.count_tuple c.tuple_group.result fs h) c.tuple_group.ensures))
 
 pub returns-in-Nothing : goal.returns-in-Nothing
-returns-in-Nothing c = meeting.meets_refused reading.struct_body_lem _ _ c.requires _ _ _ _ _
-    (meeting.peeked _ _ c.peek.ensures c.in-Nothing.is) refl
+returns-in-Nothing c = meeting.meets_refused reading.struct_body_lem _ _ c.requires _ _ _ _ _ c.in-Nothing.ensures refl
 
 pub returns-else-not-is_punct : goal.returns-else-not-is_punct
 returns-else-not-is_punct c =
-    meeting.meets_leaf reading.struct_body_lem _ _ c.requires _ _ (meeting.peeked _ _ c.peek.ensures c.in-Leaf.is) _ _ _
-    _
+    meeting.meets_leaf reading.struct_body_lem _ _ c.requires _ _ c.in-Leaf.ensures _ _ _ _
     c.take_token-next.ensures.value c.take_token-next.ensures.roles_after _
-    (chosen _ _ _
-    (meeting.punct_of _ _ _ _ (meeting.peeked _ _ c.peek.ensures c.in-Leaf.is).token ∙ sym
-    c.is_punct.ensures ∙ not-false _ (ap not c.if-not-is_punct.false)))
-    refl
+    (chosen _ _ _ (meeting.punct_of _ _ _ _ c.in-Leaf.ensures.token ∙ sym c.if-not-is_punct.ensures)) refl
 
-pub returns-else-d-eq40 : goal.returns-else-d-eq40
-returns-else-d-eq40 c = meeting.meets_refused reading.struct_body_lem _ _ c.requires _ _ _ _ _
-    (meeting.group_stream _ _ _ c.requires (meeting.peeked _ _ c.peek.ensures c.in-Group.is))
-    (passed_over _ _ _ (ne_eqb _ _ c.if-d-eq123.false) ∙ passed_over _ _ _ (ne_eqb _ _ c.if-d-eq40.false))
+pub returns-else-t-eq40 : goal.returns-else-t-eq40
+returns-else-t-eq40 c = meeting.meets_refused reading.struct_body_lem _ _ c.requires _ _ _ _ _
+    (meeting.group_stream _ _ _ c.requires c.in-Group.ensures)
+    (passed_over _ _ _ (ne_eqb _ _ c.if-t-eq123.false) ∙ passed_over _ _ _ (ne_eqb _ _ c.if-t-eq40.false))

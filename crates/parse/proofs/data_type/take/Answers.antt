@@ -25,29 +25,30 @@ split : (row : ℕ) (ts : Trees) → reading.data_type row ts ≡ after row (con
 split row ts = sym (meeting.after_assoc row (reading.word role.item-word row ts) reading.named_kind rest)
 
 pub consume_ident-requires : goal.consume_ident-requires
-consume_ident-requires c =
-    meeting.landed (meeting.say contract.kind_shown contract.kind_said c.in-At.is c.item_word.ensures)
+consume_ident-requires c = meeting.landed c.in_ok-kind.ensures
 
 pub wrong_token-requires : goal.wrong_token-requires
-wrong_token-requires c =
-    meeting.landed (meeting.say contract.kind_shown contract.kind_said c.in-At.is c.item_word.ensures)
+wrong_token-requires c = meeting.landed c.in_ok-kind.ensures
 
-pub returns-in-Refused : goal.returns-in-Refused
-returns-in-Refused c = meeting.meets_as (split c.args.c.row (contract.stream c.args.s.now c.args.c))
-    (meeting.meets_no rest (meeting.say contract.kind_shown contract.kind_said c.in-Refused.is c.item_word.ensures))
+pub returns-in_err-kind : goal.returns-in_err-kind
+returns-in_err-kind c =
+    meeting.meets_given_up contract.head_said (contract.head_shown c.args.s.now c.args.c) c.from_residual.ensures.1
+    (meeting.meets_as (split c.args.c.row (contract.stream c.args.s.now c.args.c))
+    (meeting.meets_no rest c.in_err-kind.ensures))
 
-pub returns-in-Missing : goal.returns-in-Missing
-returns-in-Missing c = let word = meeting.say contract.kind_shown contract.kind_said c.in-At.is c.item_word.ensures in
-    let missing = meeting.say_word c.in-Missing.is c.consume_ident.ensures in
+pub returns-in_default : goal.returns-in_default
+returns-in_default c =
     meeting.meets_as (split c.args.c.row (contract.stream c.args.s.now c.args.c))
-    (meeting.meets_then rest word
-    (λ k h. meeting.meets_missing (name_of k) missing (meeting.meets_wrong _ _ c.wrong_token.ensures)))
+    (meeting.meets_then rest c.in_ok-kind.ensures
+    (λ k h. meeting.meets_missing (name_of k) c.in_default.ensures (meeting.meets_wrong _ _ c.wrong_token.ensures)))
 
-pub returns-in-Found : goal.returns-in-Found
-returns-in-Found c = let word = meeting.say contract.kind_shown contract.kind_said c.in-At.is c.item_word.ensures in
-    let found = meeting.say_word c.in-Found.is c.consume_ident.ensures in
+pub returns : goal.returns
+returns c =
     meeting.meets_as (split c.args.c.row (contract.stream c.args.s.now c.args.c))
-    (meeting.meets_then rest word
-    (λ k h. meeting.meets_word (name_of k) _ found
-    (λ text x. meeting.meets_stay _ _ _ _ _ (meeting.landed found)
-    (h, places.placed_name c.args.s.now c.in-At.d (places.meets_beyond contract.item_word word).here x))))
+    (meeting.meets_then rest c.in_ok-kind.ensures
+    (λ k h. meeting.meets_word (name_of k) _ c.in-Some.ensures
+    (λ text x. meeting.meets_stay _ _ _ _ _ (meeting.landed c.in-Some.ensures) (
+      h,
+      places.placed_name c.args.s.now c.in_ok-kind.d
+          (places.meets_beyond contract.item_word c.in_ok-kind.ensures).here x,
+    ))))

@@ -10,7 +10,6 @@ use Rattle.token_list.specs.Byte.{COLON}
 use Rattle.token_list.specs.Stream.{Trees}
 use Prim.Native.Nat.{ℕ}
 use mathlib.Core.List.{List}
-use borrow.Author.Tests.{not-true, not-false}
 use mathlib.Core.Bool.{Bool}
 use mathlib.Core.Path.{refl, sym, ◌∙◌, ap, subst}
 use Rattle.parse.proofs.fields.field_after.Goals as goal
@@ -25,33 +24,26 @@ typed p n = reading.run reading.field_stops role.type >>= λ f. reading.comma (m
 abbrev colon : contract.Prefix → List ℕ → Bool → Reader (reading.Maybe Field)
 colon p n t = reading.must 23 t >>= λ u. typed p n
 
-pub wrong_token-requires : goal.wrong_token-requires
-wrong_token-requires c = meeting.landed c.consume_punct_if-p.ensures.meets
-
-pub returns-then-not-p : goal.returns-then-not-p
-returns-then-not-p c = λ p n.
-    meeting.meets_then (colon p n) c.consume_punct_if-p.ensures.meets
+pub returns-in_default : goal.returns-in_default
+returns-in_default c = λ p n.
+    meeting.meets_then (colon p n) c.in_default.ensures.meets
     (λ t e. meeting.meets_as
-    (ap (λ x. colon p n x c.consume_punct_if-p.result.next.row
-    (contract.stream c.args.s.now c.consume_punct_if-p.result.next)) (sym e ∙ not-true _ c.if-not-p.true))
+    (ap (λ x. colon p n x c.args.c.row (contract.stream c.args.s.now c.args.c)) (sym e))
     (meeting.meets_wrong _ _ c.wrong_token.ensures))
 
 pub field_type-requires : goal.field_type-requires
-field_type-requires c = meeting.landed c.consume_punct_if-p.ensures.meets
+field_type-requires c = meeting.landed c.in-Some.ensures.meets
 
 pub returns : goal.returns
-returns c = let ts = contract.stream c.args.s.now c.consume_punct_if-p.result.next in
-    let landed = meeting.landed c.consume_punct_if-p.ensures.meets in
-    let stands = sym c.consume_punct_if-p.ensures.taken_value ∙ not-false _ c.if-not-p.false in
-    let past = (places.meets_beyond (reading.punct_if COLON role.separator) c.consume_punct_if-p.ensures.meets).here ∙
-    places.punct_past COLON role.separator (contract.point c.args.s.now c.args.c) stands in
-    λ p n. meeting.meets_then (colon p n) c.consume_punct_if-p.ensures.meets
-    (λ t e. meeting.meets_as (ap (λ x. colon p n x c.consume_punct_if-p.result.next.row ts) (sym e
-    ∙ not-false _ c.if-not-p.false) ∙
-    meeting.pure_then (tt {0}) (λ u. typed p n) c.consume_punct_if-p.result.next.row ts)
+returns c = let ts = contract.stream c.args.s.now c.in-Some.next in
+    let past = (places.meets_beyond (reading.punct_if COLON role.separator) c.in-Some.ensures.meets).here ∙
+    places.punct_past COLON role.separator (contract.point c.args.s.now c.args.c) (sym c.in-Some.ensures.taken_value) in
+    λ p n. meeting.meets_then (colon p n) c.in-Some.ensures.meets
+    (λ t e. meeting.meets_as
+    (ap (λ x. colon p n x c.in-Some.next.row ts) (sym e) ∙
+    meeting.pure_then (tt {0}) (λ u. typed p n) c.in-Some.next.row ts)
     (meeting.meets_as
-    (bodies.comma_as c.consume_punct_if-p.result.next.row
-    (reading.run reading.field_stops role.type c.consume_punct_if-p.result.next.row ts) (made p n))
-    (meeting.meets_map c.consume_punct_if-p.result.next.row (λ f. reading.one (made p n f))
+    (bodies.comma_as c.in-Some.next.row (reading.run reading.field_stops role.type c.in-Some.next.row ts) (made p n))
+    (meeting.meets_map c.in-Some.next.row (λ f. reading.one (made p n f))
     (λ f k. (f, refl, subst (λ (x : Point). contract.type_at_shown c.args.s.now x c.field_type.result f) past k))
     c.field_type.ensures)))

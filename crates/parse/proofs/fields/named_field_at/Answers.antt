@@ -3,7 +3,7 @@ use Rattle.parse.specs.Contract as contract
 use Rattle.reading.specs.Reading as reading
 use Rattle.parse.proofs.Bodies as bodies
 use Rattle.parse.proofs.Places as places
-use Rattle.reading.specs.Took.{Point}
+use Rattle.reading.specs.Took.{Point, ◌>>=◌}
 use Rattle.reading.specs.Place.{past_token_lem}
 use Rattle.reading.specs.Role as role
 use lib.Seq.{slice}
@@ -12,90 +12,63 @@ use borrow.Author.Tests.{eq-eqb, ne_eqb}
 use mathlib.Core.Path.{subst, refl, ◌∙◌, ap}
 use Rattle.parse.proofs.fields.named_field_at.Goals as goal
 
+pub returns-in_err-visibility : goal.returns-in_err-visibility
+returns-in_err-visibility c =
+    meeting.meets_given_up contract.field_said (contract.field_shown c.args.s.now c.args.c) c.from_residual.ensures.1
+    (meeting.meets_no (λ a. reading.visibility >>= reading.field_start a) c.in_err-visibility.ensures)
+
 pub try_take-d-requires : goal.try_take-d-requires
-try_take-d-requires c =
-    let attributes = meeting.say (λ x. contract.any) contract.step_said c.in-At.is c.try_take.ensures in
-    meeting.landed attributes
+try_take-d-requires c = meeting.landed c.in_ok-visibility.ensures
 
 pub peek-requires : goal.peek-requires
-peek-requires c = let attributes = meeting.say (λ x. contract.any) contract.step_said c.in-At.is c.try_take.ensures in
-    let prefixed = bodies.meets_prefix c.requires attributes c.try_take-d.ensures in
-    meeting.landed prefixed
+peek-requires c = meeting.landed c.try_take-d.ensures
 
 pub returns-then-t-ne105 : goal.returns-then-t-ne105
 returns-then-t-ne105 c =
-    let attributes = meeting.say (λ x. contract.any) contract.step_said c.in-At.is c.try_take.ensures in
-    let prefixed = bodies.meets_prefix c.requires attributes c.try_take-d.ensures in
-    meeting.meets_as (bodies.prefix_then c.args.c.row (contract.stream c.args.s.now c.args.c) reading.field_start)
-    (meeting.meets_then _ prefixed
+    bodies.meets_prefixed reading.field_start c.requires c.in_ok-visibility.ensures c.try_take-d.ensures
     (λ p h. meeting.meets_refused (reading.field_start p.attributes p.visibility) _ _
-    (meeting.landed prefixed) _ _ _ _ _
-    (meeting.peeked _ _ c.peek.ensures c.in-Leaf.is).here (passed_over _ _ _ (ne_eqb _ _ c.if-t-ne105.true))))
+    (meeting.landed c.try_take-d.ensures) _ _ _ _ _
+    c.in-Leaf.ensures.here (passed_over _ _ _ (ne_eqb _ _ c.if-t-ne105.true)))
 
-pub take_token-after-requires : goal.take_token-after-requires
-take_token-after-requires c =
-    let attributes = meeting.say (λ x. contract.any) contract.step_said c.in-At.is c.try_take.ensures in
-    let prefixed = bodies.meets_prefix c.requires attributes c.try_take-d.ensures in
-    record { in_list = meeting.landed prefixed; token_at = (meeting.peeked _ _ c.peek.ensures c.in-Leaf.is).token }
+pub take_token-after-requires-clause-in_list : goal.take_token-after-requires-clause-in_list
+take_token-after-requires-clause-in_list c = meeting.landed c.try_take-d.ensures
 
 pub field_after-requires : goal.field_after-requires
 field_after-requires c =
-    let attributes = meeting.say (λ x. contract.any) contract.step_said c.in-At.is c.try_take.ensures in
-    let prefixed = bodies.meets_prefix c.requires attributes c.try_take-d.ensures in
-    meeting.past_in_of _ _ _ _ c.take_token-after.ensures.value (meeting.landed prefixed)
-    (meeting.peeked _ _ c.peek.ensures c.in-Leaf.is).token
+    meeting.past_in_of _ _ _ _ c.take_token-after.ensures.value (meeting.landed c.try_take-d.ensures)
+    c.in-Leaf.ensures.token
 
-pub returns-in-Refused : goal.returns-in-Refused
-returns-in-Refused c =
-    let attributes = meeting.say (λ x. contract.any) contract.step_said c.in-Refused.is c.try_take.ensures in
-    meeting.meets_as (bodies.prefix_then c.args.c.row (contract.stream c.args.s.now c.args.c) reading.field_start)
-    (meeting.meets_no _ (bodies.prefix_refused attributes))
+pub returns-in_err-typed-in-Leaf : goal.returns-in_err-typed-in-Leaf
+returns-in_err-typed-in-Leaf c =
+    let text = slice c.in-Leaf.t.start c.in-Leaf.t.end c.args.s.now in
+    meeting.meets_given_up contract.field_said (contract.field_shown c.args.s.now c.args.c)
+    c.from_residual-in_err-typed-in-Leaf.ensures.1
+    (bodies.meets_prefixed reading.field_start c.requires c.in_ok-visibility.ensures c.try_take-d.ensures
+    (λ p h. meeting.meets_from (reading.field_start p.attributes p.visibility) _ _
+    (meeting.landed c.try_take-d.ensures) _ _ c.in-Leaf.ensures
+    _ _ _ _ c.take_token-after.ensures.value c.take_token-after.ensures.roles_after _ _
+    (reading.field_after p.attributes p.visibility text) (chosen _ _ _ (eq-eqb _ _ c.if-t-ne105.false))
+    (meeting.meets_none (c.in_err-typed-in-Leaf.ensures p text))))
 
 pub returns-in-Nothing : goal.returns-in-Nothing
 returns-in-Nothing c =
-    let attributes = meeting.say (λ x. contract.any) contract.step_said c.in-At.is c.try_take.ensures in
-    let prefixed = bodies.meets_prefix c.requires attributes c.try_take-d.ensures in
-    meeting.meets_as (bodies.prefix_then c.args.c.row (contract.stream c.args.s.now c.args.c) reading.field_start)
-    (meeting.meets_then _ prefixed
+    bodies.meets_prefixed reading.field_start c.requires c.in_ok-visibility.ensures c.try_take-d.ensures
     (λ p h. meeting.meets_same (reading.field_start p.attributes p.visibility) _ _
-    (meeting.landed prefixed) _ _ _ _
-    (meeting.peeked _ _ c.peek.ensures c.in-Nothing.is) refl (refl, (p, h.0))))
+    (meeting.landed c.try_take-d.ensures) _ _ _ _ c.in-Nothing.ensures refl (refl, (p, h.0)))
 
 pub returns-in-Group : goal.returns-in-Group
 returns-in-Group c =
-    let attributes = meeting.say (λ x. contract.any) contract.step_said c.in-At.is c.try_take.ensures in
-    let prefixed = bodies.meets_prefix c.requires attributes c.try_take-d.ensures in
-    meeting.meets_as (bodies.prefix_then c.args.c.row (contract.stream c.args.s.now c.args.c) reading.field_start)
-    (meeting.meets_then _ prefixed
+    bodies.meets_prefixed reading.field_start c.requires c.in_ok-visibility.ensures c.try_take-d.ensures
     (λ p h. meeting.meets_refused (reading.field_start p.attributes p.visibility) _ _
-    (meeting.landed prefixed) _ _ _ _ _
-    (meeting.peeked _ _ c.peek.ensures c.in-Group.is).here refl))
+    (meeting.landed c.try_take-d.ensures) _ _ _ _ _ c.in-Group.ensures.here refl)
 
-pub returns-in-Refused-field_after : goal.returns-in-Refused-field_after
-returns-in-Refused-field_after c =
-    let attributes = meeting.say (λ x. contract.any) contract.step_said c.in-At.is c.try_take.ensures in
-    let prefixed = bodies.meets_prefix c.requires attributes c.try_take-d.ensures in
-    let l = meeting.peeked _ _ c.peek.ensures c.in-Leaf.is in
+pub returns-in_ok-typed-in-Leaf : goal.returns-in_ok-typed-in-Leaf
+returns-in_ok-typed-in-Leaf c =
+    let l = c.in-Leaf.ensures in
     let text = slice c.in-Leaf.t.start c.in-Leaf.t.end c.args.s.now in
-    meeting.meets_as (bodies.prefix_then c.args.c.row (contract.stream c.args.s.now c.args.c) reading.field_start)
-    (meeting.meets_then _ prefixed
-    (λ p h. meeting.meets_from (reading.field_start p.attributes p.visibility) _ _ (meeting.landed prefixed) _ _ l
-    _ _ _ _ c.take_token-after.ensures.value c.take_token-after.ensures.roles_after _ _
-    (reading.field_after p.attributes p.visibility text) (chosen _ _ _ (eq-eqb _ _ c.if-t-ne105.false))
-    (meeting.meets_none
-    (meeting.say (contract.NamedAt c.args.s.now _ p text) contract.type_said c.in-Refused-field_after.is
-    (c.field_after.ensures p text)))))
-
-pub returns-in-At-field_after : goal.returns-in-At-field_after
-returns-in-At-field_after c =
-    let attributes = meeting.say (λ x. contract.any) contract.step_said c.in-At.is c.try_take.ensures in
-    let prefixed = bodies.meets_prefix c.requires attributes c.try_take-d.ensures in
-    let l = meeting.peeked _ _ c.peek.ensures c.in-Leaf.is in
-    let text = slice c.in-Leaf.t.start c.in-Leaf.t.end c.args.s.now in
-    let landed = meeting.landed prefixed in
+    let landed = meeting.landed c.try_take-d.ensures in
     let past = (places.token_past _ _ _ _ landed l c.take_token-after.ensures.value).here in
-    meeting.meets_as (bodies.prefix_then c.args.c.row (contract.stream c.args.s.now c.args.c) reading.field_start)
-    (meeting.meets_then _ prefixed
+    bodies.meets_prefixed reading.field_start c.requires c.in_ok-visibility.ensures c.try_take-d.ensures
     (λ p h. meeting.meets_from (reading.field_start p.attributes p.visibility) _ _ landed _ _ l
     _ _ _ _ c.take_token-after.ensures.value c.take_token-after.ensures.roles_after _ _
     (reading.field_after p.attributes p.visibility text) (chosen _ _ _ (eq-eqb _ _ c.if-t-ne105.false))
@@ -112,9 +85,8 @@ returns-in-At-field_after c =
         prefix = h.0;
         type =
             subst (λ (x : Point). contract.RunAt c.args.s.now reading.field_stops role.type x
-            c.in-At-field_after.typed.run k.0)
+            c.in_ok-typed-in-Leaf.typed.run k.0)
             typed_at k.2;
       },
     ))
-    (meeting.say (contract.NamedAt c.args.s.now _ p text) contract.type_said c.in-At-field_after.is
-    (c.field_after.ensures p text)))))
+    (c.in_ok-typed-in-Leaf.ensures p text)))

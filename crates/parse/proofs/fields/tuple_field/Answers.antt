@@ -2,16 +2,17 @@ use Rattle.parse.proofs.Meeting as meeting
 use Rattle.parse.specs.Contract as contract
 use Rattle.parse.proofs.fields.tuple_field.Goals as goal
 
-pub returns-in-Refused : goal.returns-in-Refused
-returns-in-Refused c =
-    meeting.meets_none (meeting.say (contract.unnamed_shown c.args.s.now c.args.c) contract.unnamed_said c.in-Refused.is
-    c.tuple_field_at.ensures)
-
-pub returns-in-Done : goal.returns-in-Done
-returns-in-Done c = meeting.say (contract.unnamed_shown c.args.s.now c.args.c) contract.unnamed_said c.in-Done.is
-    c.tuple_field_at.ensures
+pub returns-in_err-f : goal.returns-in_err-f
+returns-in_err-f c =
+    meeting.meets_given_up contract.next_said contract.next_shown c.from_residual.ensures.1
+    (meeting.meets_none c.in_err-f.ensures)
 
 pub returns-in-One : goal.returns-in-One
 returns-in-One c = meeting.meets_show (λ v h. (h.0, h.1))
-    (meeting.say (contract.unnamed_shown c.args.s.now c.args.c) contract.unnamed_said c.in-One.is
-    c.tuple_field_at.ensures)
+    (meeting.meets_matched contract.unnamed_said (contract.unnamed_shown c.args.s.now c.args.c) c.in-One.is
+    c.in_ok-f.ensures)
+
+pub returns-in-Done : goal.returns-in-Done
+returns-in-Done c =
+    meeting.meets_matched contract.unnamed_said (contract.unnamed_shown c.args.s.now c.args.c) c.in-Done.is
+    c.in_ok-f.ensures

@@ -1,32 +1,24 @@
-use mathlib.Core.Path.{ap}
-use mathlib.Core.Bool.{not}
-use mathlib.Core.Path.{refl, sym, ◌∙◌}
-use borrow.Author.Tests.{not-true, not-false}
+use mathlib.Core.Path.{refl, sym}
 use Rattle.token_list.specs.Byte.{LESS}
 use Rattle.token_list.proofs.Texts.{chosen}
 use Rattle.reading.specs.Declaration.{angled}
 use Rattle.reading.specs.Reading.{generics, generics_after}
 use Rattle.parse.specs.Contract.{stream}
-use Rattle.parse.proofs.Looks.{starts-punct, no_generics}
+use Rattle.parse.proofs.Looks.{no_generics}
 use Rattle.parse.proofs.Meeting.{stands-row, meets_same, meets_from, meets_map, past_in_of}
 use Rattle.parse.proofs.generics.try_take.Goals as goal
 
 pub returns-then-not-stands_punct : goal.returns-then-not-stands_punct
 returns-then-not-stands_punct c =
-    let none = sym c.stands_punct.ensures ∙ not-true _ (ap not c.if-not-stands_punct.true) in
     meets_same generics _ _ c.requires _ _ _ _ refl
-    (no_generics c.args.c.row (stream c.args.s.now c.args.c) none) refl
+    (no_generics c.args.c.row (stream c.args.s.now c.args.c) (sym c.if-not-stands_punct.ensures)) refl
 
-pub punct_at-t-requires : goal.punct_at-t-requires
-punct_at-t-requires c = let found = sym c.stands_punct.ensures ∙ not-false _ (ap not c.if-not-stands_punct.false) in
-    record { in_list = c.requires; b_value = refl; at_value = starts-punct LESS (stream c.args.s.now c.args.c) ∙ found }
-
-pub parameters-requires : goal.parameters-requires
-parameters-requires c = past_in_of _ _ _ _ c.take_token-next.ensures.value c.requires c.punct_at-t.ensures.token
+pub every-requires : goal.every-requires
+every-requires c = past_in_of _ _ _ _ c.take_token-next.ensures.value c.requires c.punct_at-t.ensures.token
 
 pub returns : goal.returns
-returns c = let stands = sym c.stands_punct.ensures ∙ not-false _ (ap not c.if-not-stands_punct.false) in
+returns c =
     meets_from generics _ _ c.requires _ _ c.punct_at-t.ensures _ _ _ _ c.take_token-next.ensures.value
-    c.take_token-next.ensures.roles_after _ _
-    (generics_after c.args.c.row) (chosen _ _ _ (stands-row LESS c.punct_at-t.ensures stands))
-    (meets_map _ angled (λ ps h. h) c.parameters.ensures)
+    c.take_token-next.ensures.roles_after _ _ (generics_after c.args.c.row)
+    (chosen _ _ _ (stands-row LESS c.punct_at-t.ensures (sym c.if-not-stands_punct.ensures)))
+    (meets_map _ angled (λ ps h. h) c.every.ensures)

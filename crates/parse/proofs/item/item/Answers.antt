@@ -14,54 +14,44 @@ use Rattle.parse.proofs.item.item.Goals as goal
 abbrev head-then : List Trees → Visibility → Reader Declaration
 head-then a v = reading.data_type >>= contract.parts_after (record { attributes = a; visibility = v })
 
-pub try_take-e-requires : goal.try_take-e-requires
-try_take-e-requires c =
-    let attributes = meeting.say (λ x. contract.any) contract.step_said c.in-At.is c.try_take.ensures in
-    meeting.landed attributes
+pub try_take-d-requires : goal.try_take-d-requires
+try_take-d-requires c = meeting.landed c.in_ok-visibility.ensures
 
 pub take-requires : goal.take-requires
-take-requires c = let attributes = meeting.say (λ x. contract.any) contract.step_said c.in-At.is c.try_take.ensures in
-    let prefixed = bodies.meets_prefix c.requires attributes c.try_take-e.ensures in
-    meeting.landed prefixed
+take-requires c = meeting.landed c.try_take-d.ensures
 
 pub parts-requires : goal.parts-requires
-parts-requires c = let headed = meeting.say (contract.head_shown c.args.s.now c.try_take-e.result) contract.head_said
-    c.in-At-take.is c.take.ensures in
-    meeting.landed headed
+parts-requires c = meeting.landed c.in_ok-head.ensures
 
-pub returns-in-Refused : goal.returns-in-Refused
-returns-in-Refused c =
-    let attributes = meeting.say (λ x. contract.any) contract.step_said c.in-Refused.is c.try_take.ensures in
-    meeting.meets_as (bodies.prefix_then c.args.c.row (contract.stream c.args.s.now c.args.c) head-then)
-    (meeting.meets_no _ (bodies.prefix_refused attributes))
-
-pub returns-in-Refused-take : goal.returns-in-Refused-take
-returns-in-Refused-take c =
-    let attributes = meeting.say (λ x. contract.any) contract.step_said c.in-At.is c.try_take.ensures in
-    let prefixed = bodies.meets_prefix c.requires attributes c.try_take-e.ensures in
-    let headed = meeting.say (contract.head_shown c.args.s.now c.try_take-e.result) contract.head_said
-    c.in-Refused-take.is c.take.ensures in
-    meeting.meets_as (bodies.prefix_then c.args.c.row (contract.stream c.args.s.now c.args.c) head-then)
-    (meeting.meets_then _ prefixed (λ p k. meeting.meets_no _ headed))
-
-pub returns-in-At-take : goal.returns-in-At-take
-returns-in-At-take c =
-    let attributes = meeting.say (λ x. contract.any) contract.step_said c.in-At.is c.try_take.ensures in
-    let prefixed = bodies.meets_prefix c.requires attributes c.try_take-e.ensures in
-    let headed = meeting.say (contract.head_shown c.args.s.now c.try_take-e.result) contract.head_said
-    c.in-At-take.is c.take.ensures in
-    let generic = places.meets_beyond reading.data_type headed in
-    items.item_ends c.parts.result
+pub returns-in_err-visibility : goal.returns-in_err-visibility
+returns-in_err-visibility c =
+    meeting.meets_given_up contract.item_said (contract.item_shown c.args.s.now c.args.c) c.from_residual.ensures.1
     (meeting.meets_as (bodies.prefix_then c.args.c.row (contract.stream c.args.s.now c.args.c) head-then)
-    (meeting.meets_then _ prefixed
+    (meeting.meets_no _ (bodies.prefix_refused c.in_err-visibility.ensures)))
+
+pub returns-in_err-head : goal.returns-in_err-head
+returns-in_err-head c =
+    let prefixed = bodies.meets_prefix c.requires c.in_ok-visibility.ensures c.try_take-d.ensures in
+    meeting.meets_given_up contract.item_said (contract.item_shown c.args.s.now c.args.c)
+    c.from_residual-in_err-head.ensures.1
+    (meeting.meets_as (bodies.prefix_then c.args.c.row (contract.stream c.args.s.now c.args.c) head-then)
+    (meeting.meets_then _ prefixed (λ p k. meeting.meets_no _ c.in_err-head.ensures)))
+
+pub returns : goal.returns
+returns c = let s = c.args.s.now in
+    let name = c.in_ok-head.head.name in
+    let generic = places.meets_beyond reading.data_type c.in_ok-head.ensures in
+    items.item_ends c.parts.result
+    (meeting.meets_as (bodies.prefix_then c.args.c.row (contract.stream s c.args.c) head-then)
+    (meeting.meets_then _ (bodies.meets_prefix c.requires c.in_ok-visibility.ensures c.try_take-d.ensures)
     (λ p k.
     let start = k.1.here in
-    meeting.meets_then (contract.parts_after p) headed
+    meeting.meets_then (contract.parts_after p) c.in_ok-head.ensures
     (λ x w. c.parts.ensures c.args.c p x
     (record {
       prefix = k.0;
       kind = w.0;
-      name = subst (λ (y : Point). contract.NameAt c.args.s.now (beyond contract.item_word y) c.in-At-take.h.name.token
-          c.in-At-take.h.name.place x.name) start w.1;
+      name = subst (λ (y : Point). contract.NameAt s (beyond contract.item_word y) name.token name.place x.name) start
+          w.1;
       next = places.cursor_at (ap (beyond reading.data_type) start) generic;
     })))))

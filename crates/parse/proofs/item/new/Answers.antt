@@ -1,36 +1,26 @@
 use Rattle.parse.proofs.Items as items
 use Rattle.reading.proofs.Promise.{promise_of}
-use Rattle.parse.specs.declared.item.Parse.{Parse}
+use Rattle.parse.specs.declared.item.ItemAt.{ItemAt}
+use Rattle.token_list.specs.declared.check.Refusal.{Refusal}
 use Rattle.reading.specs.Promise.{SingleAssignment}
-use Rattle.token_list.specs.Contract as listed
+use Rattle.std.specs.Prelude.{Result}
 use lib.ListN.{length}
 use Prim.Native.Nat.{ℕ}
 use mathlib.Core.List.{List}
-use Rattle.parse.specs.Contract as contract
-use mathlib.Core.Path.{sym, ◌∙◌, ap}
--- both clauses of the contract
+use mathlib.Core.Path.{sym}
+use Rattle.parse.specs.Contract.{Answered, accepted}
 use Rattle.parse.proofs.item.new.Goals as goal
 
-record Both (s : List ℕ) (r : Parse) (b0 b1 : List ℕ) : Type 0 where
-  answered : contract.Answered s r b0 b1
-  assigned : SingleAssignment s (length b0) (contract.accepted r) b1
+-- an answer assigns each row once
+assigned-by : {s : List ℕ} {r : Result ItemAt Refusal} {b0 b1 : List ℕ} → Answered s r b0 b1
+    → SingleAssignment s (length b0) (accepted r) b1
+assigned-by {s} {r} {b0} {b1} h = promise_of s (length b0) (accepted r) b1 (items.accepted_as h) h.buffer
 
-both : {s : List ℕ} {r : Parse} {b0 b1 : List ℕ} → contract.Answered s r b0 b1 → Both s r b0 b1
-both {s} {r} {b0} {b1} h =
-    record { answered = h; assigned = promise_of s (length b0) (contract.accepted r) b1 (items.accepted_as h) h.buffer }
+pub returns-in-Err : goal.returns-in-Err
+returns-in-Err c =
+    let h = items.answered_refused c.args.s.now c.args.roles.now c.in-Err.r c.refuse.ensures.value
+    (items.answer_refused c.args.s.now _ _ _ (sym c.in-Err.ensures.answer)) c.refuse.ensures.roles_after in
+    record { answered = h; assigned = assigned-by h }
 
-pub read_checked-requires : goal.read_checked-requires
-read_checked-requires c = sym c.check.ensures.answer ∙ ap listed.checked c.in-Passed.is
-
-pub returns-in-Refused : goal.returns-in-Refused
-returns-in-Refused c =
-    let b = both
-    (items.answered_refused c.args.s.now c.args.roles.now _ c.refuse.ensures.value
-    (items.answer_refused c.args.s.now _ _ _ (sym c.check.ensures.answer ∙ ap listed.checked c.in-Refused.is))
-    c.refuse.ensures.roles_after) in
-    record { answered = b.answered; assigned = b.assigned }
-
-pub returns-in-Passed : goal.returns-in-Passed
-returns-in-Passed c =
-    let b = both c.read_checked.ensures in
-    record { answered = b.answered; assigned = b.assigned }
+pub returns-in-Ok-clause-assigned : goal.returns-in-Ok-clause-assigned
+returns-in-Ok-clause-assigned c = assigned-by c.read_checked.ensures

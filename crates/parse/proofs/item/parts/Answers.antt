@@ -26,43 +26,33 @@ abbrev body-then : contract.Prefix → reading.Head → declaration.Generics →
     declaration.Kind → Took declaration.Declaration
 body-then p h g l row ts k = (reading.body_of k >>= λ b. pure (made p h g l b)) row ts
 
+pub returns-in_err-d : goal.returns-in_err-d
+returns-in_err-d c = λ x p h w.
+    meeting.meets_given_up contract.item_said (contract.parts_shown c.args.s.now x) c.from_residual.ensures.1
+    (meeting.meets_no _ c.in_err-d.ensures)
+
 pub try_take_constraints-requires : goal.try_take_constraints-requires
-try_take_constraints-requires c =
-    let generics = meeting.say contract.generics_shown contract.count_said c.in-At.is c.try_take.ensures in
-    meeting.landed generics
+try_take_constraints-requires c = meeting.landed c.in_ok-d.ensures
+
+pub returns-in_err-clause : goal.returns-in_err-clause
+returns-in_err-clause c = λ x p h w.
+    meeting.meets_given_up contract.item_said (contract.parts_shown c.args.s.now x)
+    c.from_residual-in_err-clause.ensures.1
+    (meeting.meets_then _ c.in_ok-d.ensures (λ g _. meeting.meets_no _ c.in_err-clause.ensures))
 
 pub body-requires : goal.body-requires
-body-requires c = let clauses = meeting.say (contract.clause_shown c.args.s.now (contract.point c.args.s.now c.in-At.d))
-    contract.clause_said c.in-At-try_take_constraints.is c.try_take_constraints.ensures in
-    meeting.landed clauses
+body-requires c = meeting.landed c.in_ok-clause.ensures
 
-pub returns-in-Refused : goal.returns-in-Refused
-returns-in-Refused c =
-    let generics = meeting.say contract.generics_shown contract.count_said c.in-Refused.is c.try_take.ensures in
-    λ x p h w. meeting.meets_no _ generics
+pub returns-in_err-next : goal.returns-in_err-next
+returns-in_err-next c = λ x p h w.
+    meeting.meets_given_up contract.item_said (contract.parts_shown c.args.s.now x)
+    c.from_residual-in_err-next.ensures.1
+    (meeting.meets_then _ c.in_ok-d.ensures (λ g _. meeting.meets_then _ c.in_ok-clause.ensures
+    (λ l _. meeting.meets_as (ap (body-then p h g l _ _) (sym w.kind)) (meeting.meets_no _ c.in_err-next.ensures))))
 
-pub returns-in-Refused-try_take_constraints : goal.returns-in-Refused-try_take_constraints
-returns-in-Refused-try_take_constraints c =
-    let generics = meeting.say contract.generics_shown contract.count_said c.in-At.is c.try_take.ensures in
-    let clauses = meeting.say (contract.clause_shown c.args.s.now (contract.point c.args.s.now c.in-At.d))
-    contract.clause_said c.in-Refused-try_take_constraints.is c.try_take_constraints.ensures in
-    λ x p h w. meeting.meets_then _ generics (λ g _. meeting.meets_no _ clauses)
-
-pub returns-in-Refused-body : goal.returns-in-Refused-body
-returns-in-Refused-body c =
-    let generics = meeting.say contract.generics_shown contract.count_said c.in-At.is c.try_take.ensures in
-    let clauses = meeting.say (contract.clause_shown c.args.s.now (contract.point c.args.s.now c.in-At.d))
-    contract.clause_said c.in-At-try_take_constraints.is c.try_take_constraints.ensures in
-    let bodied = meeting.say contract.body_shown_lem contract.count_said c.in-Refused-body.is c.body.ensures in
-    λ x p h w. meeting.meets_then _ generics (λ g _. meeting.meets_then _ clauses
-    (λ l _. meeting.meets_as (ap (body-then p h g l _ _) (sym w.kind)) (meeting.meets_no _ bodied)))
-
-pub returns-in-At-body : goal.returns-in-At-body
-returns-in-At-body c =
-    let generics = meeting.say contract.generics_shown contract.count_said c.in-At.is c.try_take.ensures in
-    let clauses = meeting.say (contract.clause_shown c.args.s.now (contract.point c.args.s.now c.in-At.d))
-    contract.clause_said c.in-At-try_take_constraints.is c.try_take_constraints.ensures in
-    let bodied = meeting.say contract.body_shown_lem contract.count_said c.in-At-body.is c.body.ensures in
+pub returns : goal.returns
+returns c = let generics = c.in_ok-d.ensures in
+    let clauses = c.in_ok-clause.ensures in
     let past = (places.meets_beyond reading.generics generics).here in
     let ended = places.meets_beyond reading.clause clauses in
     λ x p h w.
@@ -84,9 +74,9 @@ returns-in-At-body c =
         prefix = w.prefix;
         name = w.name;
         generics = w.next;
-        clause =
-            subst (λ (y : Point). contract.ClauseOf c.args.s.now y l c.in-At-try_take_constraints.clause) clause-at k;
+        clause = subst (λ (y : Point). contract.ClauseOf c.args.s.now y l c.in_ok-clause.clause) clause-at k;
         body = places.cursor_at (ap (beyond reading.clause) clause-at) ended;
       },
     ))
-    (meeting.meets_inside (reading.body_of (contract.kind_of c.args.kind)) (meeting.landed clauses) bodied))))
+    (meeting.meets_inside (reading.body_of (contract.kind_of c.args.kind)) (meeting.landed clauses)
+    c.in_ok-next.ensures))))

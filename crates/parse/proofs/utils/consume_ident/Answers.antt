@@ -1,8 +1,8 @@
 use Rattle.reading.specs.Place.{ident_row}
 use Rattle.parse.proofs.Places as places
-use Rattle.parse.specs.declared.utils.MaybeWord.TheVariants.{Found}
 use Rattle.token_list.specs.declared.check.Cursor.{Cursor}
 use Rattle.token_list.specs.Stream.{at, head}
+use Rattle.std.specs.Prelude.{Some}
 use Rattle.parse.proofs.Meeting as meeting
 use Rattle.parse.specs.Contract as contract
 use Rattle.reading.specs.Reading as reading
@@ -12,31 +12,27 @@ use mathlib.Core.Path.{refl, sym, ◌∙◌, ap, subst, subst⁻¹}
 use Rattle.parse.proofs.utils.consume_ident.Goals as goal
 
 pub returns-then-t-ne105 : goal.returns-then-t-ne105
-returns-then-t-ne105 c = let l = meeting.peeked _ _ c.peek.ensures c.in-Leaf.is in
-    meeting.meets_same (reading.word c.args.role) _ _ c.requires _ _ _ _ l.here
+returns-then-t-ne105 c =
+    meeting.meets_same (reading.word c.args.role) _ _ c.requires _ _ _ _ c.in-Leaf.ensures.here
     (passed_over _ _ _ (ne_eqb _ _ c.if-t-ne105.true)) refl
 
-pub take_token-next-requires : goal.take_token-next-requires
-take_token-next-requires c =
-    record { in_list = c.requires; token_at = (meeting.peeked _ _ c.peek.ensures c.in-Leaf.is).token }
+pub lone_ident-requires-clause-in_list : goal.lone_ident-requires-clause-in_list
+lone_ident-requires-clause-in_list c = meeting.past_in_of _ _ _ _ c.past.ensures c.requires c.in-Group.ensures.token
 
-pub past-inside-requires : goal.past-inside-requires
-past-inside-requires c =
-    record { in_list = c.requires; token_at = (meeting.peeked _ _ c.peek.ensures c.in-Group.is).token }
-
-pub lone_ident-requires : goal.lone_ident-requires
-lone_ident-requires c = let g = meeting.peeked _ _ c.peek.ensures c.in-Group.is in record {
-  in_list = meeting.past_in_of _ _ _ _ c.past-inside.ensures c.requires g.token;
-  at_value = meeting.follows_of _ _ _ _ c.past-inside.ensures c.requires
-      g;
-}
+pub returns-in_err-w-in-Group : goal.returns-in_err-w-in-Group
+returns-in_err-w-in-Group c =
+    let inside = ap (λ (d : Cursor). reading.lone reading.is_ident (contract.stream c.args.s.now d)) c.past.ensures in
+    meeting.say_word (sym c.from_residual.ensures)
+    (meeting.meets_same (reading.word c.args.role) _ _ c.requires _ _ _ _
+    (meeting.group_stream _ _ _ c.requires c.in-Group.ensures) (passed_over _ _ _ (sym inside
+    ∙ c.in_err-w-in-Group.ensures)) refl)
 
 pub returns-in-Nothing : goal.returns-in-Nothing
-returns-in-Nothing c = meeting.meets_same (reading.word c.args.role) _ _ c.requires _ _ _ _
-    (meeting.peeked _ _ c.peek.ensures c.in-Nothing.is) refl refl
+returns-in-Nothing c =
+    meeting.meets_same (reading.word c.args.role) _ _ c.requires _ _ _ _ c.in-Nothing.ensures refl refl
 
 pub returns-else-t-ne105 : goal.returns-else-t-ne105
-returns-else-t-ne105 c = let l = meeting.peeked _ _ c.peek.ensures c.in-Leaf.is in
+returns-else-t-ne105 c = let l = c.in-Leaf.ensures in
     meeting.meets_leaf (reading.word c.args.role) _ _ c.requires _ _ l _ _ _ _ c.take_token-next.ensures.value
     c.take_token-next.ensures.roles_after _ (chosen _ _ _ (eq-eqb _ _ c.if-t-ne105.false)) (
       _,
@@ -48,23 +44,18 @@ returns-else-t-ne105 c = let l = meeting.peeked _ _ c.peek.ensures c.in-Leaf.is 
       },
     )
 
-pub returns-in-Missing : goal.returns-in-Missing
-returns-in-Missing c = let g = meeting.peeked _ _ c.peek.ensures c.in-Group.is in
-    let w = subst (contract.lone_shown _ _) c.in-Missing.is c.lone_ident.ensures in
-    meeting.meets_same (reading.word c.args.role) _ _ c.requires _ _ _ _ (meeting.group_stream _ _ _ c.requires g)
-    (passed_over _ _ _ (sym (ap (λ (d : Cursor). reading.lone reading.is_ident (contract.stream c.args.s.now d))
-    c.past-inside.ensures) ∙ w)) refl
-
-pub returns-in-Found : goal.returns-in-Found
-returns-in-Found c = let g = meeting.peeked _ _ c.peek.ensures c.in-Group.is in
-    let w = subst (λ (d : Cursor). contract.lone_shown c.args.s.now d (Found c.in-Found.w)) c.past-inside.ensures
-    (subst (contract.lone_shown _ _) c.in-Found.is c.lone_ident.ensures) in
-    let m = subst⁻¹ (λ b. contract.Moved c.args.s.now c.args.c c.in-Found.w.next
+pub returns-in_ok-w-in-Group : goal.returns-in_ok-w-in-Group
+returns-in_ok-w-in-Group c =
+    let g = c.in-Group.ensures in
+    let found = c.in_ok-w-in-Group.w in
+    let w = subst (λ (d : Cursor). contract.lone_shown c.args.s.now d (Some found)) c.past.ensures
+    c.in_ok-w-in-Group.ensures in
+    let m = subst⁻¹ (λ b. contract.Moved c.args.s.now c.args.c found.next
     (reading.copied c.args.role (at c.args.s.now c.in-Group.t.next).here)
     (head (at c.args.s.now c.in-Group.t.next).outer) c.args.roles.now b) c.fill.ensures
-    (meeting.group_moved c.args.s.now c.args.c c.in-Group.t c.requires c.args.roles.now c.args.role c.in-Found.w.next
+    (meeting.group_moved c.args.s.now c.args.c c.in-Group.t c.requires c.args.roles.now c.args.role found.next
     g w.4) in
-    meeting.meets_group (reading.word c.args.role) c.args.s.now c.args.c c.requires _ c.in-Group.t g c.in-Found.w.next
+    meeting.meets_group (reading.word c.args.role) c.args.s.now c.args.c c.requires _ c.in-Group.t g found.next
     c.args.roles.now _ _ m _ (chosen _ _ _ w.0) (
       _,
       ap (reading.found (reading.first_text (at c.args.s.now c.in-Group.t.next).here)) (sym w.3),

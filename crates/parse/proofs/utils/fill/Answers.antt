@@ -1,8 +1,11 @@
-use mathlib.Core.Path.{◌∙◌}
-use native.Mathlib.Omega.{arith}
-use Rattle.parse.proofs.Buffer.{fill_clip}
+use Rattle.parse.proofs.Buffer.{fill_part, fill_nothing}
 use Rattle.parse.proofs.utils.fill.Goals as goal
 
-pub returns-then-len-to : goal.returns-then-len-to
-returns-then-len-to c =
-    c.fill_within.ensures ∙ fill_clip c.args.roles.now c.args.from c.args.to c.args.role (omega arith)
+pub returns-then-from-end : goal.returns-then-from-end
+returns-then-from-end c =
+    fill_part c.args.roles.now c.args.from c.args.to c.args.role _ c.min-end.ensures _ c.if-from-end.true
+    (c.fill.ensures.after (λ y h. h))
+
+pub returns-else-from-end : goal.returns-else-from-end
+returns-else-from-end c =
+    fill_nothing c.args.roles.now c.args.from c.args.to c.args.role _ c.min-end.ensures c.if-from-end.false

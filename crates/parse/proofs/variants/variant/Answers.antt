@@ -6,12 +6,12 @@ use Rattle.parse.proofs.Meeting.{meets_same, meets_as}
 use Rattle.parse.proofs.Looks.{as_variant}
 use Rattle.parse.proofs.variants.variant.Goals as goal
 
-pub returns-then-l-eq0 : goal.returns-then-l-eq0
-returns-then-l-eq0 c = meets_same variant c.args.s.now c.args.c c.requires _ _ _ _
-    (c.look-l.ensures.none c.if-l-eq0.true) refl refl
+pub returns-then-look-eq0 : goal.returns-then-look-eq0
+returns-then-look-eq0 c = meets_same variant c.args.s.now c.args.c c.requires _ _ _ _
+    (c.look.ensures.none c.if-look-eq0.true) refl refl
 
 pub returns : goal.returns
 returns c = meets_as
     (as_variant c.args.c.row (stream c.args.s.now c.args.c)
-    (λ e. c.if-l-eq0.false (c.look-l.ensures.kind ∙ ap first_kind_lem e)))
+    (λ e. c.if-look-eq0.false (c.look.ensures.kind ∙ ap first_kind_lem e)))
     c.variant_here.ensures

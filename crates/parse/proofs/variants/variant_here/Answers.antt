@@ -34,78 +34,50 @@ split row ts =
     rest)
 
 pub variant_fields-requires : goal.variant_fields-requires
-variant_fields-requires c =
-    let named = meeting.say (contract.variant_name_shown c.args.s.now c.args.c) contract.placed_name_said c.in-At.is
-    c.variant_name.ensures in
-    meeting.landed named
+variant_fields-requires c = meeting.landed c.in_ok-name.ensures
 
 pub variant_value-requires : goal.variant_value-requires
-variant_value-requires c =
-    let grouped =
-    meeting.say (contract.fields_shown c.args.s.now c.in-At.n.next) contract.fields_said c.in-At-variant_fields.is
-    c.variant_fields.ensures in
-    meeting.landed grouped
+variant_value-requires c = meeting.landed c.in_ok-fields.ensures
 
-pub returns-in-Refused : goal.returns-in-Refused
-returns-in-Refused c =
-    let named = meeting.say (contract.variant_name_shown c.args.s.now c.args.c) contract.placed_name_said
-    c.in-Refused.is
-    c.variant_name.ensures in
-    meeting.meets_as (split c.args.c.row (contract.stream c.args.s.now c.args.c))
-    (meeting.meets_no rest named)
+pub returns-in_err-name : goal.returns-in_err-name
+returns-in_err-name c =
+    meeting.meets_given_up contract.variant_said (contract.variant_shown c.args.s.now c.args.c)
+    c.from_residual.ensures.1
+    (meeting.meets_as (split c.args.c.row (contract.stream c.args.s.now c.args.c))
+    (meeting.meets_no rest c.in_err-name.ensures))
 
-pub returns-in-Refused-variant_fields : goal.returns-in-Refused-variant_fields
-returns-in-Refused-variant_fields c =
-    let named = meeting.say (contract.variant_name_shown c.args.s.now c.args.c) contract.placed_name_said c.in-At.is
-    c.variant_name.ensures in
-    let grouped =
-    meeting.say (contract.fields_shown c.args.s.now c.in-At.n.next) contract.fields_said
-    c.in-Refused-variant_fields.is
-    c.variant_fields.ensures in
-    meeting.meets_as (split c.args.c.row (contract.stream c.args.s.now c.args.c))
-    (meeting.meets_then rest named (λ h k. meeting.meets_no (value-then h) grouped))
+pub returns-in_err-fields : goal.returns-in_err-fields
+returns-in_err-fields c =
+    meeting.meets_given_up contract.variant_said (contract.variant_shown c.args.s.now c.args.c)
+    c.from_residual-in_err-fields.ensures.1
+    (meeting.meets_as (split c.args.c.row (contract.stream c.args.s.now c.args.c))
+    (meeting.meets_then rest c.in_ok-name.ensures
+    (λ h k. meeting.meets_no (value-then h) c.in_err-fields.ensures)))
 
-pub returns-in-Refused-variant_value : goal.returns-in-Refused-variant_value
-returns-in-Refused-variant_value c =
-    let named = meeting.say (contract.variant_name_shown c.args.s.now c.args.c) contract.placed_name_said c.in-At.is
-    c.variant_name.ensures in
-    let grouped =
-    meeting.say (contract.fields_shown c.args.s.now c.in-At.n.next) contract.fields_said c.in-At-variant_fields.is
-    c.variant_fields.ensures in
-    let valued =
-    meeting.say (contract.value_shown c.args.s.now (literal_row (c.in-At-variant_fields.e.row + 1)))
-    contract.value_said
-    c.in-Refused-variant_value.is c.variant_value.ensures in
-    meeting.meets_as (split c.args.c.row (contract.stream c.args.s.now c.args.c))
-    (meeting.meets_then rest named
-    (λ h k. meeting.meets_then (value-then h) grouped
+pub returns-in_err-value : goal.returns-in_err-value
+returns-in_err-value c =
+    let d = c.in_ok-fields.d in
+    meeting.meets_given_up contract.variant_said (contract.variant_shown c.args.s.now c.args.c)
+    c.from_residual-in_err-value.ensures.1
+    (meeting.meets_as (split c.args.c.row (contract.stream c.args.s.now c.args.c))
+    (meeting.meets_then rest c.in_ok-name.ensures
+    (λ h k. meeting.meets_then (value-then h) c.in_ok-fields.ensures
     (λ f g. meeting.meets_as
-    (bodies.comma_as c.in-At-variant_fields.e.row
-    (reading.value_if c.in-At-variant_fields.e.row (contract.stream c.args.s.now c.in-At-variant_fields.e))
-    (made h f))
-    (meeting.meets_no _ valued))))
+    (bodies.comma_as d.row (reading.value_if d.row (contract.stream c.args.s.now d)) (made h f))
+    (meeting.meets_no _ c.in_err-value.ensures)))))
 
-pub returns-in-At-variant_value : goal.returns-in-At-variant_value
-returns-in-At-variant_value c =
-    let named = meeting.say (contract.variant_name_shown c.args.s.now c.args.c) contract.placed_name_said c.in-At.is
-    c.variant_name.ensures in
-    let grouped =
-    meeting.say (contract.fields_shown c.args.s.now c.in-At.n.next) contract.fields_said c.in-At-variant_fields.is
-    c.variant_fields.ensures in
-    let valued =
-    meeting.say (contract.value_shown c.args.s.now (literal_row (c.in-At-variant_fields.e.row + 1)))
-    contract.value_said
-    c.in-At-variant_value.is c.variant_value.ensures in
-    let group = (places.meets_beyond variant_head named).here in
-    let equals = (places.meets_beyond reading.variant_fields grouped).here ∙ ap (beyond reading.variant_fields) group in
+pub returns : goal.returns
+returns c =
+    let d = c.in_ok-fields.d in
+    let group = (places.meets_beyond variant_head c.in_ok-name.ensures).here in
+    let equals = (places.meets_beyond reading.variant_fields c.in_ok-fields.ensures).here
+    ∙ ap (beyond reading.variant_fields) group in
     meeting.meets_as (split c.args.c.row (contract.stream c.args.s.now c.args.c))
-    (meeting.meets_then rest named
-    (λ h k. meeting.meets_then (value-then h) grouped
+    (meeting.meets_then rest c.in_ok-name.ensures
+    (λ h k. meeting.meets_then (value-then h) c.in_ok-fields.ensures
     (λ f g. meeting.meets_as
-    (bodies.comma_as c.in-At-variant_fields.e.row
-    (reading.value_if c.in-At-variant_fields.e.row (contract.stream c.args.s.now c.in-At-variant_fields.e))
-    (made h f))
-    (meeting.meets_map c.in-At-variant_fields.e.row (λ v. reading.one (made h f v))
+    (bodies.comma_as d.row (reading.value_if d.row (contract.stream c.args.s.now d)) (made h f))
+    (meeting.meets_map d.row (λ v. reading.one (made h f v))
     (λ v w. (
       made h f v,
       refl,
@@ -113,9 +85,9 @@ returns-in-At-variant_value c =
       record {
         attributes = k.0;
         name = k.1;
-        fields = subst (λ (x : Point). contract.FieldsIn x.row c.in-At-variant_fields.fields) group g.1;
+        fields = subst (λ (x : Point). contract.FieldsIn x.row c.in_ok-fields.fields) group g.1;
         value = subst (λ (x : Point). contract.ValueIn c.args.s.now (literal_row (x.row + 1) v)
-            c.in-At-variant_value.value) equals w.1;
+            c.in_ok-value.value) equals w.1;
       },
     ))
-    valued))))
+    c.in_ok-value.ensures))))

@@ -16,33 +16,25 @@ abbrev word-then : List Trees → Reader VariantHead
 word-then a = reading.word role.variant-name >>= name-then a
 
 pub consume_ident-requires : goal.consume_ident-requires
-consume_ident-requires c =
-    let attributes = meeting.say (λ x. contract.any) contract.step_said c.in-At.is c.try_take.ensures in
-    meeting.landed attributes
+consume_ident-requires c = meeting.landed c.in_ok-d.ensures
 
 pub wrong_token-requires : goal.wrong_token-requires
-wrong_token-requires c =
-    let attributes = meeting.say (λ x. contract.any) contract.step_said c.in-At.is c.try_take.ensures in
-    meeting.landed attributes
+wrong_token-requires c = meeting.landed c.in_ok-d.ensures
 
-pub returns-in-Refused : goal.returns-in-Refused
-returns-in-Refused c =
-    let attributes = meeting.say (λ x. contract.any) contract.step_said c.in-Refused.is c.try_take.ensures in
-    meeting.meets_no word-then attributes
+pub returns-in_err-d : goal.returns-in_err-d
+returns-in_err-d c =
+    meeting.meets_given_up contract.placed_name_said (contract.variant_name_shown c.args.s.now c.args.c)
+    c.from_residual.ensures.1 (meeting.meets_no word-then c.in_err-d.ensures)
 
-pub returns-in-Missing : goal.returns-in-Missing
-returns-in-Missing c =
-    let attributes = meeting.say (λ x. contract.any) contract.step_said c.in-At.is c.try_take.ensures in
-    let missing = meeting.say_word c.in-Missing.is c.consume_ident.ensures in
-    meeting.meets_then word-then attributes
-    (λ a h. meeting.meets_missing (name-then a) missing (meeting.meets_wrong _ _ c.wrong_token.ensures))
+pub returns-in_default : goal.returns-in_default
+returns-in_default c =
+    meeting.meets_then word-then c.in_ok-d.ensures
+    (λ a h. meeting.meets_missing (name-then a) c.in_default.ensures (meeting.meets_wrong _ _ c.wrong_token.ensures))
 
-pub returns-in-Found : goal.returns-in-Found
-returns-in-Found c =
-    let attributes = meeting.say (λ x. contract.any) contract.step_said c.in-At.is c.try_take.ensures in
-    let found = meeting.say_word c.in-Found.is c.consume_ident.ensures in
-    let named = (places.meets_beyond reading.attributes attributes).here in
-    meeting.meets_then word-then (meeting.meets_inside reading.attributes c.requires attributes)
-    (λ a i. meeting.meets_word (name-then a) _ found
-    (λ text x. meeting.meets_stay _ _ _ _ _ (meeting.landed found)
-    (i.1, places.placed_name c.args.s.now c.in-At.d named x)))
+pub returns : goal.returns
+returns c =
+    let named = (places.meets_beyond reading.attributes c.in_ok-d.ensures).here in
+    meeting.meets_then word-then (meeting.meets_inside reading.attributes c.requires c.in_ok-d.ensures)
+    (λ a i. meeting.meets_word (name-then a) _ c.in-Some.ensures
+    (λ text x. meeting.meets_stay _ _ _ _ _ (meeting.landed c.in-Some.ensures)
+    (i.1, places.placed_name c.args.s.now c.in_ok-d.d named x)))

@@ -13,4 +13,4 @@ returns-then-l-ne112 c = meeting.meets_same reading.visibility c.args.s.now c.ar
     tt
 
 pub returns : goal.returns
-returns c = meeting.meets_show (λ v h. tt) c.try_take_at-v.ensures
+returns c = meeting.meets_show (λ v h. tt) c.try_take_at.ensures

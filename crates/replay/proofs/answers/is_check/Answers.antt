@@ -1,9 +1,10 @@
 use mathlib.Core.Path.{ap, ◌∙◌}
-use lib.Seq.{slice}
-use Rattle.token_list.specs.Text.{same}
+use native.Mathlib.Omega.{arith}
 use Rattle.output.proofs.Texts.{printed_shown}
+use Rattle.token_list.specs.Text.{same}
 use Rattle.replay.proofs.answers.is_check.Goals as goal
 
 pub returns : goal.returns
-returns c = let text = printed_shown c.report_check-n.ensures.printed c.report_check-n.ensures.upper_bound in
-    c.text_is.ensures ∙ ap (same (slice c.args.start c.args.end c.args.s.now)) text
+returns c = let report = c.report_check-n.ensures in
+    c.is.ensures ∙ ap (same c.args.text.now) (printed_shown report.printed
+    (omega (arith, report.upper_bound)))

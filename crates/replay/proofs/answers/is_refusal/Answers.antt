@@ -1,9 +1,10 @@
+use mathlib.Core.Path.{ap, ◌∙◌}
+use native.Mathlib.Omega.{arith}
 use Rattle.output.proofs.Texts.{printed_shown}
 use Rattle.token_list.specs.Text.{same}
-use lib.Seq.{slice}
-use mathlib.Core.Path.{ap, ◌∙◌}
 use Rattle.replay.proofs.answers.is_refusal.Goals as goal
 
 pub returns : goal.returns
-returns c = let text = printed_shown c.put_refusal-n.ensures.printed c.put_refusal-n.ensures.upper_bound in
-    c.text_is.ensures ∙ ap (same (slice c.args.start c.args.end c.args.s.now)) text
+returns c = let refusal = c.put_refusal-n.ensures in
+    c.is.ensures ∙ ap (same c.args.text.now) (printed_shown refusal.printed
+    (omega (arith, refusal.upper_bound)))

@@ -1,11 +1,11 @@
-use Prim.Native.Nat.{◌-◌, ◌≤◌}
-use lib.ListN.{length, take}
-use Rattle.report.specs.Roles.{role_lines}
+use mathlib.Core.List.{List}
+use Prim.Native.Nat.{ℕ}
+use lib.ListN.{drop}
 use Rattle.output.specs.Contract.{Put}
+use Rattle.report.specs.Roles.{role_lines}
 use Rattle.report.proofs.roles.put_lines.Given as goal
 
-abbrev pub invariant-loop-i : goal.invariant-loop-i
-invariant-loop-i l = (l.i ≤ length l.roles) × Put l.initial.out l.out l.at l.end (role_lines 0 (take l.i l.roles))
-
-abbrev pub decreases-loop-i : goal.decreases-loop-i
-decreases-loop-i l = length l.roles - l.i
+-- where the lines that are left go on to, all of them do
+abbrev pub invariant-loop-row : goal.invariant-loop-row
+invariant-loop-row l = (x : List ℕ) (r : ℕ) → Put l.out x l.end r (role_lines l.row (drop l.row l.roles))
+    → Put l.initial.out x l.at r (role_lines 0 l.roles)

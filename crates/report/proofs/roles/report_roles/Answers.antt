@@ -8,27 +8,27 @@ use Rattle.output.proofs.Texts.{joined, printed}
 use Rattle.report.proofs.roles.report_roles.Goals as goal
 
 pub slice_bounds-put_lines-end : goal.slice_bounds-put_lines-end
-slice_bounds-put_lines-end c = (found c.in-Rows.n (answer c.args.list.now (length c.args.roles.now)) c.in-Rows.is
+slice_bounds-put_lines-end c = (found c.in-Ok.n (answer c.args.list.now (length c.args.roles.now)) c.in-Ok.is
     c.read_roles.ensures.read_as).within
 
-pub slice_bounds-put_lines-end-in-Rows : goal.slice_bounds-put_lines-end-in-Rows
-slice_bounds-put_lines-end-in-Rows c = sym
-    (length-take-le c.in-Rows.n c.read_roles.new.roles
-    (found c.in-Rows.n (answer c.args.list.now (length c.args.roles.now)) c.in-Rows.is
+pub slice_bounds-put_lines-end-in-Ok : goal.slice_bounds-put_lines-end-in-Ok
+slice_bounds-put_lines-end-in-Ok c = sym
+    (length-take-le c.in-Ok.n c.read_roles.new.roles
+    (found c.in-Ok.n (answer c.args.list.now (length c.args.roles.now)) c.in-Ok.is
     c.read_roles.ensures.read_as).within)
 
-pub returns-in-Refused : goal.returns-in-Refused
-returns-in-Refused c = let none = not_found c.read_roles.new.roles c.in-Refused.r
-    (answer c.args.list.now (length c.args.roles.now)) c.in-Refused.is c.read_roles.ensures.read_as in record {
+pub returns-in-Err : goal.returns-in-Err
+returns-in-Err c = let none = not_found c.read_roles.new.roles c.in-Err.r
+    (answer c.args.list.now (length c.args.roles.now)) c.in-Err.is c.read_roles.ensures.read_as in record {
       printed = rw none c.put_refusal.ensures.printed;
       roles_after = c.read_roles.ensures.roles_after;
       upper_bound = omega (arith, c.put_refusal.ensures.upper_bound);
       by_index = c.read_roles.ensures.by_index;
     }
 
-pub returns-in-Rows : goal.returns-in-Rows
-returns-in-Rows c = let room = length c.args.roles.now in
-    let f = found c.in-Rows.n (answer c.args.list.now room) c.in-Rows.is c.read_roles.ensures.read_as in
+pub returns-in-Ok : goal.returns-in-Ok
+returns-in-Ok c = let room = length c.args.roles.now in
+    let f = found c.in-Ok.n (answer c.args.list.now room) c.in-Ok.is c.read_roles.ensures.read_as in
     let few = roles_few c.args.list.now room f.declaration _ f.same in
     let p = printed (joined c.put_bytes-names.ensures c.put_lines.ensures) (omega (arith, few)) in
     record {

@@ -2,15 +2,8 @@ use mathlib.Core.Path.{sym, ap, ◌∙◌}
 use native.Mathlib.Omega.{arith}
 use Rattle.source.specs.Bytes.{opens}
 use Rattle.source.specs.Stack.{bits_of}
-use Rattle.source.proofs.Cells.{bits_few, room_left, pushed, pushed_past}
+use Rattle.source.proofs.Cells.{pushed, pushed_past}
 use Rattle.source.proofs.brackets.push.Goals as goal
-
-pub overflow_mul-shifted : goal.overflow_mul-shifted
-overflow_mul-shifted c = omega (arith, room_left c.requires.held.1 c.requires.held.2)
-
-pub overflow_add-more : goal.overflow_add-more
-overflow_add-more c = let few = bits_few c.args.d in
-    omega (arith, room_left c.requires.held.1 c.requires.held.2, few, c.bits_of.ensures)
 
 pub returns-then-cell-cells : goal.returns-then-cell-cells
 returns-then-cell-cells c = λ os o h e q. let fits = ap opens q ∙ c.requires.d_value in

@@ -1,54 +1,69 @@
-use mathlib.Core.Path.{sym, ◌∙◌}
+use mathlib.Core.Path.{sym, ap, ◌∙◌}
+use Prim.Native.Nat.{ℕ}
 use native.Mathlib.Omega.{arith}
-use Rattle.source.specs.Stack.{turned, fault}
-use Rattle.source.proofs.Stacks.{passing_known, opening_known, closing_known, fault_known}
+use Rattle.std.proofs.Common.{rules}
+use Rattle.token_list.specs.Layout.{OPEN, CLOSE}
+use Rattle.source.specs.Stack.{turned, fault, IsNot}
+use Rattle.source.specs.declared.piece.Piece.TheVariants.{Row}
 use Rattle.source.proofs.Walks.{reached_passes, reached_opens, reached_none, reached_count, reached_closes}
-use Rattle.source.proofs.Walks.{reached_unmatched, reached_fault}
+use Rattle.source.proofs.Walks.{reached_unmatched}
 use Rattle.source.proofs.brackets.turn.Goals as goal
 
-pub push-requires : goal.push-requires
-push-requires c = let step = opening_known (rw c.in-Opens.is at c.requires.step_as) in
-    let reached = c.requires.reached in
-    record { held = (reached.0, reached.1.held, reached.1.count); d_value = step.1.delimiter }
+pub push-requires-clause-d_value : goal.push-requires-clause-d_value
+push-requires-clause-d_value c =
+    let arm = c.in-Row-eq111-default in
+    let opening = ap (λ (k : ℕ). Row k arm.field-1) (sym arm.field-0-is ∙ arm.field-0-test) in
+    (c.requires.step_as.opening _ (arm.is ∙ opening)).delimiter
 
-pub overflow_add-deeper : goal.overflow_add-deeper
-overflow_add-deeper c = omega (arith, c.requires.reached.1.low, c.requires.i_in_bounds)
+pub returns-in-Row-eq111-default : goal.returns-in-Row-eq111-default
+returns-in-Row-eq111-default c =
+    let arm = c.in-Row-eq111-default in
+    let opening = ap (λ (k : ℕ). Row k arm.field-1) (sym arm.field-0-is ∙ arm.field-0-test) in
+    let step = c.requires.step_as.opening _ (arm.is ∙ opening) in
+    let within = c.requires.step_as.within in
+    turned within (reached_opens within step c.push.ensures c.requires.reached)
 
 pub returns-then-depth-eq0 : goal.returns-then-depth-eq0
-returns-then-depth-eq0 c = let step = closing_known (rw c.in-Closes.is at c.requires.step_as) in
-    fault (reached_none step.1 c.if-depth-eq0.true c.requires.reached)
+returns-then-depth-eq0 c =
+    let arm = c.in-Row-eq99-default in
+    let closing = ap (λ (k : ℕ). Row k arm.field-1) (sym arm.field-0-is ∙ arm.field-0-test) in
+    let step = c.requires.step_as.closing _ (arm.is ∙ closing) in
+    fault (reached_none step c.if-depth-eq0.true c.requires.reached)
 
-pub delimiter_at-d-requires : goal.delimiter_at-d-requires
-delimiter_at-d-requires c =
-    record {
-      i_in_bounds = omega (arith, c.requires.i_in_bounds);
-      s_len = reached_count c.requires.reached;
-      depth_nonzero = omega arith;
-    }
+pub delimiter_at-requires-clause-s_len : goal.delimiter_at-requires-clause-s_len
+delimiter_at-requires-clause-s_len c = reached_count c.requires.reached
 
 pub returns-then-closer-s : goal.returns-then-closer-s
-returns-then-closer-s c = let step = closing_known (rw c.in-Closes.is at c.requires.step_as) in
-    let told = c.delimiter_at-d.ensures in
-    let fits = sym c.closer.ensures ∙ c.if-closer-s.true in
-    let pop = c.pop-held.ensures in
-    rw c.in-Closes.is (turned step.0 (reached_closes step.1 (omega arith) told pop step.0 fits c.requires.reached))
-
-pub returns-in-Fault : goal.returns-in-Fault
-returns-in-Fault c = let step = fault_known (rw c.in-Fault.is at c.requires.step_as) in
-    fault (reached_fault step c.requires.reached)
-
-pub returns-in-Passes : goal.returns-in-Passes
-returns-in-Passes c = let step = passing_known (rw c.in-Passes.is at c.requires.step_as) in
-    rw c.in-Passes.is (turned step.0 (reached_passes step.0 step.1 c.requires.reached))
-
-pub returns-in-Opens : goal.returns-in-Opens
-returns-in-Opens c = let step = opening_known (rw c.in-Opens.is at c.requires.step_as) in
-    rw c.in-Opens.is (turned step.0 (reached_opens step.0 step.1 c.push.ensures c.requires.reached))
+returns-then-closer-s c =
+    let arm = c.in-Row-eq99-default in
+    let closing = ap (λ (k : ℕ). Row k arm.field-1) (sym arm.field-0-is ∙ arm.field-0-test) in
+    let step = c.requires.step_as.closing _ (arm.is ∙ closing) in
+    fault
+    (reached_unmatched _ step (omega arith) c.delimiter_at.ensures c.pop-held.ensures
+    (λ e. c.if-closer-s.true (c.closer.ensures ∙ e)) c.requires.reached)
 
 pub returns-else-closer-s : goal.returns-else-closer-s
-returns-else-closer-s c = let step = closing_known (rw c.in-Closes.is at c.requires.step_as) in
-    let told = c.delimiter_at-d.ensures in
-    let pop = c.pop-held.ensures in
-    fault
-    (reached_unmatched step.1 (omega arith) told pop (λ e. c.if-closer-s.false (c.closer.ensures ∙ e))
-    c.requires.reached)
+returns-else-closer-s c =
+    let arm = c.in-Row-eq99-default in
+    let closing = ap (λ (k : ℕ). Row k arm.field-1) (sym arm.field-0-is ∙ arm.field-0-test) in
+    let step = c.requires.step_as.closing _ (arm.is ∙ closing) in
+    let within = c.requires.step_as.within in
+    turned within
+    (reached_closes _ step (omega arith) c.delimiter_at.ensures c.pop-held.ensures within
+    (sym c.closer.ensures ∙ c.if-closer-s.false) c.requires.reached)
+
+pub returns-in_default : goal.returns-in_default
+returns-in_default c =
+    let opens : IsNot OPEN c.args.p = λ e q. search rules in
+    let closes : IsNot CLOSE c.args.p = λ e q. search rules in
+    let within = c.requires.step_as.within in
+    let step = c.requires.step_as.passing opens closes in
+    turned within (reached_passes within step c.requires.reached)
+
+pub returns-in_default-2 : goal.returns-in_default-2
+returns-in_default-2 c =
+    let opens : IsNot OPEN c.args.p = λ e q. search rules in
+    let closes : IsNot CLOSE c.args.p = λ e q. search rules in
+    let within = c.requires.step_as.within in
+    let step = c.requires.step_as.passing opens closes in
+    turned within (reached_passes within step c.requires.reached)

@@ -1,12 +1,10 @@
--- `has_slash` meets its contract: unless one was seen, no `/` stands before k.
+-- `has_slash` meets its contract: unless one was seen, no `/` stands among the bytes so far.
 use mathlib.Core.Path.{◌≡◌}
 use mathlib.Core.Bool.{false}
-use Prim.Native.Nat.{◌-◌}
-use Rattle.source.specs.Contract.{NoSlash}
+use Prim.Native.Nat.{ℕ, ◌<◌}
+use lib.ListN.{get_or}
+use Rattle.source.specs.Bytes.{SLASH}
 use Rattle.source.proofs.comment.has_slash.Given as goal
 
-abbrev pub invariant-loop-k : goal.invariant-loop-k
-invariant-loop-k l = l.any ≡ false → NoSlash l.s l.i l.k
-
-abbrev pub decreases-loop-k : goal.decreases-loop-k
-decreases-loop-k l = l.e - l.k
+abbrev pub invariant-loop-b : goal.invariant-loop-b
+invariant-loop-b l = l.any ≡ false → (k : ℕ) → k < l.b-index → get_or l.b-items k 0 ≡ SLASH → ⊥

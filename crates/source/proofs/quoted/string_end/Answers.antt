@@ -17,21 +17,19 @@ pub returns-then-s-i-eq34 : goal.returns-then-s-i-eq34
 returns-then-s-i-eq34 c = let e = string_closed c.args.byte c.args.s.now c.loop-i.i (omega arith) c.if-s-i-eq34.true in
     passed_ends (ends_takes 1 e refl (omega arith) (omega arith)) c.loop-i.invariant
 
-pub returns-in-Fault : goal.returns-in-Fault
-returns-in-Fault c = let u = ends_not (rw c.in-Fault.is at c.unit_end.ensures) in
-    let q = c.if-s-i-eq34.false in
-    let e = string_broken c.args.byte c.args.s.now c.loop-i.i (omega arith) q u in
-    passed_ends (none e) c.loop-i.invariant
+pub returns-in_err-i : goal.returns-in_err-i
+returns-in_err-i c =
+    let e = string_broken c.args.byte c.args.s.now c.loop-i.i (omega arith) c.if-s-i-eq34.false
+    (ends_not c.in_err-i.ensures) in
+    rw c.from_residual.ensures (passed_ends (none e) c.loop-i.invariant)
 
 pub loop-i-smaller : goal.loop-i-smaller
-loop-i-smaller c = let u = ends_to (rw c.in-To.is at c.unit_end.ensures) in
-    omega (arith, u.forth, u.within)
+loop-i-smaller c = let u = ends_to c.in_ok-i.ensures in omega (arith, u.forth, u.within)
 
 pub loop-i-preserved : goal.loop-i-preserved
-loop-i-preserved c = let u = ends_to (rw c.in-To.is at c.unit_end.ensures) in
-    let q = c.if-s-i-eq34.false in
-    let e = string_on c.args.byte c.args.s.now c.loop-i.i (omega arith) q u in
-    passed_on (c.in-To.e - c.loop-i.i) (omega (arith, u.forth)) e c.loop-i.invariant
+loop-i-preserved c = let u = ends_to c.in_ok-i.ensures in
+    let e = string_on c.args.byte c.args.s.now c.loop-i.i (omega arith) c.if-s-i-eq34.false u in
+    passed_on (c.in_ok-i.i - c.loop-i.i) (omega (arith, u.forth)) e c.loop-i.invariant
 
 pub returns : goal.returns
 returns c = let e = drop_of_length-le c.args.s.now {i = c.loop-i.i} (omega arith) in

@@ -5,10 +5,10 @@ use lib.ListN.{length}
 use Rattle.source.proofs.Scans.{Scanning}
 use Rattle.source.proofs.tokens.scan.Given as goal
 
-abbrev pub invariant-loop-i : goal.invariant-loop-i
-invariant-loop-i l =
+abbrev pub invariant-loop-p : goal.invariant-loop-p
+invariant-loop-p l =
     (length l.cells ≡ length l.initial.cells)
     × Scanning l.s l.cells l.initial.list l.list l.initial.at l.at l.i l.depth l.measured
 
-abbrev pub decreases-loop-i : goal.decreases-loop-i
-decreases-loop-i l = length l.s - l.i
+abbrev pub decreases-loop-p : goal.decreases-loop-p
+decreases-loop-p l = length l.s - l.i

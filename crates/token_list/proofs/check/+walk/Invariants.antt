@@ -4,7 +4,7 @@ use lib.ListN.{length}
 use Rattle.token_list.proofs.check.+walk.Given as goal
 
 abbrev pub invariant-loop-at : goal.invariant-loop-at
-invariant-loop-at l = Reached l.marked l.s l.levels l.initial.at l.initial.row l.at l.row
+invariant-loop-at l = Reached l.marked l.s l.levels l.fn.from l.at l.row
 
 abbrev pub decreases-loop-at : goal.decreases-loop-at
 decreases-loop-at l = length l.s - l.at

@@ -1,3 +1,5 @@
+use Rattle.std.specs.Prelude.{Result, Ok}
+use Rattle.std.proofs.lemmas.Result.{err_from_is_err_and}
 use mathlib.Core.Bool.{not}
 use mathlib.Core.List.{List, []}
 use mathlib.Core.Path.{◌≡◌, refl, sym, ◌∙◌, ap, subst}
@@ -10,7 +12,7 @@ use Rattle.token_list.specs.Layout.{marked, MAX_BYTES, MAX_DEPTH}
 use Rattle.token_list.specs.Check.{named}
 use Rattle.token_list.specs.Contract.{start_of, Within, resumed, Walked, checked, CheckedAs}
 use Rattle.token_list.specs.declared.check.Cursor.{Cursor}
-use Rattle.token_list.specs.declared.check.Checked.{Checked}
+use Rattle.token_list.specs.declared.check.Refusal.{Refusal}
 use Rattle.token_list.specs.declared.check.LevelEnd.{LevelEnd}
 use Rattle.token_list.proofs.Columns.{names-within}
 use Rattle.token_list.proofs.Walks as walks
@@ -18,13 +20,14 @@ use Rattle.token_list.proofs.Bounds.{checked_as}
 -- the answer of the walk over all rows
 use Rattle.token_list.proofs.check.check.Goals as goal
 
-walked : (s : List ℕ) (r : Checked) {w x : LevelEnd} → length s ≤ MAX_BYTES → named s ≡ true
+walked : (s : List ℕ) (r : Result ℕ Refusal) {w x : Result LevelEnd Refusal} → length s ≤ MAX_BYTES → named s ≡ true
     → Walked (marked s) s (start_of s) MAX_DEPTH w → w ≡ x → checked r ≡ resumed (marked s) s [] x → CheckedAs s r
 walked s r l n w e k =
     checked_as s r (k ∙ sym (walks.walked s l n ∙ w.right [] (omega arith) ∙ ap (resumed (marked s) s []) e))
 
 -- from the first row on, with the marks that the list has
-from : {s : List ℕ} {m : Bool} {c : Cursor} {w : LevelEnd} → m ≡ marked s → c ≡ start_of s → Walked m s c MAX_DEPTH w →
+from : {s : List ℕ} {m : Bool} {c : Cursor} {w : Result LevelEnd Refusal} → m ≡ marked s → c ≡ start_of s
+    → Walked m s c MAX_DEPTH w →
     Walked (marked s) s (start_of s) MAX_DEPTH w
 from {s} {m = m} {c = c} {w = w} e f k =
     subst (λ (x : Cursor). Walked (marked s) s x MAX_DEPTH w) f (subst (λ (b : Bool). Walked b s c MAX_DEPTH w) e k)
@@ -47,17 +50,16 @@ walk-requires c = let named = sym c.has_names.ensures ∙ not-false _ (ap not c.
 pub returns-in-End : goal.returns-in-End
 returns-in-End c = let named = sym c.has_names.ensures ∙ not-false _ (ap not c.if-not-has_names.false) in
     walked c.args.s.now _ c.if-s-gt-MAX_BYTES.false named
-    (from c.is_marked-marked.ensures c.start.ensures c.walk.ensures)
-    c.in-End.is refl
+    (from c.is_marked.ensures c.start.ensures c.in_ok-rows.ensures) (ap Ok c.in-End.is) refl
 
 pub returns-in-Close : goal.returns-in-Close
 returns-in-Close c = let named = sym c.has_names.ensures ∙ not-false _ (ap not c.if-not-has_names.false) in
     walked c.args.s.now _ c.if-s-gt-MAX_BYTES.false named
-    (from c.is_marked-marked.ensures c.start.ensures c.walk.ensures)
-    c.in-Close.is refl
+    (from c.is_marked.ensures c.start.ensures c.in_ok-rows.ensures) (ap Ok c.in-Close.is) refl
 
-pub returns-in-Refused : goal.returns-in-Refused
-returns-in-Refused c = let named = sym c.has_names.ensures ∙ not-false _ (ap not c.if-not-has_names.false) in
-    walked c.args.s.now _ c.if-s-gt-MAX_BYTES.false named
-    (from c.is_marked-marked.ensures c.start.ensures c.walk.ensures)
-    c.in-Refused.is refl
+pub returns-in_err-rows : goal.returns-in_err-rows
+returns-in_err-rows c =
+    let named = sym c.has_names.ensures ∙ not-false _ (ap not c.if-not-has_names.false) in
+    let p = err_from_is_err_and c.from_residual.result c.from_residual.ensures.1 in
+    rw (p.1, p.2) (walked c.args.s.now _ c.if-s-gt-MAX_BYTES.false named
+    (from c.is_marked.ensures c.start.ensures c.in_err-rows.ensures) refl refl)

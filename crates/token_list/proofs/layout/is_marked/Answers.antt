@@ -1,7 +1,8 @@
-use mathlib.Core.Path.{sym}
-use native.Mathlib.Omega.{arith}
+use mathlib.Core.Path.{sym, ◌∙◌}
+use borrow.Author.Tests.{le-ltb}
 use Rattle.token_list.proofs.Columns.{marked-short}
 use Rattle.token_list.proofs.layout.is_marked.Goals as goal
 
-pub returns-then-s-le-NAMES_DIFFER : goal.returns-then-s-le-NAMES_DIFFER
-returns-then-s-le-NAMES_DIFFER c = sym (marked-short c.args.s.now (omega arith))
+pub returns-else-s-gt-NAMES_DIFFER : goal.returns-else-s-gt-NAMES_DIFFER
+returns-else-s-gt-NAMES_DIFFER c =
+    le-ltb _ _ c.if-s-gt-NAMES_DIFFER.false ∙ sym (marked-short c.args.s.now c.if-s-gt-NAMES_DIFFER.false)

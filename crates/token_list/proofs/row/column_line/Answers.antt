@@ -1,39 +1,34 @@
-use mathlib.Core.Path.{◌≡◌, sym, ◌∙◌, ap}
+use Rattle.std.specs.Prelude.{Option, None, IfSome}
+use Rattle.std.proofs.lemmas.Option.{IfSome_then}
+use mathlib.Core.Path.{◌≡◌, refl, sym, ◌∙◌, ap}
+use mathlib.Core.List.{List, [], ◌∷◌}
+use mathlib.Core.Bool.{true}
 use Prim.Native.Nat.{ℕ, ◌+◌}
 use native.Mathlib.Omega.{arith}
 use lib.ListN.{get_or}
-use Rattle.token_list.specs.Check.{is_row}
-use Rattle.token_list.specs.Contract.{shape}
-use Rattle.token_list.specs.declared.row.Shape.{Shape}
-use Rattle.token_list.proofs.Forms.{no_wrong, one_byte_parts, quick_byte, behind_space}
+use Rattle.token_list.specs.Row.{form_of}
+use Rattle.token_list.specs.Contract.{line_form, one_byte_lem, ColumnShaped}
+use Rattle.token_list.specs.declared.row.Line.{Line}
+use Rattle.token_list.proofs.Forms.{one_byte_parts, quick_byte, behind_space}
 use Rattle.token_list.proofs.row.column_line.Goals as goal
 
-same_row : {x y : Shape} → x ≡ y → is_row (shape x) ≡ is_row (shape y)
-same_row e = ap (λ (x : Shape). is_row (shape x)) e
-
-pub bounds-s-start : goal.bounds-s-start
-bounds-s-start c = let one = sym c.one_byte.ensures ∙ c.if-one_byte.true in
-    omega (arith, (one_byte_parts c.args.s.now c.args.column one).within)
+-- the row of a text of one byte
+byte_line : (k : ℕ) (s : List ℕ) (i : ℕ) (r : Option Line) → one_byte_lem s i ≡ true → IfSome r (λ x. x.next ≡ i + 4)
+    → line_form r ≡ form_of k (get_or s (i + 2) 0 ∷ []) → ColumnShaped k s i r
+byte_line k s i r one n f =
+    let p = one_byte_parts s i one in
+    let last : i + 2 + 1 ≡ i + 3 = omega arith in
+    let lf = ap (λ (n : ℕ). get_or s n 0) last ∙ p.lf in
+    behind_space k s i r (omega (arith, p.within)) p.space
+    (quick_byte k s (i + 2) r (omega (arith, p.within)) lf (IfSome_then r n (λ x q. omega (arith, q))) f)
 
 pub returns-then-one_byte : goal.returns-then-one_byte
-returns-then-one_byte c = let one = sym c.one_byte.ensures ∙ c.if-one_byte.true in
-    let p = one_byte_parts c.args.s.now c.args.column one in
-    let last : c.args.column + 2 + 1 ≡ c.args.column + 3 = omega arith in
-    let next : c.args.column + 4 ≡ c.args.column + 2 + 2 = omega arith in
-    let lf = ap (λ (n : ℕ). get_or c.args.s.now n 0) last ∙ p.lf in
-    behind_space c.args.kind c.args.s.now c.args.column _ (omega (arith, p.within)) p.space
-    (quick_byte c.args.kind c.args.s.now (c.args.column + 2) _ (omega (arith, p.within)) lf next
-    c.byte_shape-shape.ensures)
+returns-then-one_byte c =
+    byte_line c.args.kind c.args.s.now c.args.column _ (sym c.one_byte.ensures ∙ c.if-one_byte.true) refl
+    c.in_ok-byte_shape.ensures
 
-pub long_line-requires : goal.long_line-requires
-long_line-requires c =
-    record { column_in_bounds = c.requires; column_value = sym c.one_byte.ensures ∙ c.if-one_byte.false }
-
-pub returns-in-Plain : goal.returns-in-Plain
-returns-in-Plain c = c.quick_token-quick.ensures (λ e. no_wrong e (same_row c.in-Plain.is))
-
-pub returns-in-Opens : goal.returns-in-Opens
-returns-in-Opens c = c.quick_token-quick.ensures (λ e. no_wrong e (same_row c.in-Opens.is))
-
-pub returns-in-Closed : goal.returns-in-Closed
-returns-in-Closed c = c.quick_token-quick.ensures (λ e. no_wrong e (same_row c.in-Closed.is))
+pub returns-in_err-byte_shape : goal.returns-in_err-byte_shape
+returns-in_err-byte_shape c =
+    rw c.from_residual.ensures
+    (byte_line c.args.kind c.args.s.now c.args.column None (sym c.one_byte.ensures ∙ c.if-one_byte.true) tt
+    c.in_err-byte_shape.ensures)

@@ -19,9 +19,8 @@ loop-i-preserved c = scan_more c.args.s.now c.args.from c.loop-i.i (omega arith)
 
 pub returns : goal.returns
 returns c = record {
-  start = c.loop-i.invariant.start;
+  start = omega arith;
   found = λ h. absurd (omega arith);
-  none = λ h. scan_none c.args.s.now
-      c.args.from c.loop-i.i h c.loop-i.invariant;
+  none = λ h. scan_none c.args.s.now c.args.from c.loop-i.i c.loop-i-test.false c.loop-i.invariant;
   lf = λ h. absurd (omega arith);
 }

@@ -1,27 +1,20 @@
--- `compare` meets its contract: the pairs looked at, from the last on, are equal.
-use mathlib.Core.Path.{sym, ◌∙◌}
-use Prim.Native.Nat.{◌-◌}
 use native.Mathlib.Omega.{arith}
-use lib.ListN.{length, drop_of_length-le}
-use Rattle.token_list.proofs.Pairs.{compared_lengths, compared_equal, equal_from, compared_unequal}
+use mathlib.Core.Path.{sym, ◌∙◌}
+use Rattle.token_list.proofs.Pairs.{compared_lengths, equal_few, compared_unequal, compared_equal}
 use Rattle.token_list.proofs.text.compare.Goals as goal
 
-pub returns-then-len-b : goal.returns-then-len-b
-returns-then-len-b c = compared_lengths c.args.a.now c.args.b.now c.if-len-b.true
+pub returns-then-a-b : goal.returns-then-a-b
+returns-then-a-b c = compared_lengths c.args.a.now c.args.b.now c.if-a-b.true
 
-pub loop-pairs-init : goal.loop-pairs-init
-loop-pairs-init c = let none = drop_of_length-le c.args.a.now {i = length c.args.a.now - 0} (omega arith) in
-    (omega arith, none ∙ sym (drop_of_length-le c.args.b.now {i = length c.args.a.now - 0} (omega arith)))
+pub overflow_add-result : goal.overflow_add-result
+overflow_add-result c =
+    let few = equal_few c.args.a.now c.args.b.now c.if-a-b.false c.in-Some.equal
+    (sym c.in-Some.is ∙ c.equal_pairs.ensures) in
+    omega (arith, few, c.type_inv)
 
-pub returns-then-a-i : goal.returns-then-a-i
-returns-then-a-i c =
-    let next = compared_unequal c.args.a.now c.args.b.now (omega arith) c.loop-pairs.pairs (omega arith) in
-    next c.loop-pairs.invariant.1 c.if-a-i.true
+pub returns-in-Some : goal.returns-in-Some
+returns-in-Some c =
+    compared_unequal c.args.a.now c.args.b.now c.if-a-b.false c.in-Some.equal (sym c.in-Some.is ∙ c.equal_pairs.ensures)
 
-pub loop-pairs-preserved : goal.loop-pairs-preserved
-loop-pairs-preserved c =
-    let next = equal_from c.args.a.now c.args.b.now (omega arith) c.loop-pairs.pairs (omega arith) in
-    (omega arith, next c.loop-pairs.invariant.1 c.if-a-i.false)
-
-pub returns : goal.returns
-returns c = compared_equal c.args.a.now c.args.b.now c.loop-pairs.pairs (omega arith) c.loop-pairs.invariant.1
+pub returns-in-None : goal.returns-in-None
+returns-in-None c = compared_equal c.args.a.now c.args.b.now c.if-a-b.false (sym c.in-None.is ∙ c.equal_pairs.ensures)

@@ -1,3 +1,8 @@
+use Prim.Native.Nat.{ℕ, ◌≤◌}
+use mathlib.Core.Path.{◌≡◌}
+use lib.ListN.{length, drop}
+use lib.Seq.{slice, take_all}
+use Rattle.token_list.specs.Text.{all}
 use mathlib.Core.Path.{ap}
 use mathlib.Core.Bool.{not}
 use Rattle.token_list.proofs.Texts.{all_none, all_more}
@@ -30,10 +35,14 @@ loop-i-preserved c = let fits = sym c.in_text.ensures ∙ not-false _ (ap not c.
 )
 
 pub returns : goal.returns
-returns c = record {
-  start = c.loop-i.invariant.0.start;
-  fits =
-      c.loop-i.invariant.1;
-  stops = λ h. absurd (omega arith);
-  line = λ h. absurd (omega arith);
-}
+returns c =
+    let s = c.args.s.now in
+    let whole : (e : ℕ) → length s ≤ e → slice c.args.from e s ≡ drop c.args.from s =
+    λ e h. ap (drop c.args.from) (take_all e s h) in
+    let same = whole c.max.result (omega arith) ∙ sym (whole c.loop-i.i (omega arith)) in
+    record {
+      start = omega arith;
+      fits = ap (all (in_text c.args.names)) same ∙ c.loop-i.invariant.1;
+      stops = λ h. absurd (omega arith);
+      line = λ h. absurd (omega arith);
+    }

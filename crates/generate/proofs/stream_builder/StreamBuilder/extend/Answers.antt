@@ -1,9 +1,17 @@
-use mathlib.Core.Path.{sym, ◌∙◌}
-use Rattle.generate.proofs.Copying.{as_part}
+use mathlib.Core.Path.{refl, sym, ◌∙◌}
+use native.Mathlib.Omega.{arith}
+use Rattle.generate.proofs.Copying.{as_part, sent_length}
+use Rattle.generate.proofs.stream_builder.StreamBuilder.extend.Goals.{then-self, else-self}
 use Rattle.generate.proofs.stream_builder.StreamBuilder.extend.Goals as goal
 
-pub returns : goal.returns
-returns c =
-    as_part c.args.from c.args.to c.args.s.now c.requires c.if-self.false (sym c.is_marked.ensures
-    ∙ c.if-is_marked.false)
-    c.counted-rows.ensures c.put_bytes-bytes.ensures
+pub returns-else-is_marked : goal.returns-else-is_marked
+returns-else-is_marked c = elim c.if-self.branch [
+  | then-self w ↦ grind arith
+  | else-self w ↦ record {
+    same_output = refl;
+    marked = refl;
+    rows = omega (arith, c.counted-self.ensures, sent_length c.requires);
+    put = as_part c.requires w.if-self.false (sym w.is_marked.ensures ∙ sym w.value-is ∙ c.if-is_marked.false)
+        c.put_bytes-self.ensures;
+  }
+]

@@ -2,4 +2,4 @@ use Rattle.generate.proofs.Builds.{then}
 use Rattle.generate.proofs.stream_builder.StreamBuilder.lifetime_str.Goals as goal
 
 pub returns : goal.returns
-returns c = then c.punct-quoted.ensures c.ident_str.ensures
+returns c = then c.punct.ensures c.ident_str.ensures

@@ -1,9 +1,0 @@
--- `of_list` meets its contract: each variant has its own.
-use mathlib.Core.Path.{refl}
-use Rattle.from_source.proofs.listing.of_list.Goals as goal
-
-pub returns-in-Text : goal.returns-in-Text
-returns-in-Text c = rw c.in-Text.is refl
-
-pub returns-in-Refused : goal.returns-in-Refused
-returns-in-Refused c = rw c.in-Refused.is refl

@@ -1,5 +1,0 @@
-use Rattle.source.proofs.Measures.{all_zero}
-use Rattle.source.proofs.tokens.cells.Goals as goal
-
-pub returns : goal.returns
-returns c = λ k. all_zero 16384 k
