@@ -29,7 +29,10 @@ use Rattle.token_list.proofs.Texts.{or_holds, chosen, passed_over}
 use Rattle.output.specs.Contract.{Put}
 use Rattle.output.specs.Answer as outputs
 use Rattle.output.specs.Written.{WrittenAs}
-use Rattle.output.proofs.Texts.{kept, shown, joined}
+use Rattle.output.specs.Writes.{Writes}
+use Rattle.output.specs.declared.writer.Writer.{Writer}
+use Rattle.output.proofs.Texts.{kept, shown}
+use Rattle.output.proofs.Writers.{then}
 use Rattle.output.proofs.Answers.{fitted_refused, written_refused, written_as, fits_not, fits}
 use Rattle.reading.specs.Declaration as declaration
 use Rattle.reading.specs.Token.{MAX_I64, worth}
@@ -187,12 +190,12 @@ module _ {s : List ℕ} {place : Fault → ℕ → ℕ} where
   fault_rows (lacks h b) = b
 
 -- the body's lines after the others
-pub listing-lines : {k l m o : List ℕ} {i j e : ℕ} (x : declaration.Declaration) (zs : List ℤ) →
-    Put k l 0 i (listing.item_lines x) →
-    Put l m i j (listing.numbered listing.parameter_line 0 (declaration.parameters_of x.generics))
-    → Put m o j e (listing.body_lines zs x.body) → Put k o 0 e (listing.listing zs x)
+pub listing-lines : {a b c d : Writer} (x : declaration.Declaration) (zs : List ℤ) →
+    Writes a b (listing.item_lines x) →
+    Writes b c (listing.numbered listing.parameter_line 0 (declaration.parameters_of x.generics))
+    → Writes c d (listing.body_lines zs x.body) → Writes a d (listing.listing zs x)
 unfolding listing.listing
-listing-lines x zs p q t = joined p (joined q t)
+listing-lines x zs p q t = then p (then q t)
 
 -- a declaration d that begins at p, with its body at c, and its faults
 module _ {s : List ℕ} {c : Cursor} (p : Point) (d : declaration.Declaration) (body : CursorAt s (body_at p) c)

@@ -12,8 +12,9 @@ use Rattle.token_list.proofs.Texts.{drop_of_take, slice-none}
 use Rattle.token_list.specs.Byte.{LF, QUOTE, SPACE}
 use Rattle.token_list.specs.Contract.{InList}
 use Rattle.token_list.specs.declared.check.Cursor.{Cursor}
-use Rattle.output.specs.Contract.{FAR, Put}
-use Rattle.output.proofs.Texts.{nothing, joined, put_as}
+use Rattle.output.specs.Writes.{Writes}
+use Rattle.output.specs.declared.writer.Writer.{Writer}
+use Rattle.output.proofs.Writers.{then, unwritten, writes_as}
 use Rattle.reading.specs.Declaration.{Parameter, lifetime, constant, type, UnnamedField, Field}
 use Rattle.reading.specs.Took.{Reader}
 use Rattle.reading.specs.Reading as reading
@@ -42,10 +43,10 @@ between s a e {m} h = sym (drop_of_take m e s) ∙ go (leb a e) refl
         slice-none s m e (omega arith) ∙ sym (slice-none s a e (omega arith))
 
 -- a part and a name, and the rest of the line
-pub put_line : {k l m : List ℕ} {h i j : ℕ} (part name number : List ℕ) → Put k l h i (part ++ name) →
-    Put l m i j (SPACE ∷ (number ++ LF ∷ [])) → Put k m h j (line part name number)
+pub put_line : {v w x : Writer} (part name number : List ℕ) → Writes v w (part ++ name) →
+    Writes w x (SPACE ∷ (number ++ LF ∷ [])) → Writes v x (line part name number)
 unfolding line
-put_line part name number p q = put_as (sym (append_assoc part name (SPACE ∷ (number ++ LF ∷ [])))) (joined p q)
+put_line part name number p q = writes_as (sym (append_assoc part name (SPACE ∷ (number ++ LF ∷ [])))) (then p q)
 
 pub numbered_more : {A : Type 0} (f : ℕ → A → List ℕ) (k : ℕ) (ys : List A) (a : A) →
     numbered f k (ys ++ a ∷ []) ≡ numbered f k ys ++ f (k + length ys) a
@@ -101,64 +102,61 @@ parameters angle =
     }
 
 -- the first things of xs have their lines, and the others are read at c
-pub record Written {T A : Type 0} (q : Series T A) (s : List ℕ) (c : Cursor) (before now : List ℕ) (start at count : ℕ)
+pub record Written {T A : Type 0} (q : Series T A) (s : List ℕ) (c : Cursor) (before now : Writer) (count : ℕ)
     (xs : List A) : Type 0 where
   pub first : List A
   pub others : List A
   pub split : xs ≡ first ++ others
   pub counted : length first ≡ count
   pub inside : InsideAt (every q.reader) s c others
-  pub text : Put before now start at (numbered q.lines 0 first)
+  pub text : Writes before now (numbered q.lines 0 first)
 
--- from one turn to the next: so many things have their lines, and the lent slices their lengths
-pub record Lined {T A : Type 0} (q : Series T A) (s : List ℕ) (from c : Cursor) (roles₀ roles out₀ out : List ℕ)
-    (start at count : ℕ) : Type 0 where
+-- from one turn to the next: so many things have their lines, and the lent roles their length
+pub record Lined {T A : Type 0} (q : Series T A) (s : List ℕ) (from c : Cursor) (roles₀ roles : List ℕ)
+    (before now : Writer) (count : ℕ) : Type 0 where
   pub in_list : InList s c
   pub few : count ≤ c.at
   pub roles_kept : length roles ≡ length roles₀
-  pub out_kept : length out ≡ length out₀
-  pub written : (xs : List A) → InsideAt (every q.reader) s from xs → Written q s c out₀ out start at count xs
+  pub written : (xs : List A) → InsideAt (every q.reader) s from xs → Written q s c before now count xs
 
-module _ {T A : Type 0} (q : Series T A) {s : List ℕ} {from : Cursor} {r0 b0 : List ℕ} {start : ℕ} where
-  pub lined_start : InList s from → length b0 < FAR → Lined q s from from r0 r0 b0 b0 start start 0
-  lined_start i h =
+module _ {T A : Type 0} (q : Series T A) {s : List ℕ} {from : Cursor} {r0 : List ℕ} {v : Writer} where
+  pub lined_start : InList s from → Lined q s from from r0 r0 v v 0
+  lined_start i =
       record {
         in_list = i;
         few = omega arith;
         roles_kept = refl;
-        out_kept = refl;
         written = λ xs k. record {
           first = [];
           others = xs;
           split = refl;
           counted = refl;
           inside = k;
-          text = nothing b0 start h;
+          text = unwritten;
         };
       }
 
-  module _ {c : Cursor} {r1 b1 : List ℕ} {at count : ℕ} (l : Lined q s from c r0 r1 b0 b1 start at count) where
+  module _ {c : Cursor} {r1 : List ℕ} {w : Writer} {count : ℕ} (l : Lined q s from c r0 r1 v w count) where
     -- one thing more was read
     module _ {r2 : List ℕ} {d : Cursor} {sh : Maybe A → Type 0} {told : A → Type 0}
-        (w : Meets s c r1 r2 sh (on d) (q.reader c.row (stream s c)))
+        (m : Meets s c r1 r2 sh (on d) (q.reader c.row (stream s c)))
         (g : (v : Maybe A) → sh v → (a : A) × (v ≡ one a) × told a) where
       pub lined-less : length s - d.at < length s - c.at
       lined-less =
-          let n = forward q.reader q.round w g in
+          let n = forward q.reader q.round m g in
           omega (arith, n.0, n.1.within)
 
-      pub lined-more : {r3 b2 : List ℕ} {at2 : ℕ} → ((a : A) → told a → Put b1 b2 at at2 (q.lines count a)) →
-          length r3 ≡ length r1 → length b2 ≡ length b1 → Lined q s from d r0 r3 b0 b2 start at2 (count + 1)
-      lined-more p e f =
-          let n = forward q.reader q.round w g in
+      pub lined-more : {r3 : List ℕ} {x : Writer} → ((a : A) → told a → Writes w x (q.lines count a)) →
+          length r3 ≡ length r1 → Lined q s from d r0 r3 v x (count + 1)
+      lined-more p e =
+          let n = forward q.reader q.round m g in
           record {
             in_list = n.1;
             few = omega (arith, n.0, l.few);
             roles_kept = e ∙ l.roles_kept;
-            out_kept = f ∙ l.out_kept;
             written = λ xs k.
                 let t = l.written xs k in
-                let o = inside-more q.reader q.round t.inside w g in
+                let o = inside-more q.reader q.round t.inside m g in
                 record {
                   first = t.first ++ o.first ∷ [];
                   others = o.others;
@@ -167,9 +165,9 @@ module _ {T A : Type 0} (q : Series T A) {s : List ℕ} {from : Cursor} {r0 b0 :
                   counted = omega (arith, t.counted, length-append t.first (o.first ∷ []));
                   inside = o.inside;
                   text =
-                      put_as (numbered_more q.lines 0 t.first o.first ∙
+                      writes_as (numbered_more q.lines 0 t.first o.first ∙
                       ap (λ (n : ℕ). numbered q.lines 0 t.first ++ q.lines n o.first) (place t.counted))
-                      (joined t.text (p o.first o.shown));
+                      (then t.text (p o.first o.shown));
                 };
           }
         where
@@ -178,27 +176,27 @@ module _ {T A : Type 0} (q : Series T A) {s : List ℕ} {from : Cursor} {r0 b0 :
 
     pub lined_done : {r2 : List ℕ} {d : Cursor} {sh : Maybe A → Type 0} →
         Meets s c r1 r2 sh (on d) (q.reader c.row (stream s c)) → ((v : Maybe A) → sh v → v ≡ done)
-        → (xs : List A) → InsideAt (every q.reader) s from xs → Put b0 b1 start at (numbered q.lines 0 xs)
-    lined_done w g xs k =
+        → (xs : List A) → InsideAt (every q.reader) s from xs → Writes v w (numbered q.lines 0 xs)
+    lined_done m g xs k =
         let t = l.written xs k in
-        let last = ap (λ (ys : List A). t.first ++ ys) (inside_done q.reader q.round t.inside w g) in
-        put_as (ap (numbered q.lines 0) (t.split ∙ last ∙ append-nil t.first)) t.text
+        let last = ap (λ (ys : List A). t.first ++ ys) (inside_done q.reader q.round t.inside m g) in
+        writes_as (ap (numbered q.lines 0) (t.split ∙ last ∙ append-nil t.first)) t.text
 
     pub lined_refused : {B : Type 0} {r2 : List ℕ} {sh : Maybe A → Type 0} {n p : ℕ} →
         Meets s c r1 r2 sh (no n p) (q.reader c.row (stream s c))
         → (xs : List A) → InsideAt (every q.reader) s from xs → B
-    lined_refused w xs k = inside_refused q.reader q.round (l.written xs k).inside w
+    lined_refused m xs k = inside_refused q.reader q.round (l.written xs k).inside m
 
     -- no thing more was read
     pub lined_end : {r2 : List ℕ} (x : Turn T) →
         Meets s c r1 r2 (q.shown s c x) (q.said x) (q.reader c.row (stream s c)) → NotOne x
-        → (xs : List A) → InsideAt (every q.reader) s from xs → Put b0 b1 start at (numbered q.lines 0 xs)
-    lined_end {r2} x w h xs k = ended (q.said x) w
+        → (xs : List A) → InsideAt (every q.reader) s from xs → Writes v w (numbered q.lines 0 xs)
+    lined_end {r2} x m h xs k = ended (q.said x) m
       where
         ended : (y : Said) → Meets s c r1 r2 (q.shown s c x) y (q.reader c.row (stream s c)) →
-            Put b0 b1 start at (numbered q.lines 0 xs)
-        ended (on d) w = lined_done w (q.end s c x h) xs k
-        ended (no n p) w = lined_refused w xs k
+            Writes v w (numbered q.lines 0 xs)
+        ended (on d) m = lined_done m (q.end s c x h) xs k
+        ended (no n p) m = lined_refused m xs k
 
 -- ## Parameters
 

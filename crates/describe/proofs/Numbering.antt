@@ -23,8 +23,9 @@ use Rattle.token_list.specs.declared.check.Refusal.{Refusal}
 use Rattle.token_list.specs.declared.stream.Token.{Token}
 use Rattle.token_list.proofs.Texts.{chosen, passed_over}
 use Rattle.output.specs.Text.{decimal}
-use Rattle.output.specs.Contract.{FAR, Put}
-use Rattle.output.proofs.Texts.{nothing, joined, put_as}
+use Rattle.output.specs.Writes.{Writes}
+use Rattle.output.specs.declared.writer.Writer.{Writer}
+use Rattle.output.proofs.Writers.{then, unwritten, writes_as}
 use Rattle.reading.specs.Token.{MAX_I64, worth}
 use Rattle.reading.specs.Declaration.{Value, Variant}
 use Rattle.reading.specs.Took.{Point, beyond}
@@ -324,21 +325,19 @@ counted_start {vs = vs} k =
 -- ## The lines of variants
 
 -- those that are counted have their lines
-pub record Written (s : List ℕ) (from c : Cursor) (before now : List ℕ) (start at : ℕ) (z : ℤ) (vs : List Variant)
-    : Type 0 where
+pub record Written (s : List ℕ) (from c : Cursor) (before now : Writer) (z : ℤ) (vs : List Variant) : Type 0 where
   pub first : List Variant
   pub zs : List ℤ
   pub counted : Counted s from c z vs first zs
-  pub text : Put before now start at (numbered (variant_lines zs) 0 first)
+  pub text : Writes before now (numbered (variant_lines zs) 0 first)
 
--- from one turn to the next: the lent slices have their lengths
-pub record Numbering (s : List ℕ) (from c : Cursor) (roles₀ roles out₀ out : List ℕ) (start at : ℕ) (z : ℤ)
+-- from one turn to the next: the lent roles have their length
+pub record Numbering (s : List ℕ) (from c : Cursor) (roles₀ roles : List ℕ) (before now : Writer) (z : ℤ)
     : Type 0 where
   pub in_list : InList s c
   pub roles_kept : length roles ≡ length roles₀
-  pub out_kept : length out ≡ length out₀
   pub written : (vs : List Variant) → InsideAt (every reading.variant) s from vs →
-      Written s from c out₀ out start at z vs
+      Written s from c before now z vs
 
 pub numbers_same : {xs ys : List ℤ} → numbers xs ≡ numbers ys → xs ≡ ys
 numbers_same e = cc
@@ -363,38 +362,36 @@ distinct_numbers names ns {zs} =
     distinct_is (λ (x : Numbers). x ≡ numbers zs → ns ≡ numbers zs) (λ f k e. numbers_not_lacking (sym e)) names ns
     (λ e. e)
 
-module _ {s : List ℕ} {from : Cursor} {r0 b0 : List ℕ} {start : ℕ} where
-  pub numbering_start : InList s from → length b0 < FAR → Numbering s from from r0 r0 b0 b0 start start BEFORE_FIRST
-  numbering_start i h =
+module _ {s : List ℕ} {from : Cursor} {r0 : List ℕ} {b : Writer} where
+  pub numbering_start : InList s from → Numbering s from from r0 r0 b b BEFORE_FIRST
+  numbering_start i =
       record {
         in_list = i;
         roles_kept = refl;
-        out_kept = refl;
-        written = λ vs k. record { first = []; zs = []; counted = counted_start k; text = nothing b0 start h };
+        written = λ vs k. record { first = []; zs = []; counted = counted_start k; text = unwritten };
       }
 
-  module _ {c : Cursor} {r1 b1 : List ℕ} {at : ℕ} {z : ℤ} (l : Numbering s from c r0 r1 b0 b1 start at z) where
+  module _ {c : Cursor} {r1 : List ℕ} {n : Writer} {z : ℤ} (l : Numbering s from c r0 r1 b n z) where
     abbrev Lines : List Variant → Type 0
     Lines vs = (zs : List ℤ) → numbers_from BEFORE_FIRST 0 vs ≡ numbers zs →
-        Put b0 b1 start at (numbered (variant_lines zs) 0 vs)
+        Writes b n (numbered (variant_lines zs) 0 vs)
 
     module _ (p : VariantAt) {r2 : List ℕ} (w : Meets s c r1 r2 (variant_shown s c (Ok (One p))) (on p.next)
         (reading.variant c.row (stream s c))) where
       -- one variant more has its line
-      pub numbering-more : {r3 b2 : List ℕ} {at2 : ℕ} (y : ℤ) →
+      pub numbering-more : {r3 : List ℕ} {x : Writer} (y : ℤ) →
           ((a : Variant) → VariantOf s p a → VariantPlaces s c p a → number_after z a.value ≡ number y) →
-          ((a : Variant) → VariantOf s p a → Put b1 b2 at at2 (variant_line y a ++ field_lines a.fields)) →
-          length r3 ≡ length r1 → length b2 ≡ length b1 → Numbering s from p.next r0 r3 b0 b2 start at2 y
-      numbering-more {r3} {b2} {at2} y q text e f =
+          ((a : Variant) → VariantOf s p a → Writes n x (variant_line y a ++ field_lines a.fields)) →
+          length r3 ≡ length r1 → Numbering s from p.next r0 r3 b x y
+      numbering-more {x = x} y q text e =
           record {
             in_list = variant_in p w;
             roles_kept = e ∙ l.roles_kept;
-            out_kept = f ∙ l.out_kept;
             written = more;
           }
         where
           more : (vs : List Variant) → InsideAt (every reading.variant) s from vs →
-              Written s from p.next b0 b2 start at2 y vs
+              Written s from p.next b x y vs
           more vs k =
               let t = l.written vs k in
               let o = variant_one p w t.counted in
@@ -403,8 +400,8 @@ module _ {s : List ℕ} {from : Cursor} {r0 b0 : List ℕ} {start : ℕ} where
                 first = t.first ++ v ∷ [];
                 zs = t.zs ++ y ∷ [];
                 counted = counted-more p w t.counted y (q v o.shown.0 o.shown.1);
-                text = put_as (lines_more t.zs t.first y v t.counted.even)
-                    (joined t.text (text v o.shown.0));
+                text = writes_as (lines_more t.zs t.first y v t.counted.even)
+                    (then t.text (text v o.shown.0));
               }
 
       -- the variant has no number, though every one has
@@ -425,7 +422,7 @@ module _ {s : List ℕ} {from : Cursor} {r0 b0 : List ℕ} {start : ℕ} where
         let t = l.written vs k in
         let all = counted_done t.counted w g in
         let same : zs ≡ t.zs = numbers_same (sym h ∙ all.0) in
-        put_as (λ i. numbered (variant_lines (same i)) 0 (all.1 i)) t.text
+        writes_as (λ i. numbered (variant_lines (same i)) 0 (all.1 i)) t.text
 
     pub numbering_refused : {B : Type 0} {r2 : List ℕ} {sh : Maybe Variant → Type 0} {n p : ℕ} →
         Meets s c r1 r2 sh (no n p) (reading.variant c.row (stream s c))

@@ -6,6 +6,7 @@ ghost use Rattle.token_list.specs.Stream.{at, size};
 ghost use Rattle.token_list.specs.Place.{OneRefusal};
 ghost use Rattle.token_list.specs.Contract.{InList, start_of};
 ghost use Rattle.output.specs.Contract.{Put};
+ghost use Rattle.output.specs.Writes.{Writes};
 ghost use Rattle.output.specs.Answer.{refused, fitted};
 ghost use Rattle.output.specs.Written.{WrittenAs};
 ghost use Rattle.reading.specs.Declaration.{Parameter, Generics, parameters_of, UnnamedField, Field, Fields, Variant};
@@ -23,6 +24,7 @@ ghost use Rattle.describe.specs.Contract.{MANY, StructAt, FaultsIn, ItemFaultsIn
 use crate::faults::body_faults;
 use crate::lines::{put_item, put_named, put_parameter, put_unnamed, put_variant};
 use crate::numbers::number_after;
+use output::writer::Writer;
 use output::written::put_answer;
 use parse::data_type::DataType;
 use parse::fields::{named_field, tuple_field};
@@ -38,155 +40,133 @@ use token_list::stream::{Peeked, peek, punct_at};
 // Each kind has a loop of its own, since a trait with its laws and an impl for each kind is longer than the four loops.
 
 // The lines of the named fields that are read from `from` on.
-fn named_lines(s: &[u8], from: Cursor, roles: &mut [u8], out: &mut [u8], start: usize) -> usize
+fn named_lines(w: &mut Writer, s: &[u8], from: Cursor, roles: &mut [u8])
     requires { InList s.now from }
     ensures { (fs : List Field) → InsideAt (every named_field) s.now from fs →
-        Put out.old out.new start result (numbered named_line 0 fs) }
+        Writes w.old w.new (numbered named_line 0 fs) }
 {
     let mut c = from;
-    let mut at = start;
     let mut count = 0;
     while let Ok(Next::One((name, next))) = named_field(s, c, roles) {
-        at = put_named(s, name, out, at, count);
+        put_named(w, s, name, count);
         c = next;
         count += 1;
     }
-    at
 }
 
 // The lines of the fields without names that are read from `from` on.
-fn tuple_lines(s: &[u8], from: Cursor, roles: &mut [u8], out: &mut [u8], start: usize) -> usize
+fn tuple_lines(w: &mut Writer, s: &[u8], from: Cursor, roles: &mut [u8])
     requires { InList s.now from }
     ensures { (fs : List UnnamedField) → InsideAt (every tuple_field) s.now from fs →
-        Put out.old out.new start result (numbered tuple_line 0 fs) }
+        Writes w.old w.new (numbered tuple_line 0 fs) }
 {
     let mut c = from;
-    let mut at = start;
     let mut count = 0;
     while let Ok(Next::One(next)) = tuple_field(s, c, roles) {
-        at = put_unnamed(out, at, count);
+        put_unnamed(w, count);
         c = next;
         count += 1;
     }
-    at
 }
 
-fn field_lines(s: &[u8], fields: FieldsAt, roles: &mut [u8], out: &mut [u8], at: usize) -> usize
+fn field_lines(w: &mut Writer, s: &[u8], fields: FieldsAt, roles: &mut [u8])
     requires { (f : Fields) × FieldsOf s.now fields f }
-    ensures { (f : Fields) → FieldsOf s.now fields f →
-        Put out.old out.new at result (field_lines f) }
+    ensures { (f : Fields) → FieldsOf s.now fields f → Writes w.old w.new (field_lines f) }
 {
     match fields {
-        FieldsAt::Unit => at,
-        FieldsAt::Named(c) => named_lines(s, c, roles, out, at),
-        FieldsAt::Tuple(c) => tuple_lines(s, c, roles, out, at),
+        FieldsAt::Unit => {}
+        FieldsAt::Named(c) => named_lines(w, s, c, roles),
+        FieldsAt::Tuple(c) => tuple_lines(w, s, c, roles),
     }
 }
 
 // The lines of the variants that are read from `from` on, each with its number and followed by its
 // fields, where every variant has a number.
-fn variant_lines(s: &[u8], from: Cursor, roles: &mut [u8], out: &mut [u8], start: usize) -> usize
+fn variant_lines(w: &mut Writer, s: &[u8], from: Cursor, roles: &mut [u8])
     requires { InList s.now from }
     ensures { (vs : List Variant) (zs : List ℤ) → InsideAt (every variant) s.now from vs →
         numbers_from BEFORE_FIRST 0 vs ≡ numbers zs →
-        Put out.old out.new start result (numbered (variant_lines zs) 0 vs) }
+        Writes w.old w.new (numbered (variant_lines zs) 0 vs) }
 {
     let mut c = from;
-    let mut at = start;
     let mut before = -1;
     while let Ok(Next::One(v)) = variant(s, c, roles) {
         let Ok(n) = number_after(s, before, v) else {
-            return at;
+            return;
         };
-        let line = put_variant(s, v, n, out, at);
-        at = field_lines(s, v.fields, roles, out, line);
+        put_variant(w, s, v, n);
+        field_lines(w, s, v.fields, roles);
         c = v.next;
         before = n;
     }
-    at
 }
 
 // The lines of the parameters that are read from `from` on; `angle` is the row of the `<`.
-fn parameter_lines(
-    s: &[u8],
-    from: Cursor,
-    roles: &mut [u8],
-    angle: usize,
-    out: &mut [u8],
-    start: usize,
-) -> usize
+fn parameter_lines(w: &mut Writer, s: &[u8], from: Cursor, roles: &mut [u8], angle: usize)
     requires { InList s.now from }
     ensures { (ps : List Parameter) → InsideAt (every (parameter angle)) s.now from ps →
-        Put out.old out.new start result (numbered parameter_line 0 ps) }
+        Writes w.old w.new (numbered parameter_line 0 ps) }
 {
     let mut c = from;
-    let mut at = start;
     while let Ok(Next::One(p)) = parameter(s, c, roles, angle) {
-        at = put_parameter(s, p, out, at);
+        put_parameter(w, s, p);
         c = p.next;
     }
-    at
 }
 
 // The lines of the generics that are read at c.
-fn generics_lines(s: &[u8], c: Cursor, roles: &mut [u8], out: &mut [u8], at: usize) -> usize
+fn generics_lines(w: &mut Writer, s: &[u8], c: Cursor, roles: &mut [u8])
     requires { InList s.now c }
     ensures { (g : Generics) → InsideAt generics s.now c g →
-        Put out.old out.new at result (numbered parameter_line 0 (parameters_of g)) }
+        Writes w.old w.new (numbered parameter_line 0 (parameters_of g)) }
 {
     if !stands_punct(s, c, b'<') {
-        return at;
+        return;
     }
     let t = punct_at(s, c, b'<');
     let inside = past(s, c, t);
-    parameter_lines(s, inside, roles, c.row, out, at)
+    parameter_lines(w, s, inside, roles, c.row);
 }
 
 // The lines of a struct's body, whose group's inside is at c.
-fn struct_lines(
-    s: &[u8],
-    c: Cursor,
-    delimiter: u8,
-    roles: &mut [u8],
-    out: &mut [u8],
-    at: usize,
-) -> usize
+fn struct_lines(w: &mut Writer, s: &[u8], c: Cursor, delimiter: u8, roles: &mut [u8])
     requires { InList s.now c }
-    ensures { (f : Fields) → StructAt s.now delimiter c f →
-        Put out.old out.new at result (field_lines f) }
+    ensures { (f : Fields) → StructAt s.now delimiter c f → Writes w.old w.new (field_lines f) }
 {
     if delimiter == b'{' {
-        named_lines(s, c, roles, out, at)
+        named_lines(w, s, c, roles);
     } else {
-        tuple_lines(s, c, roles, out, at)
+        tuple_lines(w, s, c, roles);
     }
 }
 
 // The lines of a declaration's body.
-fn body_lines(s: &[u8], d: ItemAt, roles: &mut [u8], out: &mut [u8], at: usize) -> usize
+fn body_lines(w: &mut Writer, s: &[u8], d: ItemAt, roles: &mut [u8])
     requires { InList s.now d.body }
     ensures { (b : Body) (zs : List ℤ) → InsideAt (body_of (kind_of d.kind)) s.now d.body b →
-        body_numbers b ≡ numbers zs → Put out.old out.new at result (body_lines zs b) }
+        body_numbers b ≡ numbers zs → Writes w.old w.new (body_lines zs b) }
 {
     let Peeked::Group(t) = peek(s, d.body) else {
-        return at;
+        return;
     };
     let inside = past(s, d.body, t);
     match d.kind {
-        DataType::Struct => struct_lines(s, inside, t.byte, roles, out, at),
-        DataType::Enum => variant_lines(s, inside, roles, out, at),
+        DataType::Struct => struct_lines(w, s, inside, t.byte, roles),
+        DataType::Enum => variant_lines(w, s, inside, roles),
     }
 }
 
-// The whole listing.
+// The whole listing: how long it is.
 fn put_listing(s: &[u8], d: ItemAt, roles: &mut [u8], out: &mut [u8]) -> usize
     requires { (x : Declaration) × ItemOf s.now d x }
     ensures { (x : Declaration) (zs : List ℤ) → ItemOf s.now d x →
         body_numbers x.body ≡ numbers zs → Put out.old out.new 0 result (listing zs x) }
 {
-    let item = put_item(s, d, out);
-    let parameters = generics_lines(s, d.name.next, roles, out, item);
-    body_lines(s, d, roles, out, parameters)
+    let mut w = Writer::new(out);
+    put_item(&mut w, s, d);
+    generics_lines(&mut w, s, d.name.next, roles);
+    body_lines(&mut w, s, d, roles);
+    w.at
 }
 
 // Measures the listing, and writes it where no variant is at fault and the output is long enough.

@@ -5,7 +5,7 @@ ghost use Rattle.token_list.specs.Layout.{first_row, MAX_BYTES};
 ghost use Rattle.token_list.specs.Stream.{at};
 ghost use Rattle.token_list.specs.Place.{OneRefusal};
 ghost use Rattle.token_list.specs.Contract.{InList, start_of};
-ghost use Rattle.output.specs.Contract.{Put};
+ghost use Rattle.output.specs.Writes.{Writes};
 ghost use Rattle.reading.specs.Token.{MAX_I64, negatable, worth};
 ghost use Rattle.reading.specs.Declaration.{Value, Variant, Body};
 ghost use Rattle.reading.specs.Took.{Point};
@@ -17,7 +17,7 @@ ghost use Rattle.describe.specs.Value.{SCRATCH_BYTES, negative_text, value_at, b
 ghost use Rattle.describe.specs.Value.{refused, answer};
 ghost use Rattle.describe.specs.Contract.{ValueAs, Placed, part_of};
 
-use output::put::{put_byte, put_number};
+use output::writer::Writer;
 use parse::data_type::DataType;
 use parse::item::{ItemAt, item};
 use parse::utils::{Next, past};
@@ -52,14 +52,15 @@ pub fn worth(s: &[u8], start: usize, end: usize) -> usize
 }
 
 // A negative number, written anew.
-pub fn put_negative(out: &mut [u8], at: usize, n: usize) -> usize
-    ensures { Put out.old out.new at result (negative_text n) }
+pub fn put_negative(w: &mut Writer, n: usize)
+    ensures { Writes w.old w.new (negative_text n) }
 {
     if n == 0 {
-        return put_byte(out, at, b'0');
+        w.byte(b'0');
+    } else {
+        w.byte(b'-');
+        w.number(n);
     }
-    let sign = put_byte(out, at, b'-');
-    put_number(out, sign, n)
 }
 
 // The value of the variant at this position of those that are read from `from` on.
@@ -110,7 +111,9 @@ fn put_value(s: &[u8], v: ValueAt, scratch: &mut [u8]) -> Option<ValuePlace>
         ValueAt::Literal(t, _) => Some(ValuePlace::InList(t.start, t.end)),
         ValueAt::Negative(t) => {
             let n = worth(s, t.start, t.end);
-            Some(ValuePlace::InScratch(put_negative(scratch, 0, n)))
+            let mut w = Writer::new(scratch);
+            put_negative(&mut w, n);
+            Some(ValuePlace::InScratch(w.at))
         }
     }
 }

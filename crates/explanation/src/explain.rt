@@ -2,22 +2,23 @@
 ghost use Rattle.std.specs.Prelude.{◌≡◌, ℕ, ◌≤◌, length};
 ghost use Rattle.token_list.specs.Place.{OneRefusal};
 ghost use Rattle.reading.specs.Answer.{refused, answer, buffer, read_number};
-ghost use Rattle.output.specs.Contract.{Put, Printed};
+ghost use Rattle.output.specs.Contract.{Printed};
+ghost use Rattle.output.specs.Writes.{Writes};
 ghost use Rattle.explanation.specs.Explanation.{names_line, explanation, MOST};
 
 use crate::rows::{put_near, put_roles};
 use crate::words::put_meaning;
-use output::put::{put_byte, put_bytes, put_names, put_refusal};
+use output::writer::Writer;
 use report::roles::read_roles;
 use token_list::check::Refusal;
 use token_list::layout::is_marked;
 
 // The columns of what is told, and the list's own.
-fn put_names_line(out: &mut [u8], marked: bool) -> usize
-    ensures { Put out.old out.new 0 result (names_line marked) }
+fn put_names_line(w: &mut Writer, marked: bool)
+    ensures { Writes w.old w.new (names_line marked) }
 {
-    let told = put_bytes(out, 0, b" row  role                         ");
-    put_names(out, told, marked)
+    w.bytes(b" row  role                         ");
+    w.names(marked);
 }
 
 // The refusal, what it means, and the rows near its place.
@@ -26,10 +27,12 @@ fn put_refused(out: &mut [u8], list: &[u8], refusal: Refusal) -> usize
         (explanation list.now (refused refusal.number refusal.place)) }
     ensures upper_bound { result ≤ MOST }
 {
-    let head = put_refusal(out, refusal);
-    let meaning = put_meaning(out, head, refusal.number);
-    let line = put_byte(out, meaning, b'\n');
-    put_near(out, line, list, refusal.place)
+    let mut w = Writer::new(out);
+    w.refusal(refusal);
+    put_meaning(&mut w, refusal.number);
+    w.byte(b'\n');
+    put_near(&mut w, list, refusal.place);
+    w.at
 }
 
 // Reads the list and writes its explanation at the start of out; answers its length, at most MOST.
@@ -45,8 +48,10 @@ pub fn report_explanation(list: &[u8], roles: &mut [u8], out: &mut [u8]) -> usiz
     match read_roles(list, roles) {
         Err(r) => put_refused(out, list, r),
         Ok(n) => {
-            let names = put_names_line(out, is_marked(list));
-            put_roles(out, names, list, &roles[..n])
+            let mut w = Writer::new(out);
+            put_names_line(&mut w, is_marked(list));
+            put_roles(&mut w, list, &roles[..n]);
+            w.at
         }
     }
 }

@@ -3,12 +3,12 @@ ghost use Rattle.std.specs.Prelude.{◌≡◌, length};
 ghost use Rattle.std.specs.Iterator.{YieldsFirstRef, item_count};
 ghost use Rattle.token_list.specs.Layout.{first_row};
 ghost use Rattle.token_list.specs.Reader.{bytes_from};
-ghost use Rattle.output.specs.Contract.{Put};
+ghost use Rattle.output.specs.Writes.{Writes};
 ghost use Rattle.explanation.specs.Explanation.{role_line, role_rows, sign, near, near_line, near_rows};
 
 use crate::row::{put_column, put_row};
 use crate::words::put_role;
-use output::put::{put_byte, put_bytes};
+use output::writer::Writer;
 use token_list::check::END;
 use token_list::layout::first_row;
 use token_list::reader::{row_after, row_from};
@@ -53,26 +53,23 @@ pub fn count_rows(list: &[u8]) -> usize
 }
 
 // A row's number, its role in words, its kind and its text.
-fn put_role_line(out: &mut [u8], at: usize, row: &[u8], n: usize, role: u8) -> usize
-    ensures { Put out.old out.new at result (role_line n role row.now) }
+fn put_role_line(w: &mut Writer, row: &[u8], n: usize, role: u8)
+    ensures { Writes w.old w.new (role_line n role row.now) }
 {
-    let number = put_column(out, at, n);
-    let blanks = put_bytes(out, number, b"  ");
-    let words = put_role(out, blanks, role);
-    let text = put_row(out, words, row, MAX_ROW_BYTES);
-    put_byte(out, text, b'\n')
+    put_column(w, n);
+    w.bytes(b"  ");
+    put_role(w, role);
+    put_row(w, row, MAX_ROW_BYTES);
+    w.byte(b'\n');
 }
 
 // A line for each role and the row that it is of.
-pub fn put_roles(out: &mut [u8], at: usize, list: &[u8], roles: &[u8]) -> usize
-    ensures { Put out.old out.new at result
-        (role_rows 0 roles.now (bytes_from list.now (first_row list.now))) }
+pub fn put_roles(w: &mut Writer, list: &[u8], roles: &[u8])
+    ensures { Writes w.old w.new (role_rows 0 roles.now (bytes_from list.now (first_row list.now))) }
 {
-    let mut end = at;
     for (n, (row, role)) in rows_of(list).zip(roles).enumerate() {
-        end = put_role_line(out, end, row, n, *role);
+        put_role_line(w, row, n, *role);
     }
-    end
 }
 
 // Whether row n of `count` is shown for a refusal at `place`: two rows before it, itself, and two after; for the end
@@ -87,35 +84,33 @@ fn is_near(place: usize, count: usize, n: usize) -> bool
     }
 }
 
-fn put_sign(out: &mut [u8], at: usize, place: usize, n: usize) -> usize
-    ensures { Put out.old out.new at result (sign place n) }
+fn put_sign(w: &mut Writer, place: usize, n: usize)
+    ensures { Writes w.old w.new (sign place n) }
 {
-    put_bytes(out, at, if n == place { b"> " } else { b"  " })
+    w.bytes(if n == place { b"> " } else { b"  " });
 }
 
 // A row's number and its first bytes, with a sign where it is the place.
-fn put_near_line(out: &mut [u8], at: usize, row: &[u8], n: usize, place: usize) -> usize
-    ensures { Put out.old out.new at result (near_line place n row.now) }
+fn put_near_line(w: &mut Writer, row: &[u8], n: usize, place: usize)
+    ensures { Writes w.old w.new (near_line place n row.now) }
 {
-    let sign = put_sign(out, at, place, n);
-    let number = put_column(out, sign, n);
-    let blanks = put_bytes(out, number, b"  ");
-    let text = put_row(out, blanks, row, CUT);
-    put_byte(out, text, b'\n')
+    put_sign(w, place, n);
+    put_column(w, n);
+    w.bytes(b"  ");
+    put_row(w, row, CUT);
+    w.byte(b'\n');
 }
 
 // The rows near a place.
-pub fn put_near(out: &mut [u8], at: usize, list: &[u8], place: usize) -> usize
-    ensures { Put out.old out.new at result
+pub fn put_near(w: &mut Writer, list: &[u8], place: usize)
+    ensures { Writes w.old w.new
         (near_rows place (length (bytes_from list.now (first_row list.now))) 0
         (bytes_from list.now (first_row list.now))) }
 {
     let count = count_rows(list);
-    let mut end = at;
     for (n, row) in rows_of(list).enumerate() {
         if is_near(place, count, n) {
-            end = put_near_line(out, end, row, n, place);
+            put_near_line(w, row, n, place);
         }
     }
-    end
 }

@@ -1,9 +1,9 @@
 // The words for a role and for a refusal, by their numbers.
 ghost use Rattle.std.specs.Prelude.{[], map, slice_index_or};
-ghost use Rattle.output.specs.Contract.{Put};
+ghost use Rattle.output.specs.Writes.{Writes};
 ghost use Rattle.explanation.specs.Words.{role_words, meaning};
 
-use output::put::put_bytes;
+use output::writer::Writer;
 
 // The roles, each with blanks up to the width of its column.
 static ROLES: [&[u8]; 19] = [
@@ -86,25 +86,24 @@ static MEANINGS: [&[u8]; 52] = [
 ];
 
 // Word k; nothing past the last.
-fn put_word(out: &mut [u8], at: usize, words: &[&[u8]], k: usize) -> usize
-    ensures { Put out.old out.new at result (slice_index_or (map (λ word. word.now) words.now) k []) }
+fn put_word(w: &mut Writer, words: &[&[u8]], k: usize)
+    ensures { Writes w.old w.new (slice_index_or (map (λ word. word.now) words.now) k []) }
 {
-    match words.get(k) {
-        Some(word) => put_bytes(out, at, word),
-        None => at,
+    if let Some(word) = words.get(k) {
+        w.bytes(word);
     }
 }
 
 // A role in words.
-pub fn put_role(out: &mut [u8], at: usize, role: u8) -> usize
-    ensures { Put out.old out.new at result (role_words role) }
+pub fn put_role(w: &mut Writer, role: u8)
+    ensures { Writes w.old w.new (role_words role) }
 {
-    put_word(out, at, &ROLES, role as usize)
+    put_word(w, &ROLES, role as usize);
 }
 
 // What a refusal means.
-pub fn put_meaning(out: &mut [u8], at: usize, number: u8) -> usize
-    ensures { Put out.old out.new at result (meaning number) }
+pub fn put_meaning(w: &mut Writer, number: u8)
+    ensures { Writes w.old w.new (meaning number) }
 {
-    put_word(out, at, &MEANINGS, number as usize)
+    put_word(w, &MEANINGS, number as usize);
 }

@@ -7,7 +7,7 @@ ghost use Rattle.source.specs.Tokens.{TokensAs};
 ghost use Rattle.from_source.specs.Contract.{at_most, ReportedListing};
 
 use crate::listing::write_listing;
-use output::put::{put_byte, put_bytes, put_number, put_place};
+use output::writer::Writer;
 use source::places::row_place;
 use source::report::{put_fault, put_position};
 use source::tokens::SourceError;
@@ -30,14 +30,15 @@ fn put_placed(out: &mut [u8], s: &[u8], refusal: Refusal) -> usize
         (placed_text s.now refusal.number refusal.place) }
     ensures upper_bound { result ≤ 128 }
 {
-    let names = put_bytes(out, 0, b"refused place\n");
-    let number = put_number(out, names, refusal.number as usize);
-    let space = put_byte(out, number, b' ');
-    let place = put_place(out, space, refusal.place);
-    let position = put_byte(out, place, b' ');
-    let offset = place_offset(s, refusal.place);
-    let end = put_position(out, position, s, offset);
-    put_byte(out, end, b'\n')
+    let mut w = Writer::new(out);
+    w.bytes(b"refused place\n");
+    w.number(refusal.number as usize);
+    w.byte(b' ');
+    w.place(refusal.place);
+    w.byte(b' ');
+    put_position(&mut w, s, place_offset(s, refusal.place));
+    w.byte(b'\n');
+    w.at
 }
 
 // The answer as a program prints it: a refusal is written where the listing would stand.

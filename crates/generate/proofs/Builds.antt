@@ -26,12 +26,6 @@ of_part {a} {b} rows f t s h = subst (λ (x : List ℕ). Appended a b (rows x)) 
 
 -- ## Rows one after the other
 
--- a row, by its five parts
-pub row_put : {k l m n o p t : List ℕ} {a b c d e f kind : ℕ} (w j : Bool) → Put k l a b (kind ∷ [])
-    → Put l m b c (SPACE ∷ []) → Put m n c d (mark_column_lem w j)
-    → Put n o d e t → Put o p e f (LF ∷ []) → Put k p a f (written w (row kind j t ∷ []))
-row_put w j p q x r s = joined p (joined q (joined x (joined r s)))
-
 pub then : {a b c : StreamBuilder} {rs qs : List Row} → Appended a b rs → Appended b c qs → Appended a c (rs ++ qs)
 then {a} {b} {c} {rs} {qs} p q =
     let second : Put b.out.now c.out.now b.bytes c.bytes (written a.marked qs) =

@@ -6,7 +6,7 @@ ghost use Rattle.writing.specs.Names.{names_of, right_names, name_line};
 ghost use Rattle.generate.specs.Contract.{NameEnd, Appended, added, GatheredAs};
 
 use crate::stream_builder::StreamBuilder;
-use output::put::{put_byte, put_bytes};
+use output::writer::Writer;
 use token_list::layout::MAX_TEXT;
 use token_list::row::is_plain_name;
 
@@ -77,11 +77,14 @@ pub struct Gathered {
 fn put_line(text: &mut [u8], at: usize, name: &[u8]) -> usize
     ensures { Put text.old text.new at result (name_line name.now) }
 {
+    let mut w = Writer { out: text, at };
     if name.contains(&b'\n') {
-        return put_byte(text, at, b'\n');
+        w.byte(b'\n');
+        return w.at;
     }
-    let end = put_bytes(text, at, name);
-    put_byte(text, end, b'\n')
+    w.bytes(name);
+    w.byte(b'\n');
+    w.at
 }
 
 // Adds a program's argument: one that begins with `'` is a lifetime, any other a type.

@@ -2,12 +2,14 @@
 // What does not fit is left out, and counted all the same.
 ghost use Rattle.std.specs.Prelude.{◌≡◌, [], ◌∷◌, ◌≤◌, length};
 ghost use Rattle.std.proofs.Math.Seq.{slice};
-ghost use Rattle.token_list.specs.Row.{mark_byte, mark_column_lem};
+ghost use Rattle.token_list.specs.Row.{mark_byte, mark_column_lem, written};
 ghost use Rattle.token_list.specs.Rows.{ident, punct, lifetime_rows};
-ghost use Rattle.output.specs.Contract.{further, Put};
+ghost use Rattle.output.specs.Contract.{further};
+ghost use Rattle.output.specs.Writes.{Writes};
 ghost use Rattle.generate.specs.Contract.{row, sent_mark_lem, Built, Appended, Extended, Part, comma};
 
-use output::put::{FAR, put_byte, put_bytes, put_names};
+use output::put::FAR;
+use output::writer::Writer;
 use token_list::check::Cursor;
 use token_list::layout::is_marked;
 use token_list::stream::{Token, token_at};
@@ -41,14 +43,24 @@ fn mark_byte(joint: bool) -> u8
 }
 
 // The column of a mark, where rows have one.
-fn put_mark(out: &mut [u8], at: usize, marked: bool, joint: bool) -> usize
-    ensures { Put out.old out.new at result (mark_column_lem marked joint) }
+fn put_mark(w: &mut Writer, marked: bool, joint: bool)
+    ensures { Writes w.old w.new (mark_column_lem marked joint) }
 {
-    if !marked {
-        return at;
+    if marked {
+        w.byte(mark_byte(joint));
+        w.byte(b' ');
     }
-    let space = put_byte(out, at, mark_byte(joint));
-    put_byte(out, space, b' ')
+}
+
+// A row of this kind.
+fn put_row(w: &mut Writer, marked: bool, kind: u8, joint: bool, text: &[u8])
+    ensures { Writes w.old w.new (written marked (row kind joint text.now ∷ [])) }
+{
+    w.byte(kind);
+    w.byte(b' ');
+    put_mark(w, marked, joint);
+    w.bytes(text);
+    w.byte(b'\n');
 }
 
 // The mark with which a token of the list goes out: a `'` is joint.
@@ -64,11 +76,12 @@ impl<'a> StreamBuilder<'a> {
         ensures same_output { result.out.ghost_name ≡ out.entry.ghost_name }
         ensures built { Built marked out.old result [] }
     {
-        let bytes = put_names(out, 0, marked);
+        let mut w = Writer::new(out);
+        w.names(marked);
         StreamBuilder {
-            out,
+            out: w.out,
             rows: 0,
-            bytes,
+            bytes: w.at,
             marked,
         }
     }
@@ -77,11 +90,12 @@ impl<'a> StreamBuilder<'a> {
     fn row(&mut self, kind: u8, joint: bool, text: &[u8])
         ensures { Appended self.old self.new (row kind joint text.now ∷ []) }
     {
-        let space = put_byte(self.out, self.bytes, kind);
-        let mark = put_byte(self.out, space, b' ');
-        let start = put_mark(self.out, mark, self.marked, joint);
-        let end = put_bytes(self.out, start, text);
-        self.bytes = put_byte(self.out, end, b'\n');
+        let mut w = Writer {
+            out: self.out,
+            at: self.bytes,
+        };
+        put_row(&mut w, self.marked, kind, joint, text);
+        self.bytes = w.at;
         self.rows = counted(self.rows, 1);
     }
 
@@ -155,7 +169,12 @@ impl<'a> StreamBuilder<'a> {
         if self.marked || is_marked(s) {
             self.copy_rows(s, from, to);
         } else {
-            self.bytes = put_bytes(self.out, self.bytes, &s[from.at..to.at]);
+            let mut w = Writer {
+                out: self.out,
+                at: self.bytes,
+            };
+            w.bytes(&s[from.at..to.at]);
+            self.bytes = w.at;
             self.rows = counted(self.rows, to.row - from.row);
         }
     }

@@ -2,3 +2,4 @@
 pub mod Texts
 pub mod Appends
 pub mod Answers
+pub mod Writers

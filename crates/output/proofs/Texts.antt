@@ -38,9 +38,6 @@ nothing l i h = record { next = omega arith; bytes = refl; short = h }
 pub retold : {k l s t : List ℕ} {h i : ℕ} → s ≡ t → Put k l h i s → Put k l h i t
 retold {k} {l} {s} {t} {h} {i} e p = subst (λ (x : List ℕ). Put k l h i x) e p
 
-pub put_as : {k l s t : List ℕ} {h i : ℕ} → s ≡ t → Put k l h i t → Put k l h i s
-put_as e p = retold (sym e) p
-
 pub joined : {k l m s t : List ℕ} {h i j : ℕ} → Put k l h i s → Put l m i j t → Put k m h j (s ++ t)
 joined {k} {l} {m} {s} {t} {h} {i} {j} p q =
     let stored : List ℕ = sets k h s in
@@ -83,9 +80,10 @@ enough (suc f) (suc g) n p q =
     ap (λ (ds : List ℕ). cond (ltb n 10) ((48 + n) ∷ []) (ds ++ (48 + n % 10) ∷ []))
     (enough f g (n / 10) (omega arith) (omega arith))
 
-pub decimal_one : (n : ℕ) → n < 10 → decimal n ≡ (48 + n) ∷ []
+pub decimal_digit : (n : ℕ) → n < 10 → decimal n ≡ (48 + n % 10) ∷ []
 unfolding decimal
-decimal_one n h = enough n (suc n) n (omega arith) (omega arith) ∙ simp (lt-ltb n 10 h)
+decimal_digit n h = let same : n ≡ n % 10 = omega arith in
+    enough n (suc n) n (omega arith) (omega arith) ∙ simp (lt-ltb n 10 h) (ap (λ (d : ℕ). (48 + d) ∷ []) same)
 
 pub decimal-more : (n : ℕ) → 10 ≤ n → decimal n ≡ decimal (n / 10) ++ (48 + n % 10) ∷ []
 unfolding decimal

@@ -4,3 +4,4 @@ pub mod Text
 pub mod Contract
 pub mod Answer
 pub mod Written
+pub mod Writes

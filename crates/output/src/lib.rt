@@ -2,4 +2,5 @@
 #![tactic(auto)]
 
 pub mod put;
+pub mod writer;
 pub mod written;

@@ -1,6 +1,6 @@
-// What the programs share: the descriptors, and the sizes of the buffers that they lend.
-// Each `main` stays its own: it reads, calls one function on buffers of its sizes, and writes, and a shared one that took
-// this call as a closure would be as long.
+// What the programs share: the descriptors, and the sizes of the buffers that they lend. Each `main` stays its own: it
+// reads, calls one function on buffers of its sizes, and writes, and a shared one that took this call as a closure
+// would be as long.
 #![tactic(auto)]
 
 use token_list::layout::{MAX_BYTES, MAX_ROWS};

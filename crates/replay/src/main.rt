@@ -16,7 +16,8 @@ use crate::answers::is_right;
 use crate::header::{Header, Section, Topic, read_header, topic_name};
 use crate::state::{Counts, START, State, counted, passed};
 use crate::window::{Window, advanced, ready};
-use output::put::{put_byte, put_bytes, put_number};
+use output::put::copy_bytes;
+use output::writer::Writer;
 use program::STDOUT;
 
 // What follows a turn: the next one, or the end of the input, which has counts to print too and is no None.
@@ -47,7 +48,7 @@ fn take_list(buf: &[u8], list: &mut [u8], s: State, size: usize) -> Option<State
     if list.len() < size || unread.len() < size {
         return None;
     }
-    put_bytes(list, 0, &unread[..size]);
+    copy_bytes(list, 0, &unread[..size]);
     Some(State {
         at: advanced(s.at, size),
         list: size,
@@ -58,11 +59,13 @@ fn take_list(buf: &[u8], list: &mut [u8], s: State, size: usize) -> Option<State
 
 fn name_difference(case: usize, topic: Topic) {
     let mut out = [0; 64];
-    let word = put_bytes(&mut out, 0, b"differs case ");
-    let number = put_number(&mut out, word, case);
-    let middle = put_bytes(&mut out, number, b" section ");
-    let name = put_bytes(&mut out, middle, topic_name(topic));
-    let end = put_byte(&mut out, name, b'\n');
+    let mut w = Writer::new(&mut out);
+    w.bytes(b"differs case ");
+    w.number(case);
+    w.bytes(b" section ");
+    w.bytes(topic_name(topic));
+    w.byte(b'\n');
+    let end = w.at;
     io::write_all(STDOUT, &out[..end]);
 }
 
@@ -149,9 +152,11 @@ fn print_count(name: &[u8], count: usize)
     requires { length name.now ≤ 16 }
 {
     let mut out = [0; 64];
-    let word = put_bytes(&mut out, 0, name);
-    let number = put_number(&mut out, word, count);
-    let end = put_byte(&mut out, number, b'\n');
+    let mut w = Writer::new(&mut out);
+    w.bytes(name);
+    w.number(count);
+    w.byte(b'\n');
+    let end = w.at;
     io::write_all(STDOUT, &out[..end]);
 }
 

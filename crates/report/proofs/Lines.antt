@@ -7,7 +7,7 @@ use native.Mathlib.Numerals.{add-one}
 use native.Mathlib.Omega.{arith}
 use borrow.Author.Tests.{ltb-true, ne_eqb}
 use lib.Dec.{ltb, eqb}
-use lib.ListN.{length, get_or, take, drop, replicate, length-append}
+use lib.ListN.{length, get_or, take, drop, replicate, length-append, drop_of_length-le}
 use lib.Seq.{take_at}
 use Rattle.token_list.specs.Layout.{first_row}
 use Rattle.token_list.specs.Text.{all}
@@ -35,8 +35,11 @@ use Rattle.report.specs.Roles.{assigned, role_line, role_lines, NAMES, read_as_l
 
 -- the lines from row i on
 pub lines_next : (i : ℕ) (s : List ℕ) → i < length s →
-    role_line i (get_or s i 0) ++ role_lines (i + 1) (drop (i + 1) s) ≡ role_lines i (drop i s)
+    role_lines i (drop i s) ≡ role_line i (get_or s i 0) ++ role_lines (i + 1) (drop (i + 1) s)
 lines_next i s h = rw (drop_next s i h, add-one)
+
+pub lines_end : (i : ℕ) (s : List ℕ) → length s ≤ i → role_lines i (drop i s) ≡ []
+lines_end i s h = ap (role_lines i) (drop_of_length-le s h)
 
 -- the report of a list that passes
 pub rows_few : (n : ℕ) → n < 2 ^ 64 → length (answer_text (list.Answer.passed n)) ≤ 64

@@ -6,7 +6,8 @@ ghost use Rattle.token_list.specs.Contract.{checked};
 ghost use Rattle.report.specs.Text.{answer_text};
 ghost use Rattle.output.specs.Contract.{Printed};
 
-use output::put::{put_byte, put_bytes, put_number, put_refusal};
+use output::put::put_refusal;
+use output::writer::Writer;
 use token_list::check::{Refusal, check};
 
 fn put_answer(out: &mut [u8], answer: Result<usize, Refusal>) -> usize
@@ -15,9 +16,11 @@ fn put_answer(out: &mut [u8], answer: Result<usize, Refusal>) -> usize
 {
     match answer {
         Ok(rows) => {
-            let word = put_bytes(out, 0, b"rows ");
-            let number = put_number(out, word, rows);
-            put_byte(out, number, b'\n')
+            let mut w = Writer::new(out);
+            w.bytes(b"rows ");
+            w.number(rows);
+            w.byte(b'\n');
+            w.at
         }
         Err(refusal) => put_refusal(out, refusal),
     }

@@ -2,10 +2,12 @@
 ghost use Rattle.std.specs.Prelude.{◌≡◌, ℕ, ◌≤◌, length};
 ghost use Rattle.token_list.specs.Place.{OneRefusal};
 ghost use Rattle.reading.specs.Answer.{refused, answer, buffer, read_number};
-ghost use Rattle.output.specs.Contract.{Put, Printed};
+ghost use Rattle.output.specs.Contract.{Printed};
+ghost use Rattle.output.specs.Writes.{Writes};
 ghost use Rattle.report.specs.Roles.{assigned, role_line, role_lines, roles_text, read_as_lem};
 
-use output::put::{put_byte, put_bytes, put_number, put_refusal};
+use output::put::put_refusal;
+use output::writer::Writer;
 use parse::item::new;
 use parse::role::NONE;
 use token_list::check::Refusal;
@@ -29,23 +31,21 @@ pub fn read_roles(list: &[u8], roles: &mut [u8]) -> Result<usize, Refusal>
     Ok(count_assigned(roles))
 }
 
-fn put_line(out: &mut [u8], at: usize, row: usize, role: u8) -> usize
-    ensures { Put out.old out.new at result (role_line row role) }
+fn put_line(w: &mut Writer, row: usize, role: u8)
+    ensures { Writes w.old w.new (role_line row role) }
 {
-    let number = put_number(out, at, row);
-    let space = put_byte(out, number, b' ');
-    let value = put_number(out, space, role as usize);
-    put_byte(out, value, b'\n')
+    w.number(row);
+    w.byte(b' ');
+    w.number(role as usize);
+    w.byte(b'\n');
 }
 
-fn put_lines(out: &mut [u8], at: usize, roles: &[u8]) -> usize
-    ensures { Put out.old out.new at result (role_lines 0 roles.now) }
+fn put_lines(w: &mut Writer, roles: &[u8])
+    ensures { Writes w.old w.new (role_lines 0 roles.now) }
 {
-    let mut end = at;
     for (row, role) in roles.iter().enumerate() {
-        end = put_line(out, end, row, *role);
+        put_line(w, row, *role);
     }
-    end
 }
 
 // Reads the list and writes the report at the start of out; answers its length.
@@ -61,8 +61,10 @@ pub fn report_roles(list: &[u8], roles: &mut [u8], out: &mut [u8]) -> usize
     match read_roles(list, roles) {
         Err(r) => put_refusal(out, r),
         Ok(n) => {
-            let names = put_bytes(out, 0, b"row role\n");
-            put_lines(out, names, &roles[..n])
+            let mut w = Writer::new(out);
+            w.bytes(b"row role\n");
+            put_lines(&mut w, &roles[..n]);
+            w.at
         }
     }
 }

@@ -1,22 +1,24 @@
 // What a program prints of a source text: its token list, or the refusal with line and column.
 ghost use Rattle.std.specs.Prelude.{List, ℕ, ◌≤◌};
-ghost use Rattle.output.specs.Contract.{Put, Printed};
+ghost use Rattle.output.specs.Contract.{Printed};
+ghost use Rattle.output.specs.Writes.{Writes};
 ghost use Rattle.source.specs.Answer.{Answer};
 ghost use Rattle.source.specs.Tokens.{TokensAs};
 ghost use Rattle.source.specs.Report.{position_text, fault_text, tokens_text, at_most, ReportedTokens};
 
 use crate::places::position_of;
 use crate::tokens::{SourceError, write_tokens};
-use output::put::{put_byte, put_bytes, put_number, put_refusal};
+use output::put::put_refusal;
+use output::writer::Writer;
 
 // The line and the column of an offset.
-pub fn put_position(out: &mut [u8], at: usize, s: &[u8], offset: usize) -> usize
-    ensures { Put out.old out.new at result (position_text s.now offset) }
+pub fn put_position(w: &mut Writer, s: &[u8], offset: usize)
+    ensures { Writes w.old w.new (position_text s.now offset) }
 {
     let p = position_of(s, offset);
-    let colon = put_number(out, at, p.line);
-    let column = put_byte(out, colon, b':');
-    put_number(out, column, p.column)
+    w.number(p.line);
+    w.byte(b':');
+    w.number(p.column);
 }
 
 // 40 at an offset, at the start of the output: the line `refused place`, and a line with number, offset and position.
@@ -25,11 +27,13 @@ pub fn put_fault(out: &mut [u8], s: &[u8], offset: usize) -> usize
     ensures printed { Printed out.old out.new result (fault_text s.now offset) }
     ensures upper_bound { result ≤ 128 }
 {
-    let number = put_bytes(out, 0, b"refused place\n40 ");
-    let space = put_number(out, number, offset);
-    let position = put_byte(out, space, b' ');
-    let end = put_position(out, position, s, offset);
-    put_byte(out, end, b'\n')
+    let mut w = Writer::new(out);
+    w.bytes(b"refused place\n40 ");
+    w.number(offset);
+    w.byte(b' ');
+    put_position(&mut w, s, offset);
+    w.byte(b'\n');
+    w.at
 }
 
 // The answer as a program prints it: a refusal is written where the list would stand.

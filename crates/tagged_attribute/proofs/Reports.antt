@@ -4,17 +4,17 @@ use mathlib.Core.List.{List}
 use Prim.Native.Nat.{ℕ, ◌≤◌}
 use native.Mathlib.Omega.{arith}
 use lib.ListN.{length}
-use Rattle.std.specs.Prelude.{Option, Some, Result, Ok, Err}
+use Rattle.std.specs.Prelude.{Option, Some, None, Result, Ok, Err}
 use Rattle.token_list.specs.declared.check.Refusal.{Refusal}
 use Rattle.output.specs.Text.{refusal_text}
 use Rattle.output.specs.Contract.{Put, Printed}
-use Rattle.output.proofs.Texts.{joined, printed}
+use Rattle.output.proofs.Texts.{printed}
 use Rattle.tagged_reading.specs.Entry.{Entry}
 use Rattle.tagged_reading.specs.Reading.{Answer, none, read, refused}
 use Rattle.tagged_reading.specs.Answer.{answer}
 use Rattle.tagged_reading.proofs.Promise.{never_short}
-use Rattle.tagged_attribute.specs.Contract.{EntriesOf, TaggedAs, Answered, entries_at}
-use Rattle.tagged_attribute.specs.Listing.{entry_lines, NAMES, answer_text, MOST}
+use Rattle.tagged_attribute.specs.Contract.{EntriesOf, TaggedAs, Answered}
+use Rattle.tagged_attribute.specs.Listing.{answer_text, MOST}
 use Rattle.tagged_attribute.specs.Reported.{Reported}
 use Rattle.tagged_attribute.specs.declared.utils.EntriesAt.{EntriesAt}
 use Rattle.tagged_attribute.proofs.Lengths.{lines-short}
@@ -24,14 +24,19 @@ refused_as s f none h = absurd h
 refused_as s f (read es rs) h = absurd h
 refused_as s f (refused n p) h = λ i. refused (sym h.0 i) (sym h.1 i)
 
+none_as : (s : List ℕ) (a : Answer) → TaggedAs s (Ok None) a → a ≡ none
+none_as s none h = refl
+none_as s (read es rs) h = absurd h
+none_as s (refused n p) h = absurd h
+
 -- the entries of an answer
-record ReadAs (s : List ℕ) (e : EntriesAt) (a : Answer) : Type 0 where
+pub record ReadAs (s : List ℕ) (e : EntriesAt) (a : Answer) : Type 0 where
   pub es : List Entry
   pub rs : List ℕ
   pub same : a ≡ read es rs
   pub of : EntriesOf s e es rs
 
-read_as : (s : List ℕ) (e : EntriesAt) (a : Answer) → TaggedAs s (Ok (Some e)) a → ReadAs s e a
+pub read_as : (s : List ℕ) (e : EntriesAt) (a : Answer) → TaggedAs s (Ok (Some e)) a → ReadAs s e a
 read_as s e none h = absurd h
 read_as s e (read es rs) h = record { es = es; rs = rs; same = refl; of = h }
 read_as s e (refused n p) h = absurd h
@@ -50,15 +55,23 @@ module _ {prefix s b0 b1 : List ℕ} where
       }
 
   pub reported_refused : {x y : List ℕ} {n : ℕ} {f : Refusal} → Answered prefix s (Err f) b0 b1
-      → Printed x y n (refusal_text f.number f.place) → n ≤ 64 → Reported prefix s b0 b1 x y n
-  reported_refused {f = f} h p l = reported h (refused_as s f _ h.answer) p (omega arith)
+      → length (refusal_text f.number f.place) ≤ 64 → Put x y 0 n (refusal_text f.number f.place)
+      → Reported prefix s b0 b1 x y n
+  reported_refused {f = f} h few p =
+      reported h (refused_as s f _ h.answer) (printed p (omega (arith, few))) (omega (arith, p.next, few))
 
-  module _ {e : EntriesAt} (h : Answered prefix s (Ok (Some e)) b0 b1) where
-    pub reported_read : {x y z : List ℕ} {i n : ℕ} → Put x y 0 i NAMES
-        → ((es : List Entry) (rs : List ℕ) → entries_at s e.first ≡ read es rs → Put y z i n (entry_lines es))
-        → Reported prefix s b0 b1 x z n
-    reported_read names lines =
-        let k = read_as s e _ h.answer in
-        let p = joined names (lines k.es k.of.roles k.of.same) in
-        let short = lines-short prefix s (length b0) k.es k.rs k.same in
-        reported h k.same (printed p (omega (arith, short))) (omega (arith, p.next, short))
+  pub reported_none : {x y : List ℕ} {n : ℕ} → Answered prefix s (Ok None) b0 b1 → Put x y 0 n (answer_text none)
+      → Reported prefix s b0 b1 x y n
+  reported_none h p = reported h (none_as s _ h.answer) (printed p (omega arith)) (omega (arith, p.next))
+
+  pub reported_read : {e : EntriesAt} {x y : List ℕ} {n : ℕ} (h : Answered prefix s (Ok (Some e)) b0 b1)
+      → (k : ReadAs s e (answer prefix s (length b0))) → Put x y 0 n (answer_text (read k.es k.rs))
+      → Reported prefix s b0 b1 x y n
+  reported_read h k p =
+      let short = lines-short prefix s (length b0) k.es k.rs k.same in
+      reported h k.same (printed p (omega (arith, short))) (omega (arith, p.next, short))
+
+-- the same where the output is known by another name
+pub reported_at : {prefix s b0 b1 x y z : List ℕ} {n : ℕ} → z ≡ y → Reported prefix s b0 b1 x y n
+    → Reported prefix s b0 b1 x z n
+reported_at {prefix} {s} {b0} {b1} {x} {n = n} e h = subst⁻¹ (λ (z : List ℕ). Reported prefix s b0 b1 x z n) e h

@@ -4,7 +4,9 @@ use Rattle.token_list.specs.Layout.{MAX_ROWS}
 use Rattle.token_list.specs.Place.{OneRefusal}
 use Rattle.token_list.specs.declared.check.Cursor.{Cursor}
 use Rattle.token_list.specs.declared.stream.Token.{Token}
-use Rattle.output.specs.Contract.{Put, Printed}
+use Rattle.output.specs.Contract.{Printed}
+use Rattle.output.specs.Writes.{Writes}
+use Rattle.output.specs.declared.writer.Writer.{Writer}
 use Rattle.tagged_reading.specs.Entry.{Entry}
 use Rattle.tagged_reading.specs.Reading.{read, refused}
 use Rattle.tagged_reading.specs.Answer as answers
@@ -16,21 +18,21 @@ pub record Readable (s : List ℕ) (t : Token) : Type 0 where
   pub forth : t.start ≤ t.end
   pub within : t.end ≤ length s
 
--- what was written for the entry at c, in an output that was x and is y
-pub record LineAt (s : List ℕ) (c d : Cursor) (x y : List ℕ) (at r : ℕ) : Type 0 where
+-- what was written for the entry at c, by a writer that was x and is y
+pub record LineAt (s : List ℕ) (c d : Cursor) (x y : Writer) : Type 0 where
   pub es : List Entry
   pub rs : List ℕ
   pub added : Added s c d es rs (entries_at s c)
-  pub put : Put x y at r (entry_lines es)
+  pub writes : Writes x y (entry_lines es)
 
 -- no more entries: there are none, or one is refused
-pub record NoLine (s : List ℕ) (c : Cursor) (x y : List ℕ) : Type 0 where
+pub record NoLine (s : List ℕ) (c : Cursor) (x y : Writer) : Type 0 where
   pub none : (es : List Entry) (rs : List ℕ) → entries_at s c ≡ read es rs → es ≡ []
   pub kept : y ≡ x
 
-abbrev pub LineRead : List ℕ → Cursor → List ℕ → List ℕ → ℕ → Option (Cursor × ℕ) → Type 0
-LineRead s c x y at (Some (d, r)) = LineAt s c d x y at r
-LineRead s c x y at None = NoLine s c x y
+abbrev pub LineRead : List ℕ → Cursor → Writer → Writer → Option Cursor → Type 0
+LineRead s c x y (Some d) = LineAt s c d x y
+LineRead s c x y None = NoLine s c x y
 
 -- the report of a prefix and a list s: the text of the answer, in an output that was x and is y, with role bytes that
 -- were b0 and are b1

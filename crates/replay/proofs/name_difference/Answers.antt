@@ -15,7 +15,7 @@ slice_bounds-out-end c = omega (
 )
 
 pub slice_bounds-write_all-end : goal.slice_bounds-write_all-end
-slice_bounds-write_all-end c = sym (length-take-le c.put_byte-end.result c.put_byte-end.new.out (omega (
+slice_bounds-write_all-end c = sym (length-take-le c.byte.new.self.at _ (omega (
   arith,
   decimal_few c.args.case (omega arith),
   topic_few c.args.topic,

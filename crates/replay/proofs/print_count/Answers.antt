@@ -8,5 +8,5 @@ pub slice_bounds-out-end : goal.slice_bounds-out-end
 slice_bounds-out-end c = omega (arith, decimal_few c.args.count (omega arith))
 
 pub slice_bounds-write_all-end : goal.slice_bounds-write_all-end
-slice_bounds-write_all-end c = sym (length-take-le c.put_byte-end.result c.put_byte-end.new.out
+slice_bounds-write_all-end c = sym (length-take-le c.byte.new.self.at _
     (omega (arith, decimal_few c.args.count (omega arith))))

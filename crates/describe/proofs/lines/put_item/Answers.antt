@@ -2,7 +2,7 @@ use lib.Seq.{slice}
 use mathlib.Core.List.{◌++◌}
 use mathlib.Core.Path.{◌≡◌, ◌∙◌, ap, sym}
 use Rattle.parse.specs.Contract as contract
-use Rattle.output.proofs.Texts.{joined, put_as}
+use Rattle.output.proofs.Writers.{then, writes_as}
 use Rattle.output.specs.Text.{decimal}
 use Rattle.describe.proofs.Lined.{put_line}
 use Rattle.describe.specs.Listing.{line, kind_text}
@@ -18,6 +18,6 @@ returns c = let name = slice c.args.d.name.token.start c.args.d.name.token.end c
     ] in
     λ x k.
     let named = put_line kind name (decimal c.args.d.count)
-    (put_as (ap (λ p. p ++ name) (sym part)) c.put_head-head.ensures) c.put_position.ensures in
-    joined c.put_bytes-names.ensures
-    (put_as (λ i. line (kind_text (k.kind i)) (k.name.bytes i) (decimal (sym k.count i))) named)
+    (writes_as (ap (λ p. p ++ name) (sym part)) c.put_head.ensures) c.put_position.ensures in
+    then c.bytes.ensures
+    (writes_as (λ i. line (kind_text (k.kind i)) (k.name.bytes i) (decimal (sym k.count i))) named)

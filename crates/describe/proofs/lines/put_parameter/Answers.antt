@@ -1,5 +1,5 @@
 use Rattle.token_list.specs.Byte.{QUOTE}
-use Rattle.output.proofs.Texts.{put_as}
+use Rattle.output.proofs.Writers.{writes_as}
 use Rattle.parse.specs.Contract.{is_lifetime}
 use lib.Seq.{slice}
 use mathlib.Core.List.{◌∷◌, ◌++◌}
@@ -16,13 +16,13 @@ returns c = let name = slice c.args.p.name.start c.args.p.name.end c.args.s.now 
       | then-is_lifetime w ↦
           let same = quoted a (sym (ap is_lifetime k.kind) ∙ sym c.is_lifetime.ensures ∙ w.if-is_lifetime.true)
           ∙ ap (λ n. QUOTE ∷ n) k.text.bytes in
-          put_as (ap (λ n. line PARAM n DASH) same)
-          (put_line PARAM (QUOTE ∷ name) DASH (put_as (ap (λ p. p.now ++ name) (sym w.part-is)) c.put_head-head.ensures)
-          c.put_bytes.ensures)
+          writes_as (ap (λ n. line PARAM n DASH) same)
+          (put_line PARAM (QUOTE ∷ name) DASH (writes_as (ap (λ p. p.now ++ name) (sym w.part-is)) c.put_head.ensures)
+          c.bytes.ensures)
       | else-is_lifetime w ↦
           let same = unquoted a (sym (ap is_lifetime k.kind) ∙ sym c.is_lifetime.ensures ∙ w.if-is_lifetime.false)
           ∙ k.text.bytes in
-          put_as (ap (λ n. line PARAM n DASH) same)
-          (put_line PARAM name DASH (put_as (ap (λ p. p.now ++ name) (sym w.part-is)) c.put_head-head.ensures)
-          c.put_bytes.ensures)
+          writes_as (ap (λ n. line PARAM n DASH) same)
+          (put_line PARAM name DASH (writes_as (ap (λ p. p.now ++ name) (sym w.part-is)) c.put_head.ensures)
+          c.bytes.ensures)
     ]

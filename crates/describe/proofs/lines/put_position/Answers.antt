@@ -1,5 +1,5 @@
-use Rattle.output.proofs.Texts.{joined}
+use Rattle.output.proofs.Writers.{then}
 use Rattle.describe.proofs.lines.put_position.Goals as goal
 
 pub returns : goal.returns
-returns c = joined c.put_byte-space.ensures (joined c.put_number-end.ensures c.put_byte.ensures)
+returns c = then c.byte.ensures (then c.number.ensures c.byte-2.ensures)

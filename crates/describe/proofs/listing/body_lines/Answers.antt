@@ -1,6 +1,6 @@
 use native.Mathlib.Omega.{arith}
 use mathlib.Core.Path.{◌∙◌, ap, sym, subst}
-use Rattle.output.proofs.Texts.{nothing, put_as}
+use Rattle.output.proofs.Writers.{unwritten, writes_as}
 use Rattle.parse.proofs.Meeting as meeting
 use Rattle.parse.specs.Contract as contract
 use Rattle.reading.specs.Reading as reading
@@ -19,8 +19,8 @@ variant_lines-requires c =
 
 pub returns-in_default : goal.returns-in_default
 returns-in_default c = λ b zs k q.
-    put_as (body_none (contract.kind_of c.args.d.kind) zs c.peek.result
-    (record { stands = c.peek.ensures; none = c.in_default.not-Group }) k) (nothing _ _ (omega (arith, c.type_inv)))
+    writes_as (body_none (contract.kind_of c.args.d.kind) zs c.peek.result
+    (record { stands = c.peek.ensures; none = c.in_default.not-Group }) k) unwritten
 
 pub returns-in-Struct : goal.returns-in-Struct
 returns-in-Struct c = let group = c.in-Group.ensures in
@@ -28,7 +28,7 @@ returns-in-Struct c = let group = c.in-Group.ensures in
     let known = subst (λ kd. contract.InsideAt (reading.body_of (contract.kind_of kd)) c.args.s.now c.args.d.body b)
     c.in-Struct.is k in
     let g = struct_group known _ _ group c.past-inside.ensures in
-    put_as (ap (body_lines zs) g.1) (c.struct_lines.ensures g.0 g.2)
+    writes_as (ap (body_lines zs) g.1) (c.struct_lines.ensures g.0 g.2)
 
 pub returns-in-Enum : goal.returns-in-Enum
 returns-in-Enum c = let group = c.in-Group.ensures in
@@ -36,4 +36,4 @@ returns-in-Enum c = let group = c.in-Group.ensures in
     let known = subst (λ kd. contract.InsideAt (reading.body_of (contract.kind_of kd)) c.args.s.now c.args.d.body b)
     c.in-Enum.is k in
     let g = enum_group known _ _ group c.past-inside.ensures in
-    put_as (ap (body_lines zs) g.1) (c.variant_lines.ensures g.0 zs g.2 (sym (ap body_numbers g.1) ∙ q))
+    writes_as (ap (body_lines zs) g.1) (c.variant_lines.ensures g.0 zs g.2 (sym (ap body_numbers g.1) ∙ q))

@@ -6,8 +6,9 @@ use native.Mathlib.Omega.{arith}
 use borrow.Author.Tests.{not-true, not-false}
 use lib.ListN.{length}
 use Rattle.token_list.specs.Byte.{LESS}
-use Rattle.output.specs.Contract.{FAR, Put}
-use Rattle.output.proofs.Texts.{nothing, put_as}
+use Rattle.output.specs.Writes.{Writes}
+use Rattle.output.specs.declared.writer.Writer.{Writer}
+use Rattle.output.proofs.Writers.{unwritten, writes_as}
 use Rattle.reading.specs.Declaration.{Generics, without, parameters_of}
 use Rattle.parse.specs.Contract.{stream}
 use Rattle.parse.proofs.Meeting.{past_in_of}
@@ -17,14 +18,14 @@ use Rattle.describe.specs.Listing.{numbered, parameter_line}
 use Rattle.describe.proofs.listing.generics_lines.Goals as goal
 
 -- no parameters, no lines
-none : {l : List ℕ} {i : ℕ} {g : Generics} → length l < FAR → g ≡ without → Put l l i i
+none : {w : Writer} {g : Generics} → g ≡ without → Writes w w
     (numbered parameter_line 0 (parameters_of g))
-none h e = put_as (ap (λ (g : Generics). numbered parameter_line 0 (parameters_of g)) e) (nothing _ _ h)
+none e = writes_as (ap (λ (g : Generics). numbered parameter_line 0 (parameters_of g)) e) (unwritten)
 
 pub returns-then-not-stands_punct : goal.returns-then-not-stands_punct
 returns-then-not-stands_punct c =
     let other = sym c.stands_punct.ensures ∙ not-true _ (ap not c.if-not-stands_punct.true) in
-    λ g k. none (omega (arith, c.type_inv)) (generics-none k other)
+    λ g k. none (generics-none k other)
 
 pub punct_at-t-requires : goal.punct_at-t-requires
 punct_at-t-requires c = let angle = sym c.stands_punct.ensures ∙ not-false _ (ap not c.if-not-stands_punct.false) in

@@ -1,4 +1,4 @@
-use Rattle.output.proofs.Texts.{put_as}
+use Rattle.output.proofs.Writers.{writes_as}
 use native.Mathlib.Omega.{arith}
 use mathlib.Core.Path.{ap}
 use Rattle.output.specs.Text.{decimal}
@@ -7,7 +7,7 @@ use Rattle.describe.specs.Listing.{FIELD, line}
 use Rattle.describe.proofs.listing.named_lines.Goals as goal
 
 pub loop-name-init : goal.loop-name-init
-loop-name-init c = lined_start named c.requires (omega (arith, c.type_inv))
+loop-name-init c = lined_start named c.requires
 
 pub loop-name-smaller : goal.loop-name-smaller
 loop-name-smaller c =
@@ -16,8 +16,8 @@ loop-name-smaller c =
 pub loop-name-preserved : goal.loop-name-preserved
 loop-name-preserved c =
     lined-more named c.loop-name.invariant (rw c.in-Ok-One.field-0-is at c.in-Ok-One.ensures) (λ v h. (h.0, h.1, h.2))
-    (λ a t. put_as (ap (λ n. line FIELD n (decimal c.loop-name.count)) t.bytes) c.put_named-at.ensures)
-    c.named_field.auto.roles c.put_named-at.auto.out
+    (λ a t. writes_as (ap (λ n. line FIELD n (decimal c.loop-name.count)) t.bytes) c.put_named.ensures)
+    c.named_field.auto.roles
 
 pub returns-in_default : goal.returns-in_default
 returns-in_default c =

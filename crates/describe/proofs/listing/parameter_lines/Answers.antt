@@ -5,10 +5,10 @@ use Rattle.describe.proofs.Lined.{parameters, lined_start, lined-less, lined-mor
 use Rattle.describe.proofs.listing.parameter_lines.Goals as goal
 
 pub loop-p-init : goal.loop-p-init
-loop-p-init c = (0, lined_start (parameters c.args.angle) c.requires (omega (arith, c.type_inv)))
+loop-p-init c = (0, lined_start (parameters c.args.angle) c.requires)
 
-pub put_parameter-at-requires : goal.put_parameter-at-requires
-put_parameter-at-requires c = let m = meets_tells (rw c.in-Ok-One.field-0-is at c.in-Ok-One.ensures) in
+pub put_parameter-requires : goal.put_parameter-requires
+put_parameter-requires c = let m = meets_tells (rw c.in-Ok-One.field-0-is at c.in-Ok-One.ensures) in
     (m.4.0, m.4.2)
 
 pub loop-p-smaller : goal.loop-p-smaller
@@ -19,7 +19,7 @@ pub loop-p-preserved : goal.loop-p-preserved
 loop-p-preserved c = let q = parameters c.args.angle in (
   c.loop-p.invariant.0 + 1,
   lined-more q c.loop-p.invariant.1 (rw c.in-Ok-One.field-0-is at c.in-Ok-One.ensures) (λ v h. (h.0, h.1, h.2))
-      c.put_parameter-at.ensures c.parameter.auto.roles c.put_parameter-at.auto.out,
+      c.put_parameter.ensures c.parameter.auto.roles,
 )
 
 pub returns-in_default : goal.returns-in_default

@@ -3,7 +3,7 @@ use Rattle.describe.proofs.Lined.{tuple, lined_start, lined-less, lined-more, li
 use Rattle.describe.proofs.listing.tuple_lines.Goals as goal
 
 pub loop-next-init : goal.loop-next-init
-loop-next-init c = lined_start tuple c.requires (omega (arith, c.type_inv))
+loop-next-init c = lined_start tuple c.requires
 
 pub loop-next-smaller : goal.loop-next-smaller
 loop-next-smaller c =
@@ -14,7 +14,7 @@ pub loop-next-preserved : goal.loop-next-preserved
 loop-next-preserved c =
     lined-more tuple c.loop-next.invariant (rw c.in-Ok-One.field-0-is at c.in-Ok-One.ensures)
     (λ v h. (h.0, h.1, tt {0}))
-    (λ a t. c.put_unnamed-at.ensures) c.tuple_field.auto.roles c.put_unnamed-at.auto.out
+    (λ a t. c.put_unnamed.ensures) c.tuple_field.auto.roles
 
 pub returns-in_default : goal.returns-in_default
 returns-in_default c =

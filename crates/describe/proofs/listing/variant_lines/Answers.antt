@@ -1,6 +1,6 @@
 use native.Mathlib.Omega.{arith}
 use mathlib.Core.Path.{◌∙◌}
-use Rattle.output.proofs.Texts.{joined}
+use Rattle.output.proofs.Writers.{then}
 use Rattle.parse.proofs.Inside.{meets_tells}
 use Rattle.describe.proofs.Numbering.{variant_less, numbering_start, numbering-more}
 use Rattle.describe.proofs.Numbering.{numbering-lacks, numbering_end, number_at}
@@ -11,7 +11,7 @@ use Rattle.std.proofs.lemmas.Int.{to_z-of_z}
 use Rattle.describe.proofs.listing.variant_lines.Goals as goal
 
 pub loop-v-init : goal.loop-v-init
-loop-v-init c = numbering_start c.requires (omega (arith, c.type_inv))
+loop-v-init c = numbering_start c.requires
 
 pub number_after-requires : goal.number_after-requires
 number_after-requires c = let m = meets_tells (rw c.in-Ok-One.field-0-is at c.in-Ok-One.ensures) in
@@ -23,12 +23,12 @@ returns-in_default-number_after c = let read = rw c.in-Ok-One.field-0-is at c.in
     numbering-lacks c.loop-v.invariant c.in-Ok-One.v read (c.number_after.ensures.number_as c.loop-v.c)
     c.in_default-number_after.is vs k zs q
 
-pub put_variant-line-requires : goal.put_variant-line-requires
-put_variant-line-requires c = let m = meets_tells (rw c.in-Ok-One.field-0-is at c.in-Ok-One.ensures) in
+pub put_variant-requires : goal.put_variant-requires
+put_variant-requires c = let m = meets_tells (rw c.in-Ok-One.field-0-is at c.in-Ok-One.ensures) in
     (m.4.0, m.4.2)
 
-pub field_lines-at-requires : goal.field_lines-at-requires
-field_lines-at-requires c = let m = meets_tells (rw c.in-Ok-One.field-0-is at c.in-Ok-One.ensures) in
+pub field_lines-requires : goal.field_lines-requires
+field_lines-requires c = let m = meets_tells (rw c.in-Ok-One.field-0-is at c.in-Ok-One.ensures) in
     (m.4.0.fields, m.4.2.fields)
 
 pub loop-v-smaller : goal.loop-v-smaller
@@ -41,9 +41,8 @@ loop-v-preserved c =
     let read = rw c.in-Ok-One.field-0-is at c.in-Ok-One.ensures in
     numbering-more c.loop-v.invariant c.in-Ok-One.v read (to_z w64 (of_z w64 c.in-Ok.n))
     (λ a t p. number_at (c.number_after.ensures.number_as c.loop-v.c a t p) c.in-Ok.is ∙ ap number (sym same))
-    (λ a t. joined (c.put_variant-line.ensures a t) (c.field_lines-at.ensures a.fields t.fields))
-    (c.field_lines-at.auto.roles ∙ c.variant.auto.roles)
-    (c.field_lines-at.auto.out ∙ c.put_variant-line.auto.out)
+    (λ a t. then (c.put_variant.ensures a t) (c.field_lines.ensures a.fields t.fields))
+    (c.field_lines.auto.roles ∙ c.variant.auto.roles)
 
 pub returns-in_default : goal.returns-in_default
 returns-in_default c = λ vs zs k q.

@@ -5,7 +5,7 @@ use Rattle.describe.proofs.listing.variant_lines.Given as goal
 
 abbrev pub invariant-loop-v : goal.invariant-loop-v
 invariant-loop-v l =
-    Numbering l.s l.initial.c l.c l.initial.roles l.roles l.initial.out l.out l.start l.at l.before
+    Numbering l.s l.initial.c l.c l.initial.roles l.roles l.initial.w l.w l.before
 
 abbrev pub decreases-loop-v : goal.decreases-loop-v
 decreases-loop-v l = length l.s - l.c.at

@@ -1,6 +1,8 @@
 use mathlib.Core.Path.{ap, sym, ◌∙◌, subst}
 use Rattle.reading.specs.Token.{negatable}
 use Rattle.parse.specs.Contract as contract
+use native.Mathlib.Omega.{arith}
+use Rattle.output.proofs.Writers.{begun, left_at}
 use Rattle.describe.proofs.Answers.{placed_absent, placed_literal, placed_negative}
 use Rattle.describe.proofs.value.put_value.Goals as goal
 
@@ -19,4 +21,4 @@ returns-in-Literal c = λ x w k room. placed_literal x w k _ _ _ c.in-Literal.is
 pub returns-in-Negative : goal.returns-in-Negative
 returns-in-Negative c = λ x w k room.
     placed_negative x w k _ c.in-Negative.is c.worth-n.ensures.value c.worth-n.ensures.upper_bound
-    c.put_negative.ensures room
+    (left_at (grind arith) (begun c.new-w.ensures.put c.put_negative.ensures)) room

@@ -1,5 +1,5 @@
-use Rattle.output.proofs.Texts.{joined}
+use Rattle.output.proofs.Writers.{then}
 use Rattle.explanation.proofs.explain.put_names_line.Goals as goal
 
 pub returns : goal.returns
-returns c = joined c.put_bytes-told.ensures c.put_names.ensures
+returns c = then c.bytes.ensures c.names.ensures

@@ -4,7 +4,8 @@ use lib.ListN.{length}
 use lib.Seq.{length-take-le}
 use Rattle.reading.specs.Answer.{answer}
 use Rattle.report.proofs.Lines.{found, not_found}
-use Rattle.output.proofs.Texts.{joined, printed, retold}
+use Rattle.output.proofs.Texts.{printed}
+use Rattle.output.proofs.Writers.{begun, then, writes_as}
 use Rattle.explanation.specs.Explanation.{names_line}
 use Rattle.explanation.proofs.Lengths.{explained_few}
 use Rattle.explanation.proofs.explain.report_explanation.Goals as goal
@@ -33,10 +34,10 @@ pub returns-in-Ok : goal.returns-in-Ok
 returns-in-Ok c = let f = found c.in-Ok.n (answer c.args.list.now (length c.args.roles.now)) c.in-Ok.is
     c.read_roles.ensures.read_as in
     let few = explained_few c.args.list.now (length c.args.roles.now) f.declaration _ f.same in
-    let p = printed (joined (retold (ap names_line c.is_marked.ensures) c.put_names_line-names.ensures)
-    c.put_roles.ensures) (omega (arith, few)) in
+    let names = writes_as (sym (ap names_line c.is_marked.ensures)) c.put_names_line.ensures in
+    let p = printed (begun c.new-w.ensures.put (then names c.put_roles.ensures)) (omega (arith, few)) in
     record {
-      printed = rw f.same p;
+      printed = rw f.same (record { counted = p.counted; bytes = grind arith });
       roles_after = c.read_roles.ensures.roles_after;
       upper_bound = omega (arith, p.counted, few);
       by_index = c.read_roles.ensures.by_index;

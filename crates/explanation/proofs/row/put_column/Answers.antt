@@ -1,8 +1,7 @@
-use Rattle.output.proofs.Texts.{joined}
+use Rattle.output.proofs.Writers.{then}
 use Rattle.explanation.specs.Row.{column}
 use Rattle.explanation.proofs.row.put_column.Goals as goal
 
 pub returns : goal.returns
 unfolding column
-returns c = joined c.put_blank-thousands.ensures
-    (joined c.put_blank-hundreds.ensures (joined c.put_blank-tens.ensures c.put_number.ensures))
+returns c = then c.put_blank.ensures (then c.put_blank-2.ensures (then c.put_blank-3.ensures c.number.ensures))

@@ -1,7 +1,11 @@
-use Rattle.output.proofs.Texts.{joined, retold}
+use native.Mathlib.Omega.{arith}
+use Rattle.output.proofs.Writers.{going, goes_on}
 use Rattle.explanation.proofs.Texts.{shown_next}
 use Rattle.explanation.proofs.row.put_row.Goals as goal
 
+pub loop-b-init : goal.loop-b-init
+loop-b-init c = going (grind arith)
+
 pub loop-b-preserved : goal.loop-b-preserved
-loop-b-preserved c = let next = c.in-Some.ensures.steps in λ x r rest.
-    c.loop-b.invariant x r (retold (shown_next _ _ next.0 next.1) (joined c.put_shown-end.ensures rest))
+loop-b-preserved c = let next = c.in-Some.ensures.steps in
+    goes_on c.loop-b.invariant (shown_next _ _ next.0 next.1) c.put_shown.ensures

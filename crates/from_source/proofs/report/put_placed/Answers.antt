@@ -1,7 +1,8 @@
 -- `put_placed` meets its contract: the parts of the text one after the other.
-use mathlib.Core.Path.{ap}
+use mathlib.Core.Path.{ap, sym}
 use native.Mathlib.Omega.{arith}
-use Rattle.output.proofs.Texts.{joined, printed, retold}
+use Rattle.output.proofs.Texts.{printed}
+use Rattle.output.proofs.Writers.{begun, then, writes_as}
 use Rattle.source.specs.Report.{position_text}
 use Rattle.from_source.specs.Report.{placed_text}
 use Rattle.from_source.proofs.Reports.{placed_few}
@@ -13,11 +14,13 @@ returns c =
     let few = placed_few c.args.s.now c.args.refusal.number c.args.refusal.place (omega (arith, c.type_inv))
     (omega (arith, c.type_inv))
     (omega (arith, c.type_inv)) in
-    let stands = retold (ap (position_text c.args.s.now) c.place_offset-offset.ensures) c.put_position-end.ensures in
-    let text = joined c.put_bytes-names.ensures
-    (joined c.put_number-number.ensures
-    (joined c.put_byte-space.ensures
-    (joined c.put_place-place.ensures
-    (joined c.put_byte-position.ensures (joined stands c.put_byte.ensures))))) in
-    let whole = printed text (omega (arith, few)) in
-    record { printed = whole; upper_bound = omega (arith, whole.counted, few) }
+    let stands = writes_as (sym (ap (position_text c.args.s.now) c.place_offset.ensures)) c.put_position.ensures in
+    let text = then c.bytes.ensures
+    (then c.number.ensures
+    (then c.byte.ensures
+    (then c.place.ensures (then c.byte-2.ensures (then stands c.byte-3.ensures))))) in
+    let whole = printed (begun c.new-w.ensures.put text) (omega (arith, few)) in
+    record {
+      printed = record { counted = whole.counted; bytes = grind arith };
+      upper_bound = omega (arith, whole.counted, few);
+    }

@@ -1,5 +1,6 @@
 use mathlib.Core.Path.{refl, sym, ◌∙◌}
 use native.Mathlib.Omega.{arith}
+use Rattle.output.proofs.Writers.{left_at}
 use Rattle.generate.proofs.Copying.{as_part, sent_length}
 use Rattle.generate.proofs.stream_builder.StreamBuilder.extend.Goals.{then-self, else-self}
 use Rattle.generate.proofs.stream_builder.StreamBuilder.extend.Goals as goal
@@ -11,7 +12,8 @@ returns-else-is_marked c = elim c.if-self.branch [
     same_output = refl;
     marked = refl;
     rows = omega (arith, c.counted-self.ensures, sent_length c.requires);
-    put = as_part c.requires w.if-self.false (sym w.is_marked.ensures ∙ sym w.value-is ∙ c.if-is_marked.false)
-        c.put_bytes-self.ensures;
+    put = left_at (grind arith)
+        (as_part c.requires w.if-self.false (sym w.is_marked.ensures ∙ sym w.value-is ∙ c.if-is_marked.false)
+        c.bytes.ensures.put);
   }
 ]

@@ -1,12 +1,12 @@
+use native.Mathlib.Omega.{arith}
 use mathlib.Core.Path.{refl}
-use Rattle.generate.proofs.Builds.{row_put}
+use Rattle.output.proofs.Writers.{left_at}
 use Rattle.generate.proofs.stream_builder.StreamBuilder.row.Goals as goal
 
 pub returns : goal.returns
 returns c = record {
-  same_output = refl;
+  same_output = grind arith;
   marked = refl;
   rows = c.counted-self.ensures;
-  put = row_put _ _ c.put_byte-space.ensures c.put_byte-mark.ensures c.put_mark-start.ensures c.put_bytes-end.ensures
-      c.put_byte-self.ensures;
+  put = left_at (grind arith) c.put_row.ensures.put;
 }
