@@ -169,7 +169,9 @@ fn quick_token(s: &[u8], kind: u8, column: usize) -> Option<usize>
     }
 }
 
-// The same of any token but one whose text is one byte.
+// The same of any token but one whose text is one byte. A call, since few rows come here, and each level of the list
+// check's walk would have its locals on the stack.
+#[inline(never)]
 fn long_token(s: &[u8], kind: u8, column: usize) -> Option<usize>
     requires column_in_bounds { column ≤ length s.now }
     requires column_value { one_byte_lem s.now column ≡ false }

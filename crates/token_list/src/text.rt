@@ -90,7 +90,7 @@ pub fn all_fit(s: &[u8], start: usize, end: usize, names: bool) -> bool
 pub fn is_one_of(b: u8, set: &[u8]) -> bool
     ensures { result ≡ member b set.now }
 {
-    set.contains(&b)
+    set.iter().any(|&x| x == b)
 }
 
 // Two texts compared: whether they are the same, and how many pairs of bytes were looked at for it.
@@ -135,5 +135,5 @@ pub fn text_is(s: &[u8], start: usize, end: usize, name: &[u8]) -> bool
 {
     let to = end.min(s.len());
     let from = start.min(to);
-    &s[from..to] == name
+    compare(&s[from..to], name).same
 }
