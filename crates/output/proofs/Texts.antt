@@ -80,10 +80,9 @@ enough (suc f) (suc g) n p q =
     ap (λ (ds : List ℕ). cond (ltb n 10) ((48 + n) ∷ []) (ds ++ (48 + n % 10) ∷ []))
     (enough f g (n / 10) (omega arith) (omega arith))
 
-pub decimal_digit : (n : ℕ) → n < 10 → decimal n ≡ (48 + n % 10) ∷ []
+pub decimal_one : (n : ℕ) → n < 10 → decimal n ≡ (48 + n) ∷ []
 unfolding decimal
-decimal_digit n h = let same : n ≡ n % 10 = omega arith in
-    enough n (suc n) n (omega arith) (omega arith) ∙ simp (lt-ltb n 10 h) (ap (λ (d : ℕ). (48 + d) ∷ []) same)
+decimal_one n h = enough n (suc n) n (omega arith) (omega arith) ∙ simp (lt-ltb n 10 h)
 
 pub decimal-more : (n : ℕ) → 10 ≤ n → decimal n ≡ decimal (n / 10) ++ (48 + n % 10) ∷ []
 unfolding decimal

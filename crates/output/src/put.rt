@@ -3,8 +3,8 @@
 ghost use Rattle.std.specs.Prelude.{◌+◌, ◌≤◌, ◌≡◌, [], ◌∷◌, ◌++◌, length, leb};
 ghost use Rattle.std.proofs.lemmas.List.Edits.{sets};
 ghost use Rattle.token_list.specs.Byte.{SPACE, LF};
-ghost use Rattle.output.specs.Text.{refusal_text};
-ghost use Rattle.output.specs.Contract.{Printed, Appended};
+ghost use Rattle.output.specs.Text.{decimal, refusal_text};
+ghost use Rattle.output.specs.Contract.{Put, Printed, Appended};
 
 use crate::writer::Writer;
 use token_list::check::Refusal;
@@ -19,12 +19,41 @@ pub(crate) fn has_room(out: &[u8], at: usize, n: usize) -> bool
     at <= out.len() && n <= out.len() - at
 }
 
+// A byte where it fits; what does not fit is counted all the same. These two take the output and the place by
+// themselves: a writer's place would be loaded and stored anew for each digit.
+pub(crate) fn put_byte(out: &mut [u8], at: usize, b: u8) -> usize
+    ensures { Put out.old out.new at result (b ∷ []) }
+{
+    if at < out.len() {
+        out[at] = b;
+        at + 1
+    } else if at < FAR {
+        at + 1
+    } else {
+        at
+    }
+}
+
+// The decimal digits of n.
+pub(crate) fn put_number(out: &mut [u8], at: usize, n: usize) -> usize
+    ensures { Put out.old out.new at result (decimal n) }
+{
+    if n < 10 {
+        put_byte(out, at, b'0' + n as u8)
+    } else {
+        let end = put_number(out, at, n / 10);
+        put_byte(out, end, b'0' + (n % 10) as u8)
+    }
+}
+
 // Stores a text that fits from `at` on.
 pub fn copy_bytes(out: &mut [u8], at: usize, text: &[u8])
     requires { at + length text.now ≤ length out.old }
     ensures { out.new ≡ sets out.old at text.now }
 {
-    out[at..at + text.len()].copy_from_slice(text);
+    for i in 0..text.len() {
+        out[at + i] = text[i];
+    }
 }
 
 // A text where it fits; a place past the output where it does not.

@@ -5,7 +5,7 @@ ghost use Rattle.output.specs.Text.{decimal, place_text, refusal_text};
 ghost use Rattle.output.specs.Contract.{FAR, Put};
 
 use crate::put;
-use crate::put::{FAR, copy_bytes};
+use crate::put::{FAR, copy_bytes, put_byte, put_number};
 use token_list::check::{END, Refusal};
 
 // The output, and the place that the next part goes to. What does not fit is left out, and counted all the same, up to
@@ -39,12 +39,7 @@ impl<'a> Writer<'a> {
     pub fn byte(&mut self, b: u8)
         ensures { Writes self.old self.new (b ∷ []) }
     {
-        if self.at < self.out.len() {
-            self.out[self.at] = b;
-        }
-        if self.at < FAR {
-            self.at += 1;
-        }
+        self.at = put_byte(self.out, self.at, b);
     }
 
     pub fn bytes(&mut self, text: &[u8])
@@ -75,10 +70,7 @@ impl<'a> Writer<'a> {
     pub fn number(&mut self, n: usize)
         ensures { Writes self.old self.new (decimal n) }
     {
-        if 10 <= n {
-            self.number(n / 10);
-        }
-        self.byte(b'0' + (n % 10) as u8);
+        self.at = put_number(self.out, self.at, n);
     }
 
     // A place: its row, or `-` for the end mark.
