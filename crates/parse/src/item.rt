@@ -94,6 +94,8 @@ pub fn refuse(roles: &mut [u8], r: Refusal) -> Result<ItemAt, Refusal>
 }
 
 // Reads a list that passed the check with so many rows, with a role byte for each.
+// Into its callers, as `read_checked` is: most of them want the kind alone, and the item is not copied then.
+#[inline(always)]
 fn read(s: &[u8], roles: &mut [u8], rows: usize) -> Result<ItemAt, Refusal>
     requires s_value { list.check s.now ≡ list.passed rows }
     requires rows_in_bounds { rows ≤ length roles.old }
@@ -109,6 +111,7 @@ fn read(s: &[u8], roles: &mut [u8], rows: usize) -> Result<ItemAt, Refusal>
 }
 
 // Reads a list that passed the check with so many rows.
+#[inline(always)]
 pub fn read_checked(s: &[u8], roles: &mut [u8], rows: usize) -> Result<ItemAt, Refusal>
     requires { list.check s.now ≡ list.passed rows }
     ensures { Answered s.now result roles.old roles.new }

@@ -147,6 +147,7 @@ fn negative_value(s: &[u8], c: Cursor, roles: &mut [u8]) -> Result<(ValueAt, Cur
 }
 
 // What follows a variant's `=`.
+#[inline(never)]
 fn discriminant(s: &[u8], c: Cursor, roles: &mut [u8]) -> Result<(ValueAt, Cursor), Refusal>
     requires { InList s.now c }
     ensures { Meets s.now c roles.old roles.new
