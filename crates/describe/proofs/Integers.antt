@@ -1,25 +1,24 @@
 -- Laws on the worth of an integer literal.
 use mathlib.Core.Path.{◌≡◌, refl, ap, ◌∙◌, sym}
-use mathlib.Core.Bool.{Bool, true, false, cond, ◌&&◌, ◌||◌}
+use mathlib.Core.Bool.{Bool, true, false, cond, ◌&&◌}
 use mathlib.Core.List.{List, [], ◌∷◌}
 use Prim.Native.Nat.{ℕ, ◌+◌, ◌-◌, ◌*◌, ◌≤◌, ◌<◌}
 use native.Mathlib.Nat.{le-mul_of_pos_right}
 use native.Mathlib.Numerals.{add-one}
 use native.Mathlib.Omega.{arith}
-use borrow.Author.Tests.{leb-true, lt-leb, le-leb, lt-ltb, le-ltb, eq-eqb, eqb-true, eqb-false, ne_eqb}
+use borrow.Author.Tests.{leb-true, lt-leb, le-leb, lt-ltb, le-ltb, eq-eqb, ne_eqb}
 use lib.Dec.{leb, ltb, eqb}
 use lib.ListN.{length, get_or, take, drop}
 use lib.IntN.{ℤ, pos}
-use lib.Pointwise.{pointwise}
 use lib.Seq.{drop-cons}
-use Rattle.std.specs.Prelude.{Option, Some, None, nat_eq}
+use Rattle.std.specs.Prelude.{Option, Some, None}
 use Rattle.std.specs.Option.{option_map}
 use Rattle.std.proofs.lemmas.List.{take_rest}
-use Rattle.token_list.specs.Byte.{bytes, UNDERSCORE}
-use Rattle.token_list.specs.Text.{same, between, digit_worth}
+use Rattle.token_list.specs.Byte.{UNDERSCORE}
+use Rattle.token_list.specs.Text.{between, digit_worth}
 use Rattle.token_list.proofs.Texts.{and_parts, and_both, chosen, passed_over}
 use Rattle.reading.specs.Token.{MAX_I64}
-use Rattle.describe.specs.Integer.{bits, suffix, ended, digits, radix_of, radix, decimal_integer}
+use Rattle.describe.specs.Integer.{suffix, ended, digits, radix_of, radix, decimal_integer}
 use Rattle.describe.specs.Integer.{integer, in_range}
 
 -- ## Digits
@@ -77,33 +76,6 @@ module _ {t : List ℕ} {radix n i : ℕ} {any : Bool} (r : Reading t radix any 
         in_range (digits radix false 0 t) ≡ None
     reading_large p k l =
         (reading_digit k).same ∙ digits_large radix p true (n * radix + digit_worth byte) rest l
-
--- ## The suffix
-
-eqb_sym : (m n : ℕ) → eqb m n ≡ eqb n m
-eqb_sym m n = go (eqb n m) refl
-  where
-    go : (b : Bool) → eqb n m ≡ b → eqb m n ≡ b
-    go true e = eq-eqb m n (sym (eqb-true n m e))
-    go false e = ne_eqb m n (λ f. eqb-false n m e (sym f))
-
-same_is : (t u : List ℕ) → pointwise nat_eq u t ≡ same t u
-same_is [] [] = refl
-same_is [] (y ∷ u) = refl
-same_is (x ∷ t) [] = refl
-same_is (x ∷ t) (y ∷ u) = λ i. eqb_sym y x i && same_is t u i
-
-or_nothing : (b : Bool) → (b || false) ≡ b
-or_nothing true = refl
-or_nothing false = refl
-
-pub bits_are : (t : List ℕ) → (pointwise nat_eq (bytes "8") t || (pointwise nat_eq (bytes "16") t
-    || (pointwise nat_eq (bytes "32") t || (pointwise nat_eq (bytes "64") t || (pointwise nat_eq (bytes "128") t
-    || (pointwise nat_eq (bytes "size") t || false)))))) ≡ bits t
-unfolding bits
-bits_are t = λ i.
-    same_is t (bytes "8") i || (same_is t (bytes "16") i || (same_is t (bytes "32") i || (same_is t (bytes "64") i
-    || (same_is t (bytes "128") i || or_nothing (same_is t (bytes "size") i) i))))
 
 -- ## The literal
 

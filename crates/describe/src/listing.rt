@@ -203,8 +203,11 @@ fn read_listing(s: &[u8], out: &mut [u8], roles: &mut [u8]) -> Result<usize, Ref
         (item_answer (start s.now) (item 0 (at s.now (first_row s.now)).here))) result }
     ensures item_faults_in { ItemFaultsIn s.now (item 0 (at s.now (first_row s.now)).here) }
 {
-    let d = item(s, start(s), roles)?;
-    fit_listing(s, d, roles, out)
+    // No `?`: it copies the item once more, by a call to `memcpy` that C's archive would need.
+    match item(s, start(s), roles) {
+        Err(r) => Err(r),
+        Ok(d) => fit_listing(s, d, roles, out),
+    }
 }
 
 // Writes the listing of the declaration at the start of the output; on a refusal nothing is written.

@@ -12,14 +12,20 @@ use crate::value::worth;
 use parse::variants::{ValueAt, VariantAt};
 use token_list::check::Refusal;
 use token_list::refusal;
-use token_list::text::digit_worth;
+use token_list::text::{compare, digit_worth};
 
-// Whether a text is how many bits an integer type has.
+// Whether a text is how many bits an integer type has. One comparison a name: an array of the names would be built anew
+// at each use.
+#[tactic(auto, unfolding(crate::specs::Integer::bits))]
 fn is_bits(t: &[u8]) -> bool
     ensures { result ≡ bits t.now }
 {
-    let names: [&[u8]; 6] = [b"8", b"16", b"32", b"64", b"128", b"size"];
-    names.contains(&t)
+    compare(t, b"8").same
+        || compare(t, b"16").same
+        || compare(t, b"32").same
+        || compare(t, b"64").same
+        || compare(t, b"128").same
+        || compare(t, b"size").same
 }
 
 // Whether a text is empty or an integer type's name.

@@ -1,4 +1,3 @@
-use native.Mathlib.Omega.{arith}
 use mathlib.Core.Path.{◌∙◌, ap, sym, subst}
 use Rattle.output.proofs.Writers.{unwritten, writes_as}
 use Rattle.parse.proofs.Meeting as meeting

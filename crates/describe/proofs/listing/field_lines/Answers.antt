@@ -1,4 +1,3 @@
-use native.Mathlib.Omega.{arith}
 use mathlib.Core.Path.{ap, subst}
 use Rattle.parse.specs.Contract as contract
 use Rattle.output.proofs.Writers.{unwritten, writes_as}

@@ -1,10 +1,6 @@
 use mathlib.Core.Bool.{not}
-use Prim.Native.Nat.{ℕ, ◌<◌}
 use mathlib.Core.Path.{◌≡◌, refl, sym, ◌∙◌, ap}
-use mathlib.Core.List.{List}
-use native.Mathlib.Omega.{arith}
 use borrow.Author.Tests.{not-true, not-false}
-use lib.ListN.{length}
 use Rattle.token_list.specs.Byte.{LESS}
 use Rattle.output.specs.Writes.{Writes}
 use Rattle.output.specs.declared.writer.Writer.{Writer}

@@ -1,4 +1,3 @@
-use native.Mathlib.Omega.{arith}
 use Prim.Native.Nat.{◌+◌}
 use Rattle.parse.proofs.Inside.{meets_tells}
 use Rattle.describe.proofs.Lined.{parameters, lined_start, lined-less, lined-more, lined_end}

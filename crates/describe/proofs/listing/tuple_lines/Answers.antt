@@ -1,4 +1,3 @@
-use native.Mathlib.Omega.{arith}
 use Rattle.describe.proofs.Lined.{tuple, lined_start, lined-less, lined-more, lined_end}
 use Rattle.describe.proofs.listing.tuple_lines.Goals as goal
 

@@ -1,4 +1,3 @@
-use native.Mathlib.Omega.{arith}
 use mathlib.Core.Path.{◌∙◌}
 use Rattle.output.proofs.Writers.{then}
 use Rattle.parse.proofs.Inside.{meets_tells}
