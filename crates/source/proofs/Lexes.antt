@@ -13,10 +13,10 @@ use Rattle.token_list.proofs.Texts.{drop_next, drop_of_take}
 use Rattle.source.specs.Piece.{Piece, piece}
 use Rattle.source.specs.Lex.{Lexed, end, token, stops, row_at, doc_rows, found, lex_from, lex}
 use Rattle.source.specs.Bytes.{blank}
-use Rattle.source.specs.Contract.{RunEnd, PieceAs, piece_tokens, piece_end}
+use Rattle.source.specs.Contract.{RunEnd, PieceAs, found_tokens, piece_end, found_end}
 use Rattle.source.specs.Contract.{gap as gap-as, row as Row-as, lifetime as lifetime-as, doc as doc-as}
 use Rattle.source.specs.Contract.{none as none-as}
-use Rattle.std.specs.Prelude.{Some, None}
+use Rattle.std.specs.Prelude.{Option, Some, None}
 use Rattle.source.specs.declared.piece.Piece as code
 use Rattle.source.specs.Stack.{rest}
 use Rattle.source.proofs.Offsets.{drop_behind}
@@ -64,8 +64,8 @@ module _ (s : List ℕ) (i : ℕ) (here : i < length s) where
       ap (lex_from i 0) cons ∙ ap (λ (t : List ℕ). found i t (piece t) (onwards s i)) (sym cons)
       ∙ ap (λ (p : Piece). found i (drop i s) p (onwards s i)) h
 
-  pub rest-piece : {p : code.Piece} → PieceAs s i (piece (drop i s)) (Some p)
-      → rest s i ≡ piece_tokens s i p (rest s (piece_end p))
+  pub rest-piece : {found : Option code.Piece} → PieceAs s i (piece (drop i s)) found
+      → rest s i ≡ found_tokens s i found (rest s (found_end s found))
   rest-piece (gap-as {e} h) = rest_found h.told ∙ onwards_rest s i e h.forth
   rest-piece (Row-as {k} {e} h) =
       let text = sym (drop_of_take i e s) in
@@ -78,9 +78,10 @@ module _ (s : List ℕ) (i : ℕ) (here : i < length s) where
       rest_found h.told ∙ (λ j. name (text_behind s i e 1 j) (n j) (onwards_rest s i e h.forth j))
   rest-piece (doc-as {e} h l) =
       rest_found h.told ∙ (λ j. doc_rows i (e - i) (text_behind s i e 3 j) (onwards_rest s i e h.forth j))
+  rest-piece (none-as h) = rest_found h
 
   pub rest-stops : PieceAs s i (piece (drop i s)) None → rest s i ≡ stops i
-  rest-stops (none-as h) = rest_found h
+  rest-stops h = rest-piece h
 
 -- a piece has a byte at least, and stands in the text
 module _ {s : List ℕ} {i : ℕ} {t : Piece} where

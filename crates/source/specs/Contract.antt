@@ -8,7 +8,7 @@ use Rattle.source.specs.Bytes.{SLASH, blank, in_line, in_doc, in_digits}
 use Rattle.source.specs.Taken.{Taken, takes, fault, run}
 use Rattle.source.specs.Number.{radix_of, fraction, sign_length}
 use Rattle.source.specs.Piece as piece
-use Rattle.source.specs.Lex.{Lexed, token, row_at, doc_rows}
+use Rattle.source.specs.Lex.{Lexed, stops, token, row_at, doc_rows}
 use Rattle.source.specs.Piece.{suffix}
 use Rattle.source.specs.declared.bytes.Class.{Class}
 use Rattle.source.specs.declared.bytes.Class.TheVariants.{Blank, Name, Line, Doc, Digits}
@@ -92,9 +92,19 @@ piece_tokens s i (pieces.Lifetime e) ts =
     (token (record { row = ident (slice (i + 1) e s); offset = i + 1; length = e - (i + 1) }) ts)
 piece_tokens s i (pieces.Doc e) ts = doc_rows i (e - i) (slice (i + 3) e s) ts
 
+-- the same of what was found at i: a piece, or that there is none
+abbrev pub found_tokens : List ℕ → ℕ → Option Piece → Lexed → Lexed
+found_tokens s i None ts = stops i
+found_tokens s i (Some p) ts = piece_tokens s i p ts
+
 -- where a piece ends
 abbrev pub piece_end : Piece → ℕ
 piece_end (pieces.Gap e) = e
 piece_end (pieces.Row k e) = e
 piece_end (pieces.Lifetime e) = e
 piece_end (pieces.Doc e) = e
+
+-- where what was found ends; behind a fault nothing is read
+abbrev pub found_end : List ℕ → Option Piece → ℕ
+found_end s None = length s
+found_end s (Some p) = piece_end p

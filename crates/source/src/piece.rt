@@ -5,7 +5,7 @@ ghost use Rattle.source.specs.Bytes.{SLASH, blank};
 ghost use Rattle.source.specs.Taken.{Taken, run};
 ghost use Rattle.source.specs.Piece.{suffix, literal, raw_name, prefixed, word, lifetime_of, quote, line_comment};
 ghost use Rattle.source.specs.Piece.{slash, single, piece};
-ghost use Rattle.source.specs.Contract.{RunEnd, EndsTo, PieceAs, SuffixEnd, piece_end};
+ghost use Rattle.source.specs.Contract.{RunEnd, EndsTo, PieceAs, SuffixEnd, piece_end, found_end};
 
 use crate::bytes::{Class, byte_at, is_blank, run_end};
 use crate::comment::{block_comment_end, doc_line_end, is_outer_line};
@@ -203,6 +203,23 @@ pub fn piece_end(p: Piece) -> usize
     match p {
         Piece::Gap(e) | Piece::Row(_, e) | Piece::Lifetime(e) | Piece::Doc(e) => e,
     }
+}
+
+// Where what was found at a place ends; behind a fault nothing is read.
+pub fn found_end(s: &[u8], found: Option<Piece>) -> usize
+    ensures { result ≡ found_end s.now found }
+{
+    match found {
+        Some(p) => piece_end(p),
+        None => s.len(),
+    }
+}
+
+// Past what was found and the whitespace behind it.
+pub fn past_found(s: &[u8], found: Option<Piece>) -> usize
+    ensures { RunEnd blank s.now (found_end s.now found) result }
+{
+    run_end(s, found_end(s, found), Class::Blank)
 }
 
 // Past the piece p and the whitespace behind it.

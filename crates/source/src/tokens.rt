@@ -119,6 +119,10 @@ fn append_piece(list: &mut [u8], at: usize, s: &[u8], i: usize, p: Piece) -> usi
     ensures { Appended list.old list.new at result
         (written false (piece_rows s.now i p)) }
 {
+    // Past the list's end nothing fits any more.
+    if list.len() < at {
+        return at;
+    }
     match p {
         Piece::Gap(_) => at,
         Piece::Row(kind, e) => append_row(list, at, kind, &s[i..e]),
