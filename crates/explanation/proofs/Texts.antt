@@ -1,16 +1,18 @@
--- Laws on what is written of a row, and of the rows after it.
-use mathlib.Core.Path.{◌≡◌, refl, ap, ◌∙◌, sym, subst}
+-- Laws on what is written of a row, and of the rows that a reader shows.
+use mathlib.Core.Path.{◌≡◌, refl, ap, ◌∙◌, sym}
 use mathlib.Core.Bool.{Bool, true, false}
 use mathlib.Core.List.{List, [], ◌∷◌, ◌++◌}
-use Prim.Native.Nat.{ℕ, suc, ◌+◌, ◌/◌, ◌%◌, ◌≤◌}
+use Prim.Native.Nat.{ℕ, suc, ◌+◌, ◌-◌, ◌/◌, ◌%◌, ◌≤◌}
 use native.Mathlib.Omega.{arith}
-use lib.ListN.{length, take, length-append}
-use Rattle.token_list.specs.Byte.{bytes, LF}
+use native.Mathlib.Decide.{dec_le}
+use lib.ListN.{length, get_or, take, drop, length-take, length-drop, drop_of_length-le}
+use lib.Seq.{slice}
+use Rattle.std.specs.Prelude.{Option, Some, None, unwrap_or, is_some}
+use Rattle.token_list.specs.Byte.{bytes}
 use Rattle.token_list.specs.Text.{printable}
 use Rattle.token_list.specs.Row.{Lines, tail, line, lines}
-use Rattle.token_list.specs.Reader.{onward, GoesOn}
-use Rattle.token_list.specs.declared.check.Cursor.{Cursor}
-use Rattle.token_list.proofs.Lines.{joined as joined_rows, joined_lines}
+use Rattle.token_list.specs.Reader.{row_bytes, bytes_from, shown_of, Shows}
+use Rattle.token_list.proofs.Texts.{drop_of_take}
 use Rattle.output.specs.Writes.{Writes}
 use Rattle.output.specs.declared.writer.Writer.{Writer}
 use Rattle.output.proofs.Writers.{then}
@@ -60,17 +62,41 @@ module _ (p c : ℕ) where
       → near_rows p c n bs ≡ near_rows p c m cs
   near_passed i n m h e k g = let l : m ≡ suc n = omega arith in rw (e, l, ← k, ← h)
 
--- the row after the first of a list starts within it
-pub went_within : (s : List ℕ) {d : Cursor} → GoesOn s (record { at = 0; row = 0 }) d → d.at ≤ length s
-went_within s {d} went = go (lines s) refl
-  where
-    go : (ls : Lines) → lines s ≡ ls → d.at ≤ length s
-    go ls e =
-        subst (λ (x : Cursor). x.at ≤ length s) (sym (went.answer ∙ ap (onward (record { at = 0; row = 0 })) e))
-        (within ls (ap length (sym (ap joined_rows e) ∙ joined_lines s)))
-      where
-        within : (ls : Lines) → length (joined_rows ls) ≡ length s
-            → (onward (record { at = 0; row = 0 }) ls).at ≤ length s
-        within (tail []) h = omega arith
-        within (tail (b ∷ bs)) h = omega (arith, h)
-        within (line l ls) h = omega (arith, h, length-append l (LF ∷ joined_rows ls))
+-- ## The rows that a reader shows
+
+-- a row that is shown is the first of those from its offset on
+pub record FirstRow (s : List ℕ) (i a e : ℕ) : Type 0 where
+  pub order : a ≤ e
+  pub within : e ≤ length s
+  pub here : bytes_from s i ≡ take (e - a) (drop a s) ∷ drop 1 (bytes_from s i)
+
+module _ {s : List ℕ} {i a e : ℕ} (shows : Shows s i (Some (a, e))) where
+  stands : (l : List ℕ) (ls : List (List ℕ)) → bytes_from s i ≡ l ∷ ls
+      → ◌≡◌ {A = Option (ℕ × ℕ)} (Some (a, e)) (Some (i, i + length l)) → i ≤ length s → FirstRow s i a e
+  stands l ls f q h =
+      let start : a ≡ i = ap (λ (r : Option (ℕ × ℕ)). (unwrap_or r (a, e)).0) q in
+      let end : e ≡ i + length l = ap (λ (r : Option (ℕ × ℕ)). (unwrap_or r (a, e)).1) q in
+      let same : slice a e s ∷ [] ≡ l ∷ [] = shows.bytes ∙ ap (take 1) f in
+      let bytes : slice a e s ≡ l = ap (λ (t : List (List ℕ)). get_or t 0 []) same in
+      let size : length (slice a e s) ≡ length (take e s) - a = length-drop a (take e s) in
+      record {
+        order = omega (arith, start, end);
+        within = omega (arith, ap length bytes, size, length-take e s, start, end);
+        here = f ∙ ap (λ (x : List ℕ). x ∷ ls) (sym bytes ∙ drop_of_take a e s)
+            ∙ ap (λ (x : List (List ℕ)). take (e - a) (drop a s) ∷ x) (sym (ap (drop 1) f));
+      }
+
+  some_is_none : ◌≡◌ {A = Option (ℕ × ℕ)} (Some (a, e)) None → ⊥
+  some_is_none q = let none : false ≡ true = sym (ap (λ (r : Option (ℕ × ℕ)). is_some r) q) in cc
+
+  pub first_shown : FirstRow s i a e
+  first_shown = go (lines (drop i s)) refl (dec_le (length s) i)
+    where
+      go : (ls : Lines) → lines (drop i s) ≡ ls → Dec (length s ≤ i) → FirstRow s i a e
+      go ls f (yes h) = absurd (some_is_none (shows.answer
+          ∙ ap (λ (t : List ℕ). shown_of i (lines t)) (drop_of_length-le s {i = i} h)))
+      go (tail []) f (no h) = absurd (some_is_none (shows.answer ∙ ap (shown_of i) f))
+      go (tail (b ∷ bs)) f (no h) =
+          stands (b ∷ bs) [] (ap row_bytes f) (shows.answer ∙ ap (shown_of i) f) (omega arith)
+      go (line l ls) f (no h) =
+          stands l (row_bytes ls) (ap row_bytes f) (shows.answer ∙ ap (shown_of i) f) (omega arith)

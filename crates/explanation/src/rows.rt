@@ -2,7 +2,7 @@
 ghost use Rattle.std.specs.Prelude.{◌≡◌, length};
 ghost use Rattle.std.specs.Iterator.{YieldsFirstRef, item_count};
 ghost use Rattle.token_list.specs.Layout.{first_row};
-ghost use Rattle.token_list.specs.Reader.{bytes_from};
+ghost use Rattle.token_list.specs.Reader.{bytes_from, AtRow, cursor_of};
 ghost use Rattle.output.specs.Writes.{Writes};
 ghost use Rattle.explanation.specs.Explanation.{role_line, role_rows, sign, near, near_line, near_rows};
 
@@ -11,7 +11,7 @@ use crate::words::put_role;
 use output::writer::Writer;
 use token_list::check::END;
 use token_list::layout::first_row;
-use token_list::reader::{row_after, row_from};
+use token_list::reader::{Reader, next, peek};
 
 // A well-formed row has at most so many bytes.
 pub const MAX_ROW_BYTES: usize = 259;
@@ -19,30 +19,39 @@ pub const MAX_ROW_BYTES: usize = 259;
 // How many bytes of a row are shown where a list is refused.
 pub const CUT: usize = 255;
 
-// The rows of what is left of a list, right or not, each without its LF.
+// The rows of a list from a reader's on, right or not, each without its LF.
 #[derive(Drop)]
-struct Rows<'a>(&'a [u8]);
+struct Rows<'a> {
+    reader: Reader<'a>,
+    ghost counted: { AtRow reader.list.now (cursor_of reader) },
+}
 
 impl<'a> Iterator for Rows<'a> {
     type Item = &'a [u8];
 
-    ghost next_gives = { YieldsFirstRef (λ s. bytes_from s.0.now 0) };
+    ghost next_gives = { YieldsFirstRef (λ s. bytes_from s.reader.list.now s.reader.at) };
 
-    ghost remaining = { item_count (λ s. bytes_from s.0.now 0) };
+    ghost remaining = { item_count (λ s. bytes_from s.reader.list.now s.reader.at) };
 
     fn next(&mut self) -> Option<&'a [u8]> {
-        let (start, end) = row_from(self.0, 0)?;
-        let row = &self.0[start..end];
-        self.0 = &self.0[row_after(self.0, 0, 0).at..];
+        let (start, end) = peek(self.reader)?;
+        let row = &self.reader.list[start..end];
+        self.reader = next(self.reader);
         Some(row)
     }
 }
 
 // Those of a whole list.
 fn rows_of(list: &[u8]) -> Rows<'_>
-    ensures { bytes_from result.0.now 0 ≡ bytes_from list.now (first_row list.now) }
+    ensures { bytes_from result.reader.list.now result.reader.at ≡ bytes_from list.now (first_row list.now) }
 {
-    Rows(&list[first_row(list).min(list.len())..])
+    Rows {
+        reader: Reader {
+            list,
+            row: 0,
+            at: first_row(list),
+        },
+    }
 }
 
 // How many rows begin in the list.

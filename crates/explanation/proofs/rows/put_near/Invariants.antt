@@ -6,4 +6,4 @@ use Rattle.explanation.proofs.rows.put_near.Given as goal
 
 abbrev pub invariant-loop-n : goal.invariant-loop-n
 invariant-loop-n l = Going l.initial.w l.w (near_rows l.place l.count 0 (bytes_from l.list (first_row l.list)))
-    (near_rows l.place l.count l.n-iterator.count (bytes_from l.n-iterator.iter.0.now 0))
+    (near_rows l.place l.count l.n-iterator.count (bytes_from l.n-iterator.iter.reader.list.now l.n-iterator.iter.reader.at))

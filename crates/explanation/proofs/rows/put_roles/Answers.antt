@@ -19,7 +19,7 @@ loop-n-preserved c = let next = c.in-Some.ensures.steps in
 
 pub returns : goal.returns
 returns c = let at = c.loop-n.n-iterator in
-    let none : role_rows at.count (iter_rest at.iter.b) (bytes_from at.iter.a.0.now 0) ≡ [] =
+    let none : role_rows at.count (iter_rest at.iter.b) (bytes_from at.iter.a.reader.list.now at.iter.a.reader.at) ≡ [] =
     elim c.in-None.ensures.steps.0 [
       | inl u ↦ roles_end _ _ u.1.0
       | inr u ↦ roles_none _ _ _ u.1.0

@@ -7,4 +7,4 @@ use Rattle.explanation.proofs.rows.put_roles.Given as goal
 
 abbrev pub invariant-loop-n : goal.invariant-loop-n
 invariant-loop-n l = Going l.initial.w l.w (role_rows 0 l.roles (bytes_from l.list (first_row l.list)))
-    (role_rows l.n-iterator.count (iter_rest l.n-iterator.iter.b) (bytes_from l.n-iterator.iter.a.0.now 0))
+    (role_rows l.n-iterator.count (iter_rest l.n-iterator.iter.b) (bytes_from l.n-iterator.iter.a.reader.list.now l.n-iterator.iter.a.reader.at))
