@@ -17,7 +17,7 @@ use Rattle.reading.specs.Declaration.{Parameter}
 use Rattle.writing.specs.Generics.{parameter_rows, parted}
 use Rattle.writing.proofs.Written.{parted_append}
 use Rattle.generate.specs.Contract.{Appended, NameEnd, comma}
-use Rattle.generate.specs.declared.stream_builder.StreamBuilder.{StreamBuilder}
+use Rattle.generate.specs.declared.stream_builder.ListBuilder.{ListBuilder}
 use Rattle.generate.proofs.Builds.{then}
 
 no_names : (t : List ℕ) (i : ℕ) → length t ≤ i → names_of (drop i t) ≡ []
@@ -44,21 +44,21 @@ parted_one true p = sym (append-nil (parameter_rows p))
 parted_one false p = ap (λ (rs : List Row). punct COMMA ∷ rs) (sym (append-nil (parameter_rows p)))
 
 -- one parameter behind its `,`
-pub parted_off : {a b c : StreamBuilder} (first : Bool) (p : Parameter) → Appended a b (comma first)
+pub parted_off : {a b c : ListBuilder} (first : Bool) (p : Parameter) → Appended a b (comma first)
     → Appended b c (parameter_rows p) → Appended a c (parted first (p ∷ []))
 parted_off {a} {c = c} first p x y = subst (Appended a c) (parted_one first p) (then x y)
 
 -- ## Parameters one after the other
 
 -- of all parameters some were added, with these rows, and the others are to follow
-pub record Adding (all : List Parameter) (first : Bool) (b r : StreamBuilder) (leading : Bool)
+pub record Adding (all : List Parameter) (first : Bool) (b r : ListBuilder) (leading : Bool)
     (others : List Parameter) : Type 0 where
   pub rows : List Row
   pub appended : Appended b r rows
   pub rest : parted first all ≡ rows ++ parted leading others
 
-module _ {all : List Parameter} {first leading : Bool} {b c : StreamBuilder} where
-  pub adding-more : {p : Parameter} {others : List Parameter} {d : StreamBuilder}
+module _ {all : List Parameter} {first leading : Bool} {b c : ListBuilder} where
+  pub adding-more : {p : Parameter} {others : List Parameter} {d : ListBuilder}
       → Adding all first b c leading (p ∷ others) → Appended c d (parted leading (p ∷ []))
       → Adding all first b d false others
   adding-more {p} {others} a q =
@@ -71,6 +71,6 @@ module _ {all : List Parameter} {first leading : Bool} {b c : StreamBuilder} whe
       }
 
   -- all others at once
-  pub adding_last : {others : List Parameter} {d : StreamBuilder} → Adding all first b c leading others
+  pub adding_last : {others : List Parameter} {d : ListBuilder} → Adding all first b c leading others
       → Appended c d (parted leading others) → Appended b d (parted first all)
   adding_last {d = d} a q = subst (Appended b d) (sym a.rest) (then a.appended q)

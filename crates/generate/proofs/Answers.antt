@@ -37,7 +37,7 @@ use Rattle.writing.proofs.Refusals.{write_refusal, write_read}
 use Rattle.writing.proofs.Lengths.{type_fits, additional_fits, added_most}
 use Rattle.generate.specs.Contract.{Appended, Built, shaped, goes_out, parameters_by, writer, Answered}
 use Rattle.generate.specs.Contract.{Reported}
-use Rattle.generate.specs.declared.stream_builder.StreamBuilder.{StreamBuilder}
+use Rattle.generate.specs.declared.stream_builder.ListBuilder.{ListBuilder}
 use Rattle.generate.proofs.Builds.{then, further_built}
 
 -- ## Between the angles
@@ -58,7 +58,7 @@ shaped-sent : (names : Bool) (ps : List Parameter)
 shaped-sent names [] = refl
 shaped-sent names (p ∷ ps) = ap (λ (qs : List Parameter). goes_out names p ∷ qs) (shaped-sent names ps)
 
-pub angled : {b c d e r : StreamBuilder} {first : Bool} (names : Bool) (ls ts : List ℕ)
+pub angled : {b c d e r : ListBuilder} {first : Bool} (names : Bool) (ls ts : List ℕ)
     (ps : List Parameter) → first ≡ eqb (length ls) 0 → Appended b c (punct LESS ∷ [])
     → Appended c d (parted true (map added_lifetime (names_of ls)))
     → Appended d e (parted first (map (goes_out names) ps ++ map added_type (names_of ts)))
@@ -78,18 +78,18 @@ angled {b} {r = r} {first = first} names ls ts ps f less lifetimes others greate
 -- ## Generics
 
 -- none stand there
-pub none_put : {v w : Bool} {k : List ℕ} {r : StreamBuilder} (f : List Parameter → List Parameter) {g : Generics}
-    → v ≡ w → g ≡ without → Built v k r [] → Put k r.out.now 0 r.bytes (list_of w (generics_rows f g))
+pub none_put : {v w : Bool} {k : List ℕ} {r : ListBuilder} (f : List Parameter → List Parameter) {g : Generics}
+    → v ≡ w → g ≡ without → Built v k r [] → Put k r.out.now 0 r.built.bytes (list_of w (generics_rows f g))
 none_put {v} {k = k} {r} f {g} w e h =
-    subst (λ (x : Bool). Put k r.out.now 0 r.bytes (list_of x (generics_rows f g))) w
-    (subst (λ (g : Generics). Put k r.out.now 0 r.bytes (list_of v (generics_rows f g))) (sym e) h.put)
+    subst (λ (x : Bool). Put k r.out.now 0 r.built.bytes (list_of x (generics_rows f g))) w
+    (subst (λ (g : Generics). Put k r.out.now 0 r.built.bytes (list_of v (generics_rows f g))) (sym e) h.put)
 
-pub some_put : {v w : Bool} {k : List ℕ} {b r : StreamBuilder} (f : List Parameter → List Parameter)
+pub some_put : {v w : Bool} {k : List ℕ} {b r : ListBuilder} (f : List Parameter → List Parameter)
     {g : Generics} (ps : List Parameter) → v ≡ w → g ≡ Generics.angled ps → Built v k b []
-    → Appended b r (angled_rows (f (map sent_parameter ps))) → Put k r.out.now 0 r.bytes (list_of w (generics_rows f g))
+    → Appended b r (angled_rows (f (map sent_parameter ps))) → Put k r.out.now 0 r.built.bytes (list_of w (generics_rows f g))
 some_put {v} {k = k} {r = r} f {g} ps w e h a =
-    subst (λ (x : Bool). Put k r.out.now 0 r.bytes (list_of x (generics_rows f g))) w
-    (subst (λ (g : Generics). Put k r.out.now 0 r.bytes (list_of v (generics_rows f g))) (sym e)
+    subst (λ (x : Bool). Put k r.out.now 0 r.built.bytes (list_of x (generics_rows f g))) w
+    (subst (λ (g : Generics). Put k r.out.now 0 r.built.bytes (list_of v (generics_rows f g))) (sym e)
     (further_built h a).put)
 
 -- ## A declaration that was read

@@ -9,10 +9,10 @@ use Rattle.output.specs.Contract.{FAR}
 use Rattle.writing.specs.Rows.{run_rows}
 use Rattle.writing.specs.Generics.{constraints}
 use Rattle.generate.specs.Contract.{Appended, constrained}
-use Rattle.generate.specs.declared.stream_builder.StreamBuilder.{StreamBuilder}
+use Rattle.generate.specs.declared.stream_builder.ListBuilder.{ListBuilder}
 use Rattle.generate.proofs.Builds.{unchanged}
 
-module _ {b r : StreamBuilder} where
+module _ {b r : ListBuilder} where
   pub always : {x : Bool} (ts : Trees) → x ≡ true → Appended b r (constraints ts) → Appended b r (constrained x ts)
   always ts e h = rw e h
 
@@ -24,7 +24,7 @@ module _ {b r : StreamBuilder} where
   some (group d ts us) e n h = rw e h
 
 -- an empty one
-pub none : {b : StreamBuilder} {x : Bool} (ts : Trees) → x ≡ false → length (run_rows ts) ≤ 0
+pub none : {b : ListBuilder} {x : Bool} (ts : Trees) → x ≡ false → length (run_rows ts) ≤ 0
     → length b.out.now < FAR → Appended b b (constrained x ts)
 none end e n h = rw e (unchanged h)
 none (leaf q us) e n h = absurd (omega arith)

@@ -24,7 +24,7 @@ use Rattle.writing.specs.Rows.{run_rows, sent_row, sent}
 use Rattle.writing.proofs.Copied.{Copied, part_of}
 use Rattle.writing.proofs.Sent.{sent-rows, sent-written}
 use Rattle.generate.specs.Contract.{row, sent_mark_lem, Appended, between, Part, Extended, RunIn}
-use Rattle.generate.specs.declared.stream_builder.StreamBuilder.{StreamBuilder}
+use Rattle.generate.specs.declared.stream_builder.ListBuilder.{ListBuilder}
 use Rattle.generate.proofs.Builds.{then}
 
 -- ## The rows between two cursors
@@ -38,7 +38,7 @@ sent_length {s} {from} {to} p = length-map (between s from to) sent_row ∙ betw
 
 module _ {s : List ℕ} {from to : Cursor} (p : Part s from to) (ts : Trees) (e : between s from to ≡ run_rows ts) where
   -- the run as it goes out
-  pub run-sent : {b r : StreamBuilder} → Extended s from to b r → Appended b r (run_rows (sent ts))
+  pub run-sent : {b r : ListBuilder} → Extended s from to b r → Appended b r (run_rows (sent ts))
   run-sent {b} {r} h =
       subst (λ (rs : List Row). Appended b r rs) (ap (map sent_row) e ∙ sym (sent-rows ts)) h
 
@@ -89,14 +89,14 @@ take_next R n x ys e h =
     ∙ take-append-add (take n R) (x ∷ ys) 1
 
 -- the rows before row `n`, which starts at `at`, are copied
-pub record Copying (s : List ℕ) (from to : Cursor) (b r : StreamBuilder) (at n : ℕ) : Type 0 where
+pub record Copying (s : List ℕ) (from to : Cursor) (b r : ListBuilder) (at n : ℕ) : Type 0 where
   pub started : from.row ≤ n
   pub ended : n ≤ to.row
   pub right_rows : RightRows s at
   pub rest : rows_at s at ≡ drop (n - from.row) (rows_at s from.at)
   pub appended : Appended b r (map sent_row (take (n - from.row) (rows_at s from.at)))
 
-module _ {s : List ℕ} {from to : Cursor} (p : Part s from to) {b r : StreamBuilder} {at n : ℕ}
+module _ {s : List ℕ} {from to : Cursor} (p : Part s from to) {b r : ListBuilder} {at n : ℕ}
     (c : Copying s from to b r at n) where
   pub copying_within : n < to.row → at < length s
   copying_within h = go (leb (length s) at) refl
@@ -113,7 +113,7 @@ module _ {s : List ℕ} {from to : Cursor} (p : Part s from to) {b r : StreamBui
           ))
       go false e = leb-false (length s) at e
 
-  pub copying_next : {t : Token} → TokenAt s at t → n < to.row → {d : StreamBuilder} {joint : Bool}
+  pub copying_next : {t : Token} → TokenAt s at t → n < to.row → {d : ListBuilder} {joint : Bool}
       → joint ≡ sent_mark_lem t.kind t.joint t.byte
       → Appended r d (row t.kind joint (take (t.end - t.start) (drop t.start s)) ∷ [])
       → Copying s from to b d t.next (n + 1)

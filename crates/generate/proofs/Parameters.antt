@@ -35,7 +35,7 @@ use Rattle.writing.proofs.Read as read
 use Rattle.writing.proofs.Copied.{copied}
 use Rattle.generate.specs.Contract.{Appended, constrained, constraints_of, is_const, RunIn, ParameterIn}
 use Rattle.generate.specs.Contract.{name_rows, const_rows, goes_out}
-use Rattle.generate.specs.declared.stream_builder.StreamBuilder.{StreamBuilder}
+use Rattle.generate.specs.declared.stream_builder.ListBuilder.{ListBuilder}
 use Rattle.generate.proofs.Builds.{then}
 use Rattle.generate.proofs.Copying.{run-between}
 use Rattle.generate.proofs.Added.{Adding, adding-more, adding_last}
@@ -51,7 +51,7 @@ parts (lifetime n b) = refl
 parts (constant n t) = refl
 parts (type n b d) = refl
 
-pub by_parts : {b c d r : StreamBuilder} {s : List ℕ} {p : ParameterAt} {const : Bool}
+pub by_parts : {b c d r : ListBuilder} {s : List ℕ} {p : ParameterAt} {const : Bool}
     {a : Parameter} → ParameterIn s p a → const ≡ is_const p.kind → Appended b c (const_rows const)
     → Appended c d (name_rows a) → Appended d r (constrained const (sent (bound_of_lem a)))
     → Appended b r (parameter_rows (sent_parameter a))
@@ -67,7 +67,7 @@ named-sent (lifetime n b) = refl
 named-sent (constant n t) = refl
 named-sent (type n b d) = refl
 
-module _ {b r : StreamBuilder} {names : Bool} (a : Parameter) where
+module _ {b r : ListBuilder} {names : Bool} (a : Parameter) where
   pub as_name : names ≡ true → Appended b r (name_rows a) → Appended b r (parameter_rows (goes_out names a))
   as_name e h = rw e (subst (λ (p : Parameter). Appended b r (parameter_rows p)) (named-sent a) h)
 
@@ -120,20 +120,20 @@ module _ {s : List ℕ} {n : ℕ} (passes : check s ≡ passed n) where
 
 -- of the parameters ps that are read from a cursor on: so many were added, and the others are read at c
 pub record Rest (f : Parameter → Parameter) (extra : List Parameter) (angle : ℕ) (s : List ℕ) (c : Cursor)
-    (first : Bool) (b r : StreamBuilder) (leading : Bool) (ps : List Parameter) : Type 0 where
+    (first : Bool) (b r : ListBuilder) (leading : Bool) (ps : List Parameter) : Type 0 where
   pub others : List Parameter
   pub inside : InsideAt (every (parameter angle)) s c others
   pub added : Adding (map f ps ++ extra) first b r leading (map f others ++ extra)
 
 -- from one turn to the next
 pub record Turned (f : Parameter → Parameter) (extra : List Parameter) (angle : ℕ) (s : List ℕ) (from c : Cursor)
-    (first : Bool) (b r : StreamBuilder) (leading : Bool) : Type 0 where
+    (first : Bool) (b r : ListBuilder) (leading : Bool) : Type 0 where
   pub in_list : InList s c
   pub rest : (ps : List Parameter) → InsideAt (every (parameter angle)) s from ps
       → Rest f extra angle s c first b r leading ps
 
 module _ {f : Parameter → Parameter} {extra : List Parameter} {angle : ℕ} {s : List ℕ} {from c : Cursor} {first : Bool}
-    {b r : StreamBuilder} {roles : List ℕ} {leading : Bool} (t : Turned f extra angle s from c first b r leading) where
+    {b r : ListBuilder} {roles : List ℕ} {leading : Bool} (t : Turned f extra angle s from c first b r leading) where
   -- one parameter more, which the reader's answer tells
   module _ {roles₁ : List ℕ} (p : ParameterAt)
       (w : Meets s c roles roles₁ (parameter_shown s (parameter_name_at (point s c)) (Ok (One p))) (on p.next)
@@ -159,7 +159,7 @@ module _ {f : Parameter → Parameter} {extra : List Parameter} {angle : ℕ} {s
         let m = (meets_tells w).4 in
         (m.0, parameter_in passes (parameter_name_at (point s c)) p m.0 n.1 (m.2, m.3, m.4))
 
-    pub turned_more : {n : ℕ} {d : StreamBuilder} → check s ≡ passed n
+    pub turned_more : {n : ℕ} {d : ListBuilder} → check s ≡ passed n
         → ((a : Parameter) → ParameterIn s p a → Appended r d (parted leading (f a ∷ [])))
         → Turned f extra angle s from p.next first b d false
     turned_more passes add =
@@ -178,7 +178,7 @@ module _ {f : Parameter → Parameter} {extra : List Parameter} {angle : ℕ} {s
         }
 
   -- the closing `>`, and what is added then; a refusal does not stand there
-  pub turned_done : {roles₁ : List ℕ} {d : StreamBuilder} (x : Result (Next ParameterAt Cursor) Refusal)
+  pub turned_done : {roles₁ : List ℕ} {d : ListBuilder} (x : Result (Next ParameterAt Cursor) Refusal)
       → Meets s c roles roles₁ (parameter_shown s (parameter_name_at (point s c)) x) (parameter_said x)
       (parameter angle c.row (stream s c))
       → ((p : ParameterAt) → x ≡ Ok (One p) → ⊥) → Appended r d (parted leading extra)

@@ -1,4 +1,4 @@
--- What ties a StreamBuilder's counts and the output to the rows that were added.
+-- What ties a ListBuilder's counts and the output to the rows that were added.
 use Rattle.std.specs.Prelude.{◌≡◌, List, [], ◌∷◌, ◌++◌, map, Bool, true, false, cond, ◌&&◌, ◌||◌, ℕ, ◌+◌, ◌-◌, ◌≤◌, ◌<◌}
 use Rattle.std.specs.Prelude.{eqb, length, take, drop, Result}
 use Rattle.std.proofs.Math.Seq.{slice}
@@ -31,7 +31,7 @@ use Rattle.parse.specs.declared.runs.Run.{Run}
 use Rattle.parse.specs.declared.generics.ParameterAt.{ParameterAt}
 use Rattle.generate.specs.declared.generics.Form.{Form}
 use Rattle.generate.specs.declared.parameter.ConstraintsAt.{ConstraintsAt}
-use Rattle.generate.specs.declared.stream_builder.StreamBuilder.{StreamBuilder}
+use Rattle.generate.specs.declared.stream_builder.ListBuilder.{ListBuilder}
 use Rattle.generate.specs.declared.names.Gathered.{Gathered}
 
 abbrev pub row : ℕ → Bool → List ℕ → Row
@@ -43,17 +43,17 @@ sent_mark_lem k j b = j || eqb k PUNCT && eqb b QUOTE
 
 -- an output was `before`: the list of the rows rs, with marks or without, stands from its start on, as far as there is
 -- room
-pub record Built (m : Bool) (before : List ℕ) (r : StreamBuilder) (rs : List Row) : Type 0 where
-  pub marked : r.marked ≡ m
-  pub rows : r.rows ≡ further 0 (length rs)
-  pub put : Put before r.out.now 0 r.bytes (list_of m rs)
+pub record Built (m : Bool) (before : List ℕ) (r : ListBuilder) (rs : List Row) : Type 0 where
+  pub marked : r.built.marked ≡ m
+  pub rows : r.built.rows ≡ further 0 (length rs)
+  pub put : Put before r.out.now 0 r.built.bytes (list_of m rs)
 
 -- the rows rs stand behind those of the builder b, in the same output
-pub record Appended (b r : StreamBuilder) (rs : List Row) : Type 0 where
+pub record Appended (b r : ListBuilder) (rs : List Row) : Type 0 where
   pub same_output : r.out.ghost_name ≡ b.out.ghost_name
-  pub marked : r.marked ≡ b.marked
-  pub rows : r.rows ≡ further b.rows (length rs)
-  pub put : Put b.out.now r.out.now b.bytes r.bytes (written b.marked rs)
+  pub marked : r.built.marked ≡ b.built.marked
+  pub rows : r.built.rows ≡ further b.built.rows (length rs)
+  pub put : Put b.out.now r.out.now b.built.bytes r.built.bytes (written b.built.marked rs)
 
 -- a `,`, but not before the first
 abbrev pub comma : Bool → List Row
@@ -75,7 +75,7 @@ pub record Part (s : List ℕ) (from to : Cursor) : Type 0 where
   pub right_rows : RightRows s from.at
 
 -- they are appended as they go out
-abbrev pub Extended : (s : List ℕ) (from to : Cursor) (b r : StreamBuilder) → Type 0
+abbrev pub Extended : (s : List ℕ) (from to : Cursor) (b r : ListBuilder) → Type 0
 Extended s from to b r = Appended b r (map sent_row (between s from to))
 
 -- the first name of the text t from `from` on ends at e; the next ones begin after the LF there
@@ -90,7 +90,7 @@ added true t = added_lifetime t
 added false t = added_type t
 
 -- whichever run the rows between two cursors are, the rows that f makes of it as it goes out are appended
-abbrev pub RunWritten : (s : List ℕ) (from to : Cursor) (b r : StreamBuilder) → (Trees → List Row) → Type 0
+abbrev pub RunWritten : (s : List ℕ) (from to : Cursor) (b r : ListBuilder) → (Trees → List Row) → Type 0
 RunWritten s from to b r f = (ts : Trees) → between s from to ≡ run_rows ts → Appended b r (f (sent ts))
 
 -- `:` and a run: always, as a const has it, or where it is not empty

@@ -20,7 +20,7 @@ ghost use Rattle.generate.specs.Contract.{Answered, Reported};
 
 use crate::names::{add_names, right_names};
 use crate::parameter::add_parameter;
-use crate::stream_builder::StreamBuilder;
+use crate::stream_builder::ListBuilder;
 use output::written::put_answer;
 use parse::generics::parameter;
 use parse::item::item;
@@ -41,7 +41,7 @@ struct Form<'a> {
 
 // The parameters that are read from `from` on, then the added types; `angle` is the row of the `<`. No roles are kept.
 fn add_parameters(
-    b: &mut StreamBuilder,
+    b: &mut ListBuilder,
     s: &[u8],
     from: Cursor,
     angle: usize,
@@ -65,7 +65,7 @@ fn add_parameters(
 }
 
 // All parameters between `<` and `>`: added lifetimes first, added types last.
-fn put_angled(b: &mut StreamBuilder, s: &[u8], from: Cursor, angle: usize, form: Form)
+fn put_angled(b: &mut ListBuilder, s: &[u8], from: Cursor, angle: usize, form: Form)
     requires by_index { (n : ℕ) × (list.check s.now ≡ list.passed n) }
     requires in_list { InList s.now from }
     ensures { (ps : List Parameter) → InsideAt (every (parameter angle)) s.now from ps →
@@ -84,12 +84,12 @@ fn put_generics(s: &[u8], c: Cursor, form: Form, out: &mut [u8]) -> usize
     ensures { (g : Generics) → InsideAt generics s.now c g →
         Put out.old out.new 0 result (list_of (marked s.now) (generics_rows (parameters_in form.entry) g)) }
 {
-    let mut b = StreamBuilder::new(out, is_marked(s));
+    let mut b = ListBuilder::new(out, is_marked(s));
     if stands_punct(s, c, b'<') {
         let inside = past(s, c, punct_at(s, c, b'<'));
         put_angled(&mut b, s, inside, c.row, form);
     }
-    b.bytes
+    b.built.bytes
 }
 
 // Measures the list, and writes it where the output is long enough.

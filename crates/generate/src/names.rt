@@ -5,7 +5,7 @@ ghost use Rattle.output.specs.Contract.{Put};
 ghost use Rattle.writing.specs.Names.{names_of, right_names, name_line};
 ghost use Rattle.generate.specs.Contract.{NameEnd, Appended, added, GatheredAs};
 
-use crate::stream_builder::StreamBuilder;
+use crate::stream_builder::ListBuilder;
 use output::writer::Writer;
 use token_list::layout::MAX_TEXT;
 use token_list::row::is_plain_name;
@@ -40,7 +40,7 @@ pub fn right_names(text: &[u8]) -> bool
 }
 
 // A name, as a lifetime or a type without bounds, behind a `,`, the first parameter apart.
-fn add_name(b: &mut StreamBuilder, name: &[u8], lifetime: bool, first: bool)
+fn add_name(b: &mut ListBuilder, name: &[u8], lifetime: bool, first: bool)
     ensures { Appended b.old b.new (parted first (added lifetime name.now ∷ [])) }
 {
     b.part(first);
@@ -52,7 +52,7 @@ fn add_name(b: &mut StreamBuilder, name: &[u8], lifetime: bool, first: bool)
 }
 
 // All names of a text.
-pub fn add_names(b: &mut StreamBuilder, text: &[u8], lifetimes: bool, first: bool)
+pub fn add_names(b: &mut ListBuilder, text: &[u8], lifetimes: bool, first: bool)
     ensures { Appended b.old b.new (parted first (map (added lifetimes) (names_of text.now))) }
 {
     let mut leading = first;

@@ -5,7 +5,7 @@ ghost use Rattle.writing.specs.Generics.{parameter_rows, sent_parameter, parted}
 ghost use Rattle.generate.specs.Contract.{Appended, Part, RunWritten, constrained, constraints_of, is_const};
 ghost use Rattle.generate.specs.Contract.{ParameterIn, NameIn, name_rows, goes_out};
 
-use crate::stream_builder::StreamBuilder;
+use crate::stream_builder::ListBuilder;
 use parse::generics::{ParameterAt, ParameterKind, RunPart, is_lifetime};
 use parse::runs::Run;
 use token_list::check::Cursor;
@@ -19,7 +19,7 @@ pub struct ConstraintsAt {
 }
 
 // `:` and the run of the list s, where it is not empty, or always.
-fn put_constraints(b: &mut StreamBuilder, s: &[u8], at: ConstraintsAt, always: bool)
+fn put_constraints(b: &mut ListBuilder, s: &[u8], at: ConstraintsAt, always: bool)
     requires { Part s.now at.from at.to }
     ensures { RunWritten s.now at.from at.to b.old b.new (constrained always) }
 {
@@ -53,7 +53,7 @@ fn is_const(kind: ParameterKind) -> bool
 }
 
 // A parameter's name, with the `'` of a lifetime.
-fn append_name(b: &mut StreamBuilder, s: &[u8], kind: ParameterKind, name: Token)
+fn append_name(b: &mut ListBuilder, s: &[u8], kind: ParameterKind, name: Token)
     requires { (a : Parameter) × NameIn s.now kind name a }
     ensures { (a : Parameter) → NameIn s.now kind name a → Appended b.old b.new (name_rows a) }
 {
@@ -65,7 +65,7 @@ fn append_name(b: &mut StreamBuilder, s: &[u8], kind: ParameterKind, name: Token
 }
 
 // virtue's Generic::append_to_result_with_constraints
-fn append_to_result_with_constraints(b: &mut StreamBuilder, s: &[u8], p: ParameterAt)
+fn append_to_result_with_constraints(b: &mut ListBuilder, s: &[u8], p: ParameterAt)
     requires { (a : Parameter) × ParameterIn s.now p a }
     ensures { (a : Parameter) → ParameterIn s.now p a →
         Appended b.old b.new (parameter_rows (sent_parameter a)) }
@@ -79,7 +79,7 @@ fn append_to_result_with_constraints(b: &mut StreamBuilder, s: &[u8], p: Paramet
 }
 
 // A parameter, or its name alone, behind a `,`, the first parameter apart.
-pub fn add_parameter(b: &mut StreamBuilder, s: &[u8], p: ParameterAt, names: bool, first: bool)
+pub fn add_parameter(b: &mut ListBuilder, s: &[u8], p: ParameterAt, names: bool, first: bool)
     requires { (a : Parameter) × ParameterIn s.now p a }
     ensures { (a : Parameter) → ParameterIn s.now p a →
         Appended b.old b.new (parted first (goes_out names a ∷ [])) }

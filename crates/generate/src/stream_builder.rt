@@ -14,14 +14,19 @@ use token_list::check::Cursor;
 use token_list::layout::is_marked;
 use token_list::stream::{Token, token_at};
 
-// The output, how many rows and bytes its list has, where both stop at a number past every output; and whether its
-// rows have marks.
-#[derive(Drop)]
-pub struct StreamBuilder<'a> {
-    pub out: &'a mut [u8],
+// How many rows and bytes the list has, where both stop at a number past every output; and whether its rows have marks.
+#[derive(Clone, Copy, Debug, PartialEq, Eq)]
+pub struct StreamBuilder {
     pub rows: usize,
     pub bytes: usize,
     pub marked: bool,
+}
+
+// The output that the list goes to, and what is built of it. No copy of it is to be had, since it holds the output.
+#[derive(Drop)]
+pub struct ListBuilder<'a> {
+    pub out: &'a mut [u8],
+    pub built: StreamBuilder,
 }
 
 // `n` rows more.
@@ -70,19 +75,21 @@ fn sent_mark(t: Token) -> bool
     t.joint || t.kind == b'p' && t.byte == b'\''
 }
 
-impl<'a> StreamBuilder<'a> {
+impl<'a> ListBuilder<'a> {
     // A list without rows: its line of names.
-    pub fn new(out: &'a mut [u8], marked: bool) -> StreamBuilder<'a>
+    pub fn new(out: &'a mut [u8], marked: bool) -> ListBuilder<'a>
         ensures same_output { result.out.ghost_name ≡ out.entry.ghost_name }
         ensures built { Built marked out.old result [] }
     {
         let mut w = Writer::new(out);
         w.names(marked);
-        StreamBuilder {
+        ListBuilder {
             out: w.out,
-            rows: 0,
-            bytes: w.at,
-            marked,
+            built: StreamBuilder {
+                rows: 0,
+                bytes: w.at,
+                marked,
+            },
         }
     }
 
@@ -92,11 +99,11 @@ impl<'a> StreamBuilder<'a> {
     {
         let mut w = Writer {
             out: self.out,
-            at: self.bytes,
+            at: self.built.bytes,
         };
-        put_row(&mut w, self.marked, kind, joint, text);
-        self.bytes = w.at;
-        self.rows = counted(self.rows, 1);
+        put_row(&mut w, self.built.marked, kind, joint, text);
+        self.built.bytes = w.at;
+        self.built.rows = counted(self.built.rows, 1);
     }
 
     // A punctuation, joint where it is a `'`.
@@ -166,16 +173,16 @@ impl<'a> StreamBuilder<'a> {
         requires { Part s.now from to }
         ensures { Extended s.now from to self.old self.new }
     {
-        if self.marked || is_marked(s) {
+        if self.built.marked || is_marked(s) {
             self.copy_rows(s, from, to);
         } else {
             let mut w = Writer {
                 out: self.out,
-                at: self.bytes,
+                at: self.built.bytes,
             };
             w.bytes(&s[from.at..to.at]);
-            self.bytes = w.at;
-            self.rows = counted(self.rows, to.row - from.row);
+            self.built.bytes = w.at;
+            self.built.rows = counted(self.built.rows, to.row - from.row);
         }
     }
 }

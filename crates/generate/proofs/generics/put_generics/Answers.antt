@@ -21,7 +21,7 @@ returns c = λ g k.
     let f = parameters_in c.args.form in
     let b = c.if-stands_punct.b in
     let done : (b.out.ghost_name ≡ c.new-b.result.out.ghost_name)
-    × Put c.args.out.now b.out.now 0 b.bytes (list_of (marked c.args.s.now) (generics_rows f g)) =
+    × Put c.args.out.now b.out.now 0 b.built.bytes (list_of (marked c.args.s.now) (generics_rows f g)) =
     elim c.if-stands_punct.branch [
       | then-stands_punct w ↦
           let angle = sym c.stands_punct.ensures ∙ w.if-stands_punct.true in

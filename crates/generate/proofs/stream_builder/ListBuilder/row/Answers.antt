@@ -1,7 +1,7 @@
 use native.Mathlib.Omega.{arith}
 use mathlib.Core.Path.{refl}
 use Rattle.output.proofs.Writers.{left_at}
-use Rattle.generate.proofs.stream_builder.StreamBuilder.row.Goals as goal
+use Rattle.generate.proofs.stream_builder.ListBuilder.row.Goals as goal
 
 pub returns : goal.returns
 returns c = record {

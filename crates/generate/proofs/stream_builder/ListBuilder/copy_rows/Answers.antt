@@ -1,5 +1,5 @@
 use Rattle.generate.proofs.Copying.{copying_within, copying_next}
-use Rattle.generate.proofs.stream_builder.StreamBuilder.copy_rows.Goals as goal
+use Rattle.generate.proofs.stream_builder.ListBuilder.copy_rows.Goals as goal
 
 pub token_at-t-requires-clause-at_in_bounds : goal.token_at-t-requires-clause-at_in_bounds
 token_at-t-requires-clause-at_in_bounds c = copying_within c.requires c.loop-row.invariant c.loop-row-test.true

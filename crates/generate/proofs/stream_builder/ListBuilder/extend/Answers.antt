@@ -2,8 +2,8 @@ use mathlib.Core.Path.{refl, sym, ◌∙◌}
 use native.Mathlib.Omega.{arith}
 use Rattle.output.proofs.Writers.{left_at}
 use Rattle.generate.proofs.Copying.{as_part, sent_length}
-use Rattle.generate.proofs.stream_builder.StreamBuilder.extend.Goals.{then-self, else-self}
-use Rattle.generate.proofs.stream_builder.StreamBuilder.extend.Goals as goal
+use Rattle.generate.proofs.stream_builder.ListBuilder.extend.Goals.{then-self, else-self}
+use Rattle.generate.proofs.stream_builder.ListBuilder.extend.Goals as goal
 
 pub returns-else-is_marked : goal.returns-else-is_marked
 returns-else-is_marked c = elim c.if-self.branch [
