@@ -13,6 +13,7 @@ fn main() {
     let n = io::read_full(STDIN, &mut list);
     let mut roles = [0; ROLES];
     let mut out = [0; OUTPUT];
+    prove!(list.len() == 65537 && roles.len() == 4096 && out.len() == 426048);
     let k = report_explanation(&list[..n], &mut roles, &mut out);
     io::write_all(STDOUT, &out[..k]);
 }

@@ -29,6 +29,7 @@ fn gather<R: Env>(
     at: Gathered,
 ) -> Option<Gathered> {
     let mut argument = [0; ARGUMENT];
+    prove!(argument.len() == 257);
     match rt.arg(i, &mut argument) {
         Ok(n) => Some(add_argument(&argument[..n], lifetimes, types, at)),
         Err(FillError::TooLong) => Some(add_argument(b"", lifetimes, types, at)),
@@ -57,6 +58,7 @@ fn report(lifetimes: &[u8], types: &[u8])
     let mut list = [0; LIST];
     let n = io::read_full(STDIN, &mut list);
     let mut out = [0; OUTPUT];
+    prove!(list.len() == 65537 && out.len() == 237568);
     let k = report_impl_generics(&list[..n], lifetimes, types, &mut out);
     io::write_all(STDOUT, &out[..k]);
 }
@@ -64,6 +66,7 @@ fn report(lifetimes: &[u8], types: &[u8])
 fn main(rt: HostRuntime) {
     let mut lifetimes = [0; NAMES];
     let mut types = [0; NAMES];
+    prove!(lifetimes.len() == 4096 && types.len() == 4096);
     let at = gather_all(&rt, &mut lifetimes, &mut types);
     if NAMES < at.lifetimes {
         io::write_all(

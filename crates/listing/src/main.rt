@@ -11,6 +11,7 @@ fn main() {
     let mut list = [0; LIST];
     let n = io::read_full(STDIN, &mut list);
     let mut out = [0; OUTPUT];
+    prove!(list.len() == 65537 && out.len() == 176145);
     let k = report_listing(&list[..n], &mut out);
     io::write_all(STDOUT, &out[..k]);
 }

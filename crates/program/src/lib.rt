@@ -22,3 +22,6 @@ pub const ROLES: usize = MAX_ROWS;
 pub const MAX_TEXT: usize = 1048576;
 
 pub const TEXT: usize = MAX_TEXT + 1;
+
+// So many bytes, whatever these stand on.
+const _: () = prove!(LIST == 65537 && ROLES == 4096 && TEXT == 1048577);

@@ -100,6 +100,7 @@ fn is_roles(list: &[u8], text: &[u8]) -> bool
     ensures { result ≡ roles_fit text.now (answer list.now MAX_ROWS) }
 {
     let mut roles = [0; MAX_ROWS];
+    prove!(roles.len() == 4096);
     match read_roles(list, &mut roles) {
         Ok(n) => accepted_fits(text, &roles[..n], false),
         Err(r) => is_refusal(r, text),
@@ -111,6 +112,7 @@ fn is_every(list: &[u8], text: &[u8]) -> bool
     ensures { result ≡ every_fits text.now (answer list.now MAX_ROWS) }
 {
     let mut roles = [0; MAX_ROWS];
+    prove!(roles.len() == 4096);
     match read_roles(list, &mut roles) {
         Ok(n) => letters_fit(text, &roles[..n], true),
         Err(_) => false,
@@ -136,6 +138,7 @@ fn is_listing(list: &[u8], text: &[u8]) -> bool
     ensures { result ≡ written_fits text.now (listing.answer list.now OUTPUT) }
 {
     let mut out = [0; OUTPUT];
+    prove!(out.len() == 262144);
     let answer = write_listing(list, &mut out);
     is_written(answer, &out, text)
 }
@@ -157,6 +160,7 @@ fn is_generics(writer: Writer, list: &[u8], text: &[u8]) -> bool
     ensures { result ≡ written_fits text.now (writing.answer (writer_of writer) list.now OUTPUT) }
 {
     let mut out = [0; OUTPUT];
+    prove!(out.len() == 262144);
     let answer = write_generics(writer, list, &mut out);
     is_written(answer, &out, text)
 }
@@ -167,6 +171,7 @@ fn is_tagged(list: &[u8], text: &[u8]) -> bool
     ensures { result ≡ tagged_fits text.now (tagged.answer PREFIX list.now MAX_ROWS) }
 {
     let mut roles = [0; MAX_ROWS];
+    prove!(roles.len() == 4096);
     match parse_tagged_attribute(list, b"p", &mut roles) {
         Ok(Some(entries)) => accepted_fits(text, &roles[..entries.rows], true),
         Ok(None) => is(text, b"none\n"),

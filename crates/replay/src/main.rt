@@ -14,7 +14,7 @@ ghost use Rattle.replay.specs.Turn.{taken, list_after, compared, begun, sought, 
 
 use crate::answers::is_right;
 use crate::header::{Header, Section, Topic, read_header, topic_name};
-use crate::state::{Counts, START, State, counted, passed};
+use crate::state::{Counts, State, counted, passed, start};
 use crate::window::{Window, advanced, ready};
 use output::put::copy_bytes;
 use output::writer::Writer;
@@ -172,7 +172,7 @@ fn print_counts(counts: Counts) {
 
 // Turns to the end of the input, counted since nothing says that it ends.
 fn replay(buf: &mut [u8], list: &mut [u8]) {
-    let mut s = START;
+    let mut s = start();
     for _ in 0..u64::MAX {
         match step(buf, list, s) {
             Some(Turn::On(next)) => s = next,
@@ -196,5 +196,6 @@ const LIST: usize = 70000;
 fn main() {
     let mut buf = [0; BUFFER];
     let mut list = [0; LIST];
+    prove!(buf.len() == 262144 && list.len() == 70000);
     replay(&mut buf, &mut list);
 }

@@ -1,6 +1,6 @@
 // What is kept from section to section.
 ghost use Rattle.std.specs.Prelude.{◌≡◌, ◌≤◌};
-ghost use Rattle.replay.specs.State.{differing, counted, passed};
+ghost use Rattle.replay.specs.State.{START, differing, counted, passed};
 
 use crate::header::Topic;
 use crate::window::{Window, advanced};
@@ -30,21 +30,25 @@ pub struct State {
 }
 
 // Nothing is read, and nothing counted.
-pub const START: State = State {
-    at: Window { from: 0, to: 0 },
-    skip: 0,
-    list: 0,
-    cases: 0,
-    counts: Counts {
-        checks: 0,
-        roles: 0,
-        everys: 0,
-        listings: 0,
-        taggeds: 0,
-        generics: 0,
-        differences: 0,
-    },
-};
+pub fn start() -> State
+    ensures { result ≡ START }
+{
+    State {
+        at: Window { from: 0, to: 0 },
+        skip: 0,
+        list: 0,
+        cases: 0,
+        counts: Counts {
+            checks: 0,
+            roles: 0,
+            everys: 0,
+            listings: 0,
+            taggeds: 0,
+            generics: 0,
+            differences: 0,
+        },
+    }
+}
 
 // One more where an answer is not right.
 fn count_wrong(n: usize, right: bool) -> usize

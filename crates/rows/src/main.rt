@@ -8,6 +8,7 @@ fn main() {
     let mut list = [0; LIST];
     let n = io::read_full(STDIN, &mut list);
     let mut out = [0; 64];
+    prove!(list.len() == 65537);
     let k = report_check(&list[..n], &mut out);
     io::write_all(STDOUT, &out[..k]);
 }

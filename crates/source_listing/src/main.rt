@@ -20,6 +20,7 @@ fn main() {
         return;
     }
     let mut out = [0; OUTPUT];
+    prove!(text.len() == 1048577 && out.len() == 176145);
     let k = report_listing(&text[..n], &mut out);
     io::write_all(STDOUT, &out[..k]);
 }

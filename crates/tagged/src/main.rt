@@ -18,12 +18,14 @@ fn report(prefix: &[u8]) {
     let n = io::read_full(STDIN, &mut list);
     let mut roles = [0; ROLES];
     let mut out = [0; OUTPUT];
+    prove!(list.len() == 65537 && roles.len() == 4096 && out.len() == 110608);
     let k = report_tagged(&list[..n], prefix, &mut roles, &mut out);
     io::write_all(STDOUT, &out[..k]);
 }
 
 fn main(rt: HostRuntime) {
     let mut prefix = [0; PREFIX];
+    prove!(prefix.len() == 256);
     let n = match rt.arg(1, &mut prefix) {
         Ok(n) => n,
         Err(FillError::TooLong) => 0,

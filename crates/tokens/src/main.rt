@@ -20,6 +20,7 @@ fn main() {
         return;
     }
     let mut out = [0; OUTPUT];
+    prove!(text.len() == 1048577 && out.len() == 65536);
     let k = report_tokens(&text[..n], &mut out);
     io::write_all(STDOUT, &out[..k]);
 }

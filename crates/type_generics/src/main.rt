@@ -12,6 +12,7 @@ fn main() {
     let mut list = [0; LIST];
     let n = io::read_full(STDIN, &mut list);
     let mut out = [0; OUTPUT];
+    prove!(list.len() == 65537 && out.len() == 114688);
     let k = report_type_generics(&list[..n], &mut out);
     io::write_all(STDOUT, &out[..k]);
 }
