@@ -20,8 +20,8 @@
  * A call needs no more than KUSTHRILA_STACK bytes of stack, but kusthrila_listing up to KUSTHRILA_LISTING_STACK: it keeps
  * tables of all variants, to tell whether one is there twice; kusthrila_tokens up to KUSTHRILA_TOKENS_STACK: it keeps the
  * kinds of the open brackets; and kusthrila_read_source up to KUSTHRILA_READ_SOURCE_STACK: it keeps a list too.
- * Measured on x86-64 were some 4,900 in kusthrila_check, 5,100 in kusthrila_tagged and kusthrila_read, 5,400 in the writers of
- * generics, 9,400 in kusthrila_value, 17,100 in kusthrila_tokens, 75,200 in kusthrila_listing and 84,100 in
+ * Measured on x86-64 were some 3,900 in kusthrila_check, 4,100 in kusthrila_tagged and kusthrila_read, 4,400 in the writers of
+ * generics, 8,400 in kusthrila_value, 17,100 in kusthrila_tokens, 74,000 in kusthrila_listing and 83,700 in
  * kusthrila_read_source; the rest is margin. bindings/c/stack.c measures it, and test.sh does so each time. */
 #ifndef KUSTHRILA_H
 #define KUSTHRILA_H
