@@ -6,19 +6,18 @@ use Prim.Native.Nat.{ℕ, zero, suc, ◌+◌, ◌-◌, ◌*◌, ◌≤◌, ◌<�
 use native.Mathlib.Omega.{arith}
 use borrow.Author.Tests.{le-leb, leb-true}
 use lib.Dec.{eqb, ltb, leb}
-use lib.Pointwise.{pointwise}
 use lib.ListN.{length, get_or, take, drop, length-take, length-drop}
 use Rattle.std.specs.List.{AllWithin}
 use Rattle.token_list.specs.Text.{all, same, between, digit}
 use Rattle.token_list.proofs.Texts.{and_both, and_parts}
 use Rattle.reading.specs.Token.{worth, worth_from, negatable}
-use Rattle.token_list.proofs.Texts.{same_pointwise}
+use Rattle.token_list.proofs.Texts.{same_path}
 use Rattle.replay.specs.Header.{LIST, topic_name, run, lower, section_named, ended, sized, named, header}
 use Rattle.replay.specs.declared.header.Topic.{Topic}
 use Rattle.replay.specs.declared.header.Topic.TheVariants.{Check, Roles, Every, Listing, Tagged, Generics}
 use Rattle.replay.specs.declared.header.Writer.TheVariants as writers
 use Rattle.replay.specs.declared.header.Section.{Section}
-use Rattle.replay.specs.declared.header.Section.TheVariants.{Other}
+use Rattle.replay.specs.declared.header.Section.TheVariants.{Answer, Other}
 use Rattle.replay.specs.declared.header.Header.{Header}
 use Rattle.std.specs.Prelude.{Option, Some, None}
 use Rattle.std.proofs.lemmas.List.Sums.{prefix_len-le-length}
@@ -119,13 +118,26 @@ TOPICS =
     Check ∷ Roles ∷ Every ∷ Listing ∷ Tagged ∷ Generics writers.Impl ∷ Generics writers.Type ∷
     Generics writers.Additional ∷ []
 
-pub other_named : (n : List ℕ) → false ≡ pointwise eqb n LIST
-    → AllWithin (λ t. pointwise eqb n (topic_name t) ≡ false) TOPICS 0 (length TOPICS) → Other ≡ section_named n
+own_name : (t : Topic) → section_named (topic_name t) ≡ Answer t
+own_name Check = refl
+own_name Roles = refl
+own_name Every = refl
+own_name Listing = refl
+own_name Tagged = refl
+own_name (Generics writers.Impl) = refl
+own_name (Generics writers.Type) = refl
+own_name (Generics writers.Additional) = refl
+
+pub topic_named : (n : List ℕ) (t : Topic) → same n (topic_name t) ≡ true → Answer t ≡ section_named n
+topic_named n t h = sym (own_name t) ∙ ap section_named (sym (same_path n (topic_name t) h))
+
+pub other_named : (n : List ℕ) → same n LIST ≡ false
+    → AllWithin (λ t. same n (topic_name t) ≡ false) TOPICS 0 (length TOPICS) → Other ≡ section_named n
 other_named n list none =
     let no : (k : ℕ) → k < 8 → same n (topic_name (get_or TOPICS k Check)) ≡ false =
-    λ k h. sym (same_pointwise n (topic_name (get_or TOPICS k Check))) ∙ none k Check (omega arith) h in
+    λ k h. none k Check (omega arith) h in
     rw (
-      sym (same_pointwise n LIST) ∙ sym list,
+      list,
       no 0 (omega arith),
       no 1 (omega arith),
       no 2 (omega arith),

@@ -24,13 +24,13 @@ use report::roles::read_roles;
 use tagged_attribute::utils::parse_tagged_attribute;
 use token_list::check::Refusal;
 use token_list::layout::MAX_ROWS;
-use token_list::text::is_one_of;
+use token_list::text::{compare, is_one_of};
 
 // Whether the text is another one.
 fn is(text: &[u8], other: &[u8]) -> bool
     ensures { result ≡ same text.now other.now }
 {
-    text == other
+    compare(text, other).same
 }
 
 // Whether the text is the report of the list check.

@@ -4,6 +4,7 @@ ghost use Rattle.token_list.specs.Text.{between};
 ghost use Rattle.replay.specs.Header.{run, topic_name, section_named, sized, header};
 
 use describe::value::worth;
+use token_list::text::compare;
 
 // A writer of generics.
 #[derive(Clone, Copy)]
@@ -72,10 +73,13 @@ pub fn topic_name(topic: Topic) -> &'static [u8]
 fn section_named(name: &[u8]) -> Section
     ensures { result ≡ section_named name.now }
 {
-    if name == b"list".as_slice() {
+    if compare(name, b"list").same {
         return Section::List;
     }
-    match TOPICS.iter().find(|topic| name == topic_name(**topic)) {
+    match TOPICS
+        .iter()
+        .find(|topic| compare(name, topic_name(**topic)).same)
+    {
         Some(topic) => Section::Answer(*topic),
         None => Section::Other,
     }

@@ -3,6 +3,8 @@ ghost use Rattle.std.specs.Prelude.{◌≡◌, ◌<◌, length};
 ghost use Rattle.token_list.specs.Layout.{NAMES_DIFFER, marked, first_row, text_offset};
 ghost use Rattle.token_list.specs.Check.{named};
 
+use crate::text::text_is;
+
 // The first byte in which the two lines of names differ.
 const NAMES_DIFFER: usize = 5;
 
@@ -53,10 +55,11 @@ pub const SHORT_MARKED_ROW: usize = 6;
 pub fn has_names(s: &[u8]) -> bool
     ensures { result ≡ named s.now }
 {
+    let end = first_row(s);
     if is_marked(s) {
-        s.starts_with(b"kind joint text\n")
+        text_is(s, 0, end, b"kind joint text\n")
     } else {
-        s.starts_with(b"kind text\n")
+        text_is(s, 0, end, b"kind text\n")
     }
 }
 
