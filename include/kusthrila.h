@@ -14,7 +14,7 @@
  * KUSTHRILA_END. Row n is line n + 2 of the list. README.md says where each refusal's place is, and which comes first. Only
  * kusthrila_same_name and kusthrila_row_place refuse nothing, and their numbers are told with them.
  *
- * Nothing is allocated and nothing global is kept: the library has no data but constants, and calls only memset and its like. So
+ * Nothing is allocated and nothing global is kept: the library has no data but constants, and calls only memset. So
  * calls from several threads are independent, as long as none writes a buffer that another uses.
  *
  * A call needs no more than KUSTHRILA_STACK bytes of stack, but kusthrila_listing up to KUSTHRILA_LISTING_STACK: it keeps
